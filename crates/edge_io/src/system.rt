@@ -1,0 +1,121 @@
+ghost use Rattle.std.specs.Prelude.{◌≡◌, [], None, Some, IfSome};
+ghost use Rattle.edge_io.specs.Told.{Tells};
+
+use crate::{Fetch, Fetched, Library, Sink, SinkFail};
+use std::fs;
+use std::io::Read;
+use std::marker::Model;
+use std::rt::Files;
+
+/// The files of the system, by their paths. Of their bytes it tells nothing; contracts see it as its count of faults.
+#[derive(Drop)]
+pub struct StdLibrary<'a, R: Files> {
+    rt: &'a R,
+    faults: u64,
+}
+
+impl<'a, R: Files> Model for StdLibrary<'a, R> {
+    ghost use Rattle.std.specs.Prelude.{ℕ};
+
+    ghost Value = { ℕ };
+
+    ghost view = { λ library. library.faults };
+}
+
+impl<'a, R: Files> StdLibrary<'a, R> {
+    /// The files that the runtime reaches. No fetch has failed yet.
+    pub fn new(rt: &'a R) -> Self
+        ensures { result ≡ 0 }
+    {
+        StdLibrary { rt, faults: 0 }
+    }
+}
+
+impl<R: Files> Library for StdLibrary<'_, R> {
+    ghost told = { λ _. None };
+
+    ghost faults = { λ faults. faults };
+
+    ghost sound = { λ _. ⊥ };
+
+    fn fetch(&mut self, path: &str, limit: usize, into: &mut Vec<u8>) -> Result<Fetched, Fetch> {
+        let Ok(mut file) = fs::open(self.rt, path) else {
+            self.faults = self.faults.saturating_add(1);
+            return Err(Fetch::Failed);
+        };
+        let answer = read_up_to(&mut file, limit, into);
+        if answer != Ok(Fetched::Whole) {
+            into.clear();
+        }
+        if answer == Err(Fetch::Failed) {
+            self.faults = self.faults.saturating_add(1);
+        }
+        answer
+    }
+}
+
+/// Reads to the end, or until more than `limit` bytes have come, and says which. Each turn takes at least a byte.
+fn read_up_to<F: Read>(file: &mut F, limit: usize, into: &mut Vec<u8>) -> Result<Fetched, Fetch>
+    requires { into.old.items ≡ [] }
+    ensures { IfSome (F.remaining file.old) (λ left. Tells (Some left) limit result into.new.items) }
+{
+    let mut room = limit;
+    let mut buf = [0u8; 4096];
+    loop {
+        let Ok(count) = file.read(&mut buf) else {
+            return Err(Fetch::Failed);
+        };
+        if count == 0 {
+            return Ok(Fetched::Whole);
+        }
+        if count > room {
+            return Ok(Fetched::PastLimit);
+        }
+        room -= count;
+        if into.extend_from_slice(&buf[..count]).is_err() {
+            return Err(Fetch::Memory);
+        }
+    }
+}
+
+/// Standard output. Of its bytes it tells nothing; contracts see it as its count of faults.
+#[derive(Drop)]
+pub struct StdSink<'a, R: Print> {
+    rt: &'a R,
+    faults: u64,
+}
+
+impl<'a, R: Print> Model for StdSink<'a, R> {
+    ghost use Rattle.std.specs.Prelude.{ℕ};
+
+    ghost Value = { ℕ };
+
+    ghost view = { λ sink. sink.faults };
+}
+
+impl<'a, R: Print> StdSink<'a, R> {
+    /// The output of the runtime. No write has failed yet.
+    pub fn new(rt: &'a R) -> Self
+        ensures { result ≡ 0 }
+    {
+        StdSink { rt, faults: 0 }
+    }
+}
+
+impl<R: Print> Sink for StdSink<'_, R> {
+    ghost written = { λ _. None };
+
+    ghost faults = { λ faults. faults };
+
+    ghost sound = { λ _. ⊥ };
+
+    fn write(&mut self, piece: &[u8]) -> Result<usize, SinkFail> {
+        match self.rt.write_some(piece) {
+            Ok(count) if count > 0 || piece.is_empty() => Ok(count),
+            _ => {
+                self.faults = self.faults.saturating_add(1);
+                Err(SinkFail::Failed)
+            }
+        }
+    }
+}

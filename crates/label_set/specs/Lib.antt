@@ -1,0 +1,4 @@
+pub mod LabelEquality
+pub mod LabelOrder
+pub mod LabelText
+pub mod Labels

@@ -1,0 +1,14 @@
+//! Labels, which name a series: distinct pairs of a name and a value, in byte order of the names. With them the data
+//! types that speak of labels: rules, groupings, pairings and changes of labels.
+#![tactic(auto)]
+
+mod label_text;
+mod labels;
+mod rules;
+
+pub use holders::{Boxed, Items, Memory, Text};
+pub use labels::{LabelRefusal, Labels, METRIC_NAME};
+pub use rules::{Card, Grouping, Pairing, PatternId, Relabel, Rule, RuleKind};
+
+#[cfg(test)]
+mod tests;

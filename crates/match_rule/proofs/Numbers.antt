@@ -1,0 +1,72 @@
+-- Where a pattern is among the kept ones.
+use Rattle.std.proofs.Common.{◌≡◌, ℕ, ◌<◌, ◌≤◌, ◌+◌, suc, zero, length-append, Bool, true, false, not, cond, List, [], ◌∷◌, ◌++◌, length, get_or, drop, map, Some, slice_get, refl, sym, ap, ◌∙◌, arith, ◌&&◌, bytes_eq}
+use Rattle.std.proofs.lemmas.List.{at_drop_all, at_drop_more, length-map}
+use Rattle.std.proofs.lemmas.Slice.Eq.{bytes_eq-Decides}
+use Rattle.match_rule.specs.declared.patterns.Kept.{Kept}
+use Rattle.match_rule.specs.Patterns.{is_pattern, number_of}
+
+abbrev pub pattern_of : Kept → Bool × List ℕ
+pattern_of k = (k.whole, k.text)
+
+module _ (q : Bool × List ℕ) (ks : List Kept) (i : ℕ) where
+  pub hit : (x : Kept) → i < length ks → x ≡ get_or ks i x → is_pattern q (pattern_of x) ≡ true → number_of q (map pattern_of (drop i ks)) ≡ 0
+  hit x w here e =
+      at_drop_more (λ xs. number_of q (map pattern_of xs)) ks i x w
+      ∙ ap (λ y. number_of q (map pattern_of (y ∷ drop (i + 1) ks))) (sym here) ∙ rw e refl
+
+  pub miss : (x : Kept) → i < length ks → x ≡ get_or ks i x → is_pattern q (pattern_of x) ≡ false → number_of q (map pattern_of (drop i ks)) ≡ 1 + number_of q (map pattern_of (drop (i + 1) ks))
+  miss x w here e =
+      at_drop_more (λ xs. number_of q (map pattern_of xs)) ks i x w
+      ∙ ap (λ y. number_of q (map pattern_of (y ∷ drop (i + 1) ks))) (sym here) ∙ rw e refl
+
+  pub none_left : length ks ≤ i → number_of q (map pattern_of (drop i ks)) ≡ 0
+  none_left w = at_drop_all (λ xs. number_of q (map pattern_of xs)) ks i w
+
+same_flag : (a b : Bool) → cond a b (not b) ≡ true → b ≡ a
+same_flag true b e = e
+same_flag false true e = sym e
+same_flag false false e = refl
+
+both_true : (a b : Bool) → (a && b) ≡ true → (a ≡ true) × (b ≡ true)
+both_true true b e = (refl, e)
+both_true false b e = absurd (cc)
+
+-- what passes the test is the pattern
+pub is_pattern_same : (q p : Bool × List ℕ) → is_pattern q p ≡ true → p ≡ q
+is_pattern_same q p e =
+    let b = both_true (cond q.0 p.0 (not p.0)) (bytes_eq q.1 p.1) e in
+    let flag : p.0 ≡ q.0 = same_flag q.0 p.0 b.0 in
+    let text : q.1 ≡ p.1 = (bytes_eq-Decides q.1 p.1).0 b.1 in
+    λ k. (flag k, sym text k)
+
+pub number_there : (q : Bool × List ℕ) (ps : List (Bool × List ℕ)) → number_of q ps < length ps → slice_get ps (number_of q ps) ≡ Some q
+number_there q [] w = absurd (omega arith)
+number_there q (p ∷ ps) w = go (is_pattern q p) refl (number_there q ps) w
+  where
+    go : (b : Bool) → is_pattern q p ≡ b → (number_of q ps < length ps → slice_get ps (number_of q ps) ≡ Some q) → cond (not b) (1 + number_of q ps) 0 < suc (length ps) → slice_get (p ∷ ps) (cond (not b) (1 + number_of q ps) 0) ≡ Some q
+    go true e rest w = ap Some (is_pattern_same q p e)
+    go false e rest w = let one : 1 + number_of q ps ≡ suc (number_of q ps) = omega arith in rw one (rest (omega arith))
+
+pub number_at_most : (q : Bool × List ℕ) (ps : List (Bool × List ℕ)) → number_of q ps ≤ length ps
+number_at_most q [] = omega arith
+number_at_most q (p ∷ ps) = let h = number_at_most q ps in elim (is_pattern q p) as (λ b. cond (not b) (1 + number_of q ps) 0 ≤ suc (length ps)) [ true ↦ omega arith | false ↦ omega arith ]
+
+module _ (q : Bool × List ℕ) (ks : List Kept) where
+  pub there_among : number_of q (map pattern_of ks) < length ks → slice_get (map pattern_of ks) (number_of q (map pattern_of ks)) ≡ Some q
+  there_among w = number_there q (map pattern_of ks) (let e = length-map ks pattern_of in omega arith)
+
+  pub among_at_most : number_of q (map pattern_of ks) ≤ length ks
+  among_at_most = let e = length-map ks pattern_of in let h = number_at_most q (map pattern_of ks) in omega arith
+
+-- the last of the kept ones
+pub last_kept : (q : Bool × List ℕ) (ks : List Kept) (k : Kept) → pattern_of k ≡ q → slice_get (map pattern_of (ks ++ k ∷ [])) (length ks) ≡ Some q
+last_kept q [] k e = ap Some e
+last_kept q (y ∷ ks) k e = last_kept q ks k e
+
+pub last_within : (ks : List Kept) (k : Kept) → length ks < length (map pattern_of (ks ++ k ∷ []))
+last_within ks k = let e = length-map (ks ++ k ∷ []) pattern_of in let f = length-append ks (k ∷ []) in omega arith
+
+pub earlier_kept : (ks : List Kept) (k : Kept) (i : ℕ) → i < length (map pattern_of ks) → slice_get (map pattern_of (ks ++ k ∷ [])) i ≡ slice_get (map pattern_of ks) i
+earlier_kept [] k i w = absurd (omega arith)
+earlier_kept (y ∷ ks) k zero w = refl
+earlier_kept (y ∷ ks) k (suc i) w = earlier_kept ks k i (omega arith)

@@ -1,0 +1,332 @@
+ghost use Rattle.match_rule.specs.Patterns.{IsFinder, IsRefused, IsWholeId, MayRefuse, first_locations, group_spans, groups_at, pattern_groups, plain_passes, is_kept, is_pattern, is_plain, number_of, passes_at, pattern_passes, regex_text, with_pattern};
+ghost use Rattle.std.specs.Option.{option_map};
+ghost use Rattle.std.specs.Prelude.{◌≡◌, ◌<◌, ◌≤◌, ℕ, true, false, [], ◌∷◌, None, Some, Err, if◌then◌else◌, MatchOption, length, is_none, is_some, map, slice_get, string_bytes, IfOk, IfErr, OnOk, OnErr, IsOk};
+ghost use Rattle.regex.specs.Patterns.{find_str};
+ghost use Rattle.regex.specs.Strings.{regex_names, regex_pattern};
+ghost use Rattle.std.specs.Option.{ForSome};
+
+use crate::plain::{is_plain, plain_passes};
+use crate::spans::Spans;
+use label_set::{PatternId, Text};
+use regex::{CaptureLocations, Regex};
+use std::alloc::{AllocError, AllocFailed, Global};
+use std::marker::Model;
+use thiserror::Error;
+
+/// The most patterns that are kept.
+const MOST_PATTERNS: usize = 32;
+
+/// Why a pattern was not kept.
+#[derive(Clone, Copy, Debug, PartialEq, Eq, Error)]
+pub enum PatternRefusal {
+    /// The text is no regular expression that can be built.
+    #[error("not a pattern")]
+    BadPattern = 1,
+    /// There would be more than 32 patterns.
+    #[error("more than 32 patterns")]
+    TooManyPatterns = 2,
+    /// Memory ran out.
+    #[error("out of memory")]
+    Memory,
+}
+
+impl From<AllocError> for PatternRefusal {
+    ghost use Rattle.match_rule.specs.declared.patterns.PatternRefusal.TheVariants.{Memory};
+    ghost use Rattle.std.specs.Prelude.{◌≡◌};
+
+    ghost from_gives = { λ _ e. e ≡ Memory };
+
+    fn from(_: AllocError) -> PatternRefusal {
+        PatternRefusal::Memory
+    }
+}
+
+impl<T: Drop> From<AllocFailed<T>> for PatternRefusal {
+    ghost use Rattle.match_rule.specs.declared.patterns.PatternRefusal.TheVariants.{Memory};
+    ghost use Rattle.std.specs.Prelude.{◌≡◌};
+
+    ghost from_gives = { λ _ e. e ≡ Memory };
+
+    fn from(_: AllocFailed<T>) -> PatternRefusal {
+        PatternRefusal::Memory
+    }
+}
+
+/// A pattern: its text, whether it has to match the whole value, and, where the text isn't plain, what it was built to.
+#[derive(Drop)]
+struct Kept {
+    whole: bool,
+    text: Text,
+    regex: Option<Regex>,
+    ghost is_plain: { is_none regex ≡ is_plain text },
+    ghost is_finder: { ForSome regex (λ r. IsFinder r (regex_text whole text)) },
+}
+
+/// Patterns under numbers from 0 on, each built once. Contracts see the list of them, each with the flag whether it has
+/// to match a whole value, and its text. They are never taken out, so that a number keeps its meaning.
+#[derive(Drop)]
+pub struct Patterns {
+    kept: Vec<Kept>,
+}
+
+impl Model for Patterns {
+    ghost use Rattle.std.specs.Prelude.{◌≤◌, ℕ, Bool, List, length, map};
+
+    ghost Value = { List (Bool × List ℕ) };
+
+    ghost view = { λ p. map (λ k. (k.whole, k.text)) p.kept.items };
+
+    ghost invariant = { λ p. length p.kept.items ≤ 32 };
+}
+
+impl Patterns {
+    /// No patterns. It takes no memory.
+    pub fn new(alloc: Global) -> Patterns
+        ensures { result ≡ [] }
+    {
+        Patterns {
+            kept: Vec::new(alloc),
+        }
+    }
+
+    /// The text under a number, as it was given.
+    pub fn text(&self, id: PatternId) -> &str
+        requires { id.0 < length self.now }
+        ensures { option_map (λ p. p.1) (slice_get self.now id.0) ≡ Some result.now }
+    {
+        self.kept[id.0 as usize].text.as_str()
+    }
+
+    /// Keeps a pattern that has to match the whole value, and answers its number; an equal one is kept once. It refuses
+    /// with BadPattern a text that isn't plain and that `regex` refuses, and with TooManyPatterns a 33rd pattern. After an
+    /// error the patterns are as they were.
+    pub fn whole(&mut self, text: &str) -> Result<PatternId, PatternRefusal>
+        ensures number { IfOk result (λ id. id.0 ≡ number_of (true, text.now) self.old) }
+        ensures there { IfOk result (λ id. slice_get self.new id.0 ≡ Some (true, text.now)) }
+        ensures ok { OnOk result (self.new ≡ with_pattern (true, text.now) self.old) }
+        ensures err { OnErr result (self.new ≡ self.old) }
+        ensures refused { IfErr result (MayRefuse ((is_plain text.now ≡ false) × IsRefused (regex_text true text.now)) ((is_kept (true, text.now) self.old ≡ false) × (length self.old ≡ 32))) }
+        ensures within { IfOk result (λ id. id.0 < length self.new) }
+        ensures earlier { (k : ℕ) → k < length self.old → slice_get self.new k ≡ slice_get self.old k }
+        ensures more { length self.old ≤ length self.new }
+        ensures most { length self.new ≤ 32 }
+    {
+        self.keep(true, text)
+    }
+
+    /// The same for a pattern that is enough in a part of the value.
+    pub fn search(&mut self, text: &str) -> Result<PatternId, PatternRefusal>
+        ensures number { IfOk result (λ id. id.0 ≡ number_of (false, text.now) self.old) }
+        ensures there { IfOk result (λ id. slice_get self.new id.0 ≡ Some (false, text.now)) }
+        ensures ok { OnOk result (self.new ≡ with_pattern (false, text.now) self.old) }
+        ensures err { OnErr result (self.new ≡ self.old) }
+        ensures refused { IfErr result (MayRefuse ((is_plain text.now ≡ false) × IsRefused (regex_text false text.now)) ((is_kept (false, text.now) self.old ≡ false) × (length self.old ≡ 32))) }
+        ensures within { IfOk result (λ id. id.0 < length self.new) }
+        ensures earlier { (k : ℕ) → k < length self.old → slice_get self.new k ≡ slice_get self.old k }
+        ensures more { length self.old ≤ length self.new }
+        ensures most { length self.new ≤ 32 }
+    {
+        self.keep(false, text)
+    }
+
+    fn keep(&mut self, whole: bool, text: &str) -> Result<PatternId, PatternRefusal>
+        ensures number { IfOk result (λ id. id.0 ≡ number_of (whole, text.now) self.old) }
+        ensures there { IfOk result (λ id. slice_get self.new id.0 ≡ Some (whole, text.now)) }
+        ensures ok { OnOk result (self.new ≡ with_pattern (whole, text.now) self.old) }
+        ensures err { OnErr result (self.new ≡ self.old) }
+        ensures refused { IfErr result (MayRefuse ((is_plain text.now ≡ false) × IsRefused (regex_text whole text.now)) ((is_kept (whole, text.now) self.old ≡ false) × (length self.old ≡ 32))) }
+        ensures within { IfOk result (λ id. id.0 < length self.new) }
+        ensures earlier { (k : ℕ) → k < length self.old → slice_get self.new k ≡ slice_get self.old k }
+        ensures more { length self.old ≤ length self.new }
+        ensures most { length self.new ≤ 32 }
+    {
+        let place = number_of(self.kept.as_slice(), whole, text);
+        if place < self.kept.len() {
+            return Ok(PatternId(place as u32));
+        }
+        let kept = build(*self.kept.allocator(), whole, text)?;
+        if self.kept.len() >= MOST_PATTERNS {
+            return Err(PatternRefusal::TooManyPatterns);
+        }
+        self.kept.push(kept)?;
+        Ok(PatternId(place as u32))
+    }
+
+    /// Whether the pattern under a number passes a value. The only error is want of memory, and a plain text takes none.
+    pub fn matches(&mut self, id: PatternId, value: &str) -> Result<bool, AllocError>
+        requires { id.0 < length self.old }
+        ensures answer { IfOk result (λ b. b ≡ passes_at self.old id.0 value.now) }
+        ensures plain { option_map (λ p. is_plain p.1) (slice_get self.old id.0) ≡ Some true → IsOk result }
+        ensures same { self.new ≡ self.old }
+    {
+        let alloc = *self.kept.allocator();
+        test(alloc, &self.kept[id.0 as usize], value)
+    }
+
+    /// Whether the pattern under a number passes a value, and what its groups span there: group 0, the whole value, first.
+    /// Where it doesn't pass there are no spans. The pattern must be one of `whole`; a plain text has group 0 alone. The
+    /// only error is want of memory; then the spans are as they were.
+    pub fn groups(
+        &mut self,
+        id: PatternId,
+        value: &str,
+        into: &mut Spans,
+    ) -> Result<bool, AllocError>
+        requires { IsWholeId self.old id.0 }
+        ensures answer { IfOk result (λ b. MatchOption (groups_at self.old id.0 value.now) ((b ≡ false) × (into.new ≡ [])) (λ spans. (b ≡ true) × (into.new ≡ spans))) }
+        ensures err { OnErr result (into.new ≡ into.old) }
+        ensures same { self.new ≡ self.old }
+    {
+        let alloc = *self.kept.allocator();
+        match pattern_spans(alloc, &self.kept[id.0 as usize], value)? {
+            Some(spans) => {
+                into.replace(spans);
+                Ok(true)
+            }
+            None => {
+                into.replace(Vec::new(alloc));
+                Ok(false)
+            }
+        }
+    }
+}
+
+/// Whether a pattern passes a value. The only error is want of memory, and a plain text takes none.
+fn test(alloc: Global, kept: &Kept, value: &str) -> Result<bool, AllocError>
+    ensures answer { IfOk result (λ b. b ≡ pattern_passes (kept.now.whole, kept.now.text) value.now) }
+    ensures plain { is_plain kept.now.text ≡ true → IsOk result }
+{
+    match &kept.regex {
+        None => Ok(plain_passes(kept.whole, kept.text.as_str(), value)),
+        Some(regex) => regex_finds(alloc, regex, value),
+    }
+}
+
+/// What the groups of a pattern span in a value that it passes. The only error is want of memory.
+fn pattern_spans(
+    alloc: Global,
+    kept: &Kept,
+    value: &str,
+) -> Result<Option<Vec<Option<(usize, usize)>>>, AllocError>
+    requires { kept.now.whole ≡ true }
+    ensures { IfOk result (λ o. option_map (λ v. v.items) o ≡ pattern_groups kept.now.text value.now) }
+{
+    match &kept.regex {
+        None => plain_spans(alloc, kept.text.as_str(), value),
+        Some(regex) => regex_spans(alloc, regex, value),
+    }
+}
+
+fn plain_spans(
+    alloc: Global,
+    text: &str,
+    value: &str,
+) -> Result<Option<Vec<Option<(usize, usize)>>>, AllocError>
+    ensures { IfOk result (λ o. option_map (λ v. v.items) o ≡ (if plain_passes true text.now value.now then Some (Some (0, length value.now) ∷ []) else None)) }
+{
+    if !plain_passes(true, text, value) {
+        return Ok(None);
+    }
+    let mut spans = Vec::new(alloc);
+    spans.push(Some((0, value.len())))?;
+    Ok(Some(spans))
+}
+
+fn regex_spans(
+    alloc: Global,
+    regex: &Regex,
+    value: &str,
+) -> Result<Option<Vec<Option<(usize, usize)>>>, AllocError>
+    ensures { IfOk result (λ o. option_map (λ v. v.items) o ≡ option_map (group_spans (length (regex_names regex.now))) (find_str (regex_pattern regex.now) value.now 0)) }
+{
+    let mut matcher = regex.matcher(alloc)?;
+    let mut locations = regex.capture_locations(alloc)?;
+    match matcher.captures_read(&mut locations, value) {
+        None => Ok(None),
+        Some(_) => Ok(Some(copied(alloc, &locations, regex.captures_len())?)),
+    }
+}
+
+fn copied(
+    alloc: Global,
+    locations: &CaptureLocations,
+    count: usize,
+) -> Result<Vec<Option<(usize, usize)>>, AllocError>
+    ensures { IfOk result (λ v. v.items ≡ first_locations locations.now count) }
+{
+    let mut spans = Vec::new(alloc);
+    for i in 0..count {
+        spans.push(locations.get(i))?;
+    }
+    Ok(spans)
+}
+
+/// The number of a pattern among the kept ones, or how many they are where it is none of them.
+fn number_of(kept: &[Kept], whole: bool, text: &str) -> usize
+    ensures { result ≡ number_of (whole, text.now) (map (λ k. (k.whole, k.text)) kept.now) }
+{
+    for (place, pattern) in kept.iter().enumerate() {
+        if is_pattern(pattern, whole, text) {
+            return place;
+        }
+    }
+    kept.len()
+}
+
+fn is_pattern(kept: &Kept, whole: bool, text: &str) -> bool
+    ensures { result ≡ is_pattern (whole, text.now) (kept.now.whole, kept.now.text) }
+{
+    let same_form = if whole { kept.whole } else { !kept.whole };
+    same_form && text == kept.text.as_str()
+}
+
+/// Builds a pattern; a plain text is kept as it stands.
+fn build(alloc: Global, whole: bool, text: &str) -> Result<Kept, PatternRefusal>
+    ensures kept { IfOk result (λ k. (k.whole ≡ whole) × (k.text ≡ text.now)) }
+    ensures refused { IfErr result (MayRefuse ((is_plain text.now ≡ false) × IsRefused (regex_text whole text.now)) ⊥) }
+{
+    let regex = if is_plain(text) {
+        None
+    } else {
+        Some(compile(alloc, whole, text)?)
+    };
+    let text = Text::of(alloc, text)?;
+    Ok(Kept { whole, text, regex })
+}
+
+/// Has `regex` build a pattern, wrapped where it has to match the whole value.
+fn compile(alloc: Global, whole: bool, text: &str) -> Result<Regex, PatternRefusal>
+    ensures finder { IfOk result (λ r. IsFinder r (regex_text whole text.now)) }
+    ensures refused { IfErr result (MayRefuse (IsRefused (regex_text whole text.now)) ⊥) }
+{
+    if !whole {
+        return compile_text(alloc, text);
+    }
+    let wrapped = wrapped(alloc, text)?;
+    compile_text(alloc, wrapped.as_str())
+}
+
+fn wrapped(alloc: Global, text: &str) -> Result<String, AllocError>
+    ensures { IfOk result (λ t. string_bytes t ≡ regex_text true text.now) }
+{
+    format!(in alloc; "^(?s:{text})$")
+}
+
+fn compile_text(alloc: Global, text: &str) -> Result<Regex, PatternRefusal>
+    ensures finder { IfOk result (λ r. IsFinder r text.now) }
+    ensures refused { IfErr result (MayRefuse (IsRefused text.now) ⊥) }
+{
+    match Regex::new(alloc, text) {
+        Ok(regex) => Ok(regex),
+        Err(regex::Error::OutOfMemory) => Err(PatternRefusal::Memory),
+        Err(_) => Err(PatternRefusal::BadPattern),
+    }
+}
+
+/// Whether a built pattern is found in a value. The only error is want of memory.
+fn regex_finds(alloc: Global, regex: &Regex, value: &str) -> Result<bool, AllocError>
+    ensures { IfOk result (λ b. b ≡ is_some (find_str (regex_pattern regex.now) value.now 0)) }
+{
+    let mut matcher = regex.matcher(alloc)?;
+    Ok(matcher.is_match(value))
+}

@@ -1,0 +1,67 @@
+ghost use Rattle.match_rule.specs.Patterns.{begins_with, is_plain, is_special, plain_passes, stands_in, words};
+ghost use Rattle.std.specs.List.{list_any};
+ghost use Rattle.std.specs.Prelude.{◌≡◌, not, bytes_eq, if◌then◌else◌};
+
+/// The characters of which a plain text has none.
+const SPECIAL: &[u8] = b"\\.+*?()[]{}^$";
+
+/// Whether a text is plain: a list of words that `|` parts.
+pub fn is_plain(text: &str) -> bool
+    ensures { result ≡ is_plain text.now }
+{
+    for byte in text.as_bytes() {
+        if SPECIAL.contains(byte) {
+            return false;
+        }
+    }
+    true
+}
+
+/// Whether a plain text passes a value: the value is one of its words or, where `whole` is false, has one of them in it.
+pub fn plain_passes(whole: bool, text: &str, value: &str) -> bool
+    ensures { result ≡ plain_passes whole text.now value.now }
+{
+    text.split('|').any(|word| word_passes(whole, word, value))
+}
+
+fn word_passes(whole: bool, word: &str, value: &str) -> bool
+    ensures { result ≡ (if whole then bytes_eq word.now value.now else stands_in word.now value.now) }
+{
+    if whole {
+        word == value
+    } else {
+        stands_in(word.as_bytes(), value.as_bytes())
+    }
+}
+
+/// Whether a word stands in a text.
+fn stands_in(word: &[u8], text: &[u8]) -> bool
+    ensures { result ≡ stands_in word.now text.now }
+{
+    let mut rest = text;
+    while let [_, tail @ ..] = rest {
+        if begins_with(word, rest) {
+            return true;
+        }
+        rest = tail;
+    }
+    begins_with(word, rest)
+}
+
+/// Whether a text begins with a word.
+fn begins_with(word: &[u8], text: &[u8]) -> bool
+    ensures { result ≡ begins_with word.now text.now }
+{
+    let mut left = word;
+    let mut rest = text;
+    while let [first, left_tail @ ..] = left {
+        match rest {
+            [other, rest_tail @ ..] if first == other => {
+                left = left_tail;
+                rest = rest_tail;
+            }
+            _ => return false,
+        }
+    }
+    true
+}

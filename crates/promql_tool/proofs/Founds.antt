@@ -1,0 +1,43 @@
+-- What a fetch found.
+use Rattle.std.proofs.Common.{◌≡◌, ◌<◌, ℕ, ◌+◌, List, length, Result, Ok, Err, IfOk, IfSome, Option, None, Some, refl, sym, arith, replicate}
+use Rattle.std.specs.Prelude.{IsSomeAnd}
+use Rattle.std.proofs.lemmas.Bool.{lt-ltb}
+use Rattle.std.proofs.lemmas.List.{length-replicate}
+use Rattle.edge_io.specs.Told.{Tells}
+use Rattle.edge_io.specs.declared.library.Fetched.TheVariants.{Whole, PastLimit}
+use Rattle.promql_tool.specs.Grammar.{limit}
+use Rattle.promql_tool.specs.Report.{report_found}
+use Rattle.promql_tool.specs.Found.{IsFound, IsReading, IsJudged, report_seen}
+use Rattle.promql_tool.specs.declared.fetch.FileRead.{FileRead}
+use Rattle.promql_tool.specs.declared.fetch.FileRead.TheVariants.{Judged, Refused, Gone}
+use Rattle.promql_tool.specs.declared.script.ScriptRefusal.TheVariants.{TooLarge}
+
+module _ (sound : Type 0) (path : List ℕ) where
+  -- the bytes that were found are those that are told
+  told_bytes : (told : Option (List ℕ → Option (List ℕ))) (bytes : List ℕ) → IfSome told (λ files. files path ≡ Some bytes) → IsFound told sound path (Some bytes)
+  told_bytes told bytes h = record { if_some = h; if_sound = λ _. h }
+
+  whole_told : (told : Option (List ℕ → Option (List ℕ))) (bytes : List ℕ) → IfSome told (λ files. Tells (files path) limit (Ok Whole) bytes) → IfSome told (λ files. files path ≡ Some bytes)
+  whole_told None bytes h = tt
+  whole_told (Some files) bytes h = h.0
+
+  pub whole_read : {E : Type 0} (told : Option (List ℕ → Option (List ℕ))) (r : Result FileRead E) (bytes : List ℕ) → IfOk r (IsJudged bytes) → IfSome told (λ files. Tells (files path) limit (Ok Whole) bytes) → IfOk r (IsReading told sound path)
+  whole_read told (Err e) bytes judged tells = tt
+  whole_read told (Ok Gone) bytes judged tells = absurd judged
+  whole_read told (Ok (Judged verdicts)) bytes judged tells = record { found = Some bytes; is_found = told_bytes told bytes (whole_told told bytes tells); reported = judged path }
+  whole_read told (Ok (Refused refusal)) bytes judged tells = record { found = Some bytes; is_found = told_bytes told bytes (whole_told told bytes tells); reported = judged path }
+
+  past_report : (bytes : List ℕ) → limit < length bytes → report_seen path (Refused TooLarge) ≡ report_found path (Some bytes)
+  past_report bytes lt = sym (rw (lt-ltb limit (length bytes) lt) refl)
+
+  past_there : (found : Option (List ℕ)) → IsSomeAnd found (λ bytes. limit < length bytes) → (bytes : List ℕ) × (found ≡ Some bytes) × (limit < length bytes)
+  past_there None h = absurd h
+  past_there (Some bytes) h = (bytes, refl, h)
+
+  pub past_read : (told : Option (List ℕ → Option (List ℕ))) (into : List ℕ) → IfSome told (λ files. Tells (files path) limit (Ok PastLimit) into) → IsReading told sound path (Refused TooLarge)
+  past_read None into h =
+      let long : limit < length {A = ℕ} (replicate (limit + 1) 0) = omega (arith, length-replicate {A = ℕ} (limit + 1) 0) in
+      record { found = Some (replicate (limit + 1) 0); is_found = record { if_some = tt; if_sound = λ _. tt }; reported = past_report (replicate (limit + 1) 0) long }
+  past_read (Some files) into h =
+      let there = past_there (files path) h in
+      record { found = Some there.0; is_found = told_bytes (Some files) there.0 there.1; reported = past_report there.0 there.2 }

@@ -1,0 +1,13 @@
+pub mod Digits
+pub mod Lines
+pub mod Names
+pub mod Words
+pub mod Bodies
+pub mod Runs
+pub mod Newest
+pub mod Named
+pub mod Judging
+pub mod Founds
+pub mod Pieces
+pub mod Ending
+pub mod Refusals

@@ -1,0 +1,12 @@
+use Rattle.std.proofs.Common.{◌≡◌, ◌≤◌, drop, filter, length, option_map}
+use Rattle.promql_tool.specs.Verdicts.{is_lacking, least}
+use Rattle.promql_tool.proofs.verdict.least_lacking.Given as goal
+
+abbrev pub invariant-loop-place : goal.invariant-loop-place
+invariant-loop-place l = record {
+  within : l.place ≤ length l.rows;
+  least : option_map (λ r. r.now) l.found ≡ least (filter (is_lacking l.others) (drop l.place l.rows));
+}
+
+abbrev pub decreases-loop-place : goal.decreases-loop-place
+decreases-loop-place l = l.place

@@ -1,0 +1,67 @@
+-- How a run may end. (This project's own.)
+use Rattle.std.specs.Prelude.{◌≡◌, ◌==◌, ℕ, List, IsTrue, Option, Some, MatchOption, Err}
+use Rattle.std.specs.List.{list_any}
+use Rattle.edge_io.specs.Causes.{Rose}
+use Rattle.edge_io.specs.Written.{appended, WroteFront}
+use Rattle.promql_tool.specs.Report.{Report, path_of, refusal_text, report_found, usage}
+use Rattle.promql_tool.specs.Grammar.{reading}
+use Rattle.promql_tool.specs.declared.script.ScriptRefusal.{ScriptRefusal}
+use Rattle.promql_tool.specs.Found.{IsFound}
+
+-- a status is among some
+abbrev pub IsOneOf : List ℕ → ℕ → Type 0
+IsOneOf statuses status = IsTrue (list_any (λ s. s == status) statuses)
+
+-- a report's text was written, and its status was answered
+pub record Reports (before now : Option (List ℕ)) (status : ℕ) (report : Report) : Type 0 where
+  pub status_is : status ≡ report.status
+  pub text_is : now ≡ appended before report.text
+
+-- what a sink has taken and how often it failed, before and now, and whether it never fails
+pub record SinkRun : Type 1 where
+  pub before : Option (List ℕ)
+  pub now : Option (List ℕ)
+  pub faults_before : ℕ
+  pub faults_now : ℕ
+  pub sound : Type 0
+
+-- A report was printed, or its printing was cut off: by a write that failed, or by want of memory. Then a front of its
+-- text was written.
+pub data Ends (out : SinkRun) (report : Report) (status : ℕ) : Type 0 where
+  Whole : Reports out.before out.now status report → Ends out report status
+  Failed : status ≡ 4 → Rose out.faults_before out.faults_now → (out.sound → ⊥) → WroteFront out.before out.now report.text → Ends out report status
+  Short : status ≡ 7 → WroteFront out.before out.now report.text → Ends out report status
+
+-- what a library tells, how often it failed, before and now, and whether only absent files fail
+pub record LibraryRun : Type 1 where
+  pub told : Option (List ℕ → Option (List ℕ))
+  pub faults_before : ℕ
+  pub faults_now : ℕ
+  pub sound : Type 0
+
+-- the report of what a fetch of this path found
+pub record RunsPath (library : LibraryRun) (out : SinkRun) (status : ℕ) (path : List ℕ) : Type 0 where
+  pub found : Option (List ℕ)
+  pub is_found : IsFound library.told library.sound path found
+  pub fault : status ≡ 3 → Rose library.faults_before library.faults_now
+  pub ends : Ends out (report_found path found) status
+
+abbrev pub usage_report : Report
+usage_report = record { text = usage; status = 2 }
+
+-- the run of these words
+abbrev pub RunsWords : List (List ℕ) → LibraryRun → SinkRun → ℕ → Type 0
+RunsWords words library out status = MatchOption (path_of words) (Ends out usage_report status) (RunsPath library out status)
+
+-- A front was written of what the run would have printed: the usage line, or the report of what a fetch found.
+abbrev pub IsCut : List (List ℕ) → Option (List ℕ → Option (List ℕ)) → Type 0 → Option (List ℕ) → Option (List ℕ) → Type 0
+IsCut words told sound before now = MatchOption (path_of words) (WroteFront before now usage)
+    (λ path. (found : Option (List ℕ)) × IsFound told sound path found × WroteFront before now (report_found path found).text)
+
+-- the bytes of a file are no script, and its first refused line was printed
+pub record IsRefused (path : List ℕ) (found : Option (List ℕ)) (before now : Option (List ℕ)) : Type 0 where
+  pub bytes : List ℕ
+  pub refusal : ScriptRefusal
+  pub fetched : found ≡ Some bytes
+  pub is : reading bytes ≡ Err refusal
+  pub printed : now ≡ appended before (refusal_text path refusal)

@@ -1,0 +1,13 @@
+pub mod Lines
+pub mod Tokens
+pub mod Outcomes
+pub mod Views
+pub mod Grammar
+pub mod Readings
+pub mod Samples
+pub mod Verdicts
+pub mod LoadedSeries
+pub mod Runs
+pub mod Report
+pub mod Found
+pub mod Ends

@@ -1,0 +1,109 @@
+-- What a run prints, and its status. (This project's own, after promqltest.)
+use Rattle.std.specs.Prelude.{ℕ, Bool, true, if◌then◌else◌, ◌==◌, ◌&&◌, ◌||◌, not, List, [], ◌∷◌, ◌++◌, Option, None, Some, Result, Ok, Err, codes, decimal, bytes_eq, count_by, is_none}
+use Rattle.std.specs.Fmt.{signed_decimal}
+use Rattle.std.specs.List.{flat_map}
+use Rattle.label_set.specs.LabelText.{labels_text}
+use Rattle.xfrac.specs.declared.value.XFrac.{XFrac}
+use Rattle.xfrac.specs.declared.value.XFrac.TheVariants.{Fin, PosInf, NegInf, NaN}
+use Rattle.promql_tool.specs.Lines.{is_empty}
+use Rattle.promql_tool.specs.Grammar.{reading}
+use Rattle.promql_tool.specs.Verdicts.{verdicts_of}
+use Rattle.promql_tool.specs.declared.script.Script.{Script}
+use Rattle.promql_tool.specs.declared.script.ScriptRefusal.{ScriptRefusal}
+use Rattle.promql_tool.specs.declared.script.ScriptRefusal.TheVariants.{Malformed, TooLarge}
+use Rattle.promql_tool.specs.declared.verdict.Reason.{Reason}
+use Rattle.promql_tool.specs.declared.verdict.Reason.TheVariants.{Missing, Extra, Differs}
+use Rattle.promql_tool.specs.declared.verdict.Verdict.{Verdict}
+
+-- a word that names a file: it doesn't begin with a minus sign, or is one alone
+abbrev pub names_file : List ℕ → Bool
+names_file [] = true
+names_file (first ∷ rest) = not (first == 45) || is_empty rest
+
+-- the file of `promqltest FILE`
+abbrev pub path_of : List (List ℕ) → Option (List ℕ)
+path_of (word ∷ path ∷ []) = if (bytes_eq word (codes "promqltest") && names_file path) then Some path else None
+path_of words = None
+
+abbrev pub usage : List ℕ
+usage = codes "usage: promqltest [options] FILE.. or query [options] FILE EXPR\n"
+
+-- a number's text; the numbers of a script are whole so far
+abbrev pub number_text : XFrac → List ℕ
+number_text (Fin v) = signed_decimal v.0
+number_text PosInf = codes "+Inf"
+number_text NegInf = codes "-Inf"
+number_text NaN = codes "NaN"
+
+abbrev pub reason_text : Reason → List ℕ
+reason_text (Missing labels) = codes "missing " ++ labels_text labels
+reason_text (Extra labels) = codes "unexpected series " ++ labels_text labels
+reason_text (Differs labels wanted got) = labels_text labels ++ (codes " expected " ++ (number_text wanted ++ (codes " got " ++ number_text got)))
+
+-- `<word> <path>:<line>`, and what stands behind it
+abbrev pub placed : List ℕ → List ℕ → ℕ → List ℕ → List ℕ
+placed word path line behind = word ++ (codes " " ++ (path ++ (codes ":" ++ (decimal line ++ behind))))
+
+-- the line of a verdict
+abbrev pub line_of : List ℕ → ℕ → Option Reason → List ℕ
+line_of path line None = placed (codes "PASS") path line (codes "\n")
+line_of path line (Some reason) = placed (codes "FAIL") path line (codes " " ++ (reason_text reason ++ codes "\n"))
+
+abbrev pub verdict_text : List ℕ → Verdict → List ℕ
+verdict_text path verdict = line_of path verdict.line verdict.reason
+
+abbrev pub has_passed : Verdict → Bool
+has_passed verdict = is_none verdict.reason
+
+abbrev pub passed_in : List Verdict → ℕ
+passed_in verdicts = count_by has_passed verdicts
+
+abbrev pub failed_in : List Verdict → ℕ
+failed_in verdicts = count_by (λ verdict. not (has_passed verdict)) verdicts
+
+abbrev pub totals_text : ℕ → ℕ → List ℕ
+totals_text passed failed = codes "passed " ++ (decimal passed ++ (codes " failed " ++ (decimal failed ++ codes "\n")))
+
+-- the line of a refused script, and the name of its refusal
+abbrev pub refused_line : ScriptRefusal → ℕ
+refused_line (Malformed line) = line
+refused_line TooLarge = 0
+
+abbrev pub refusal_name : ScriptRefusal → List ℕ
+refusal_name (Malformed line) = codes "Malformed"
+refusal_name TooLarge = codes "TooLarge"
+
+abbrev pub refusal_text : List ℕ → ScriptRefusal → List ℕ
+refusal_text path refusal = placed (codes "REFUSED") path (refused_line refusal) (codes " " ++ (refusal_name refusal ++ codes "\n"))
+
+abbrev pub fault_text : List ℕ → List ℕ
+fault_text path = codes "FAULT read " ++ (path ++ codes "\n")
+
+-- what is printed, and the status of the program
+pub record Report : Type 0 where
+  pub text : List ℕ
+  pub status : ℕ
+
+-- every verdict's line, and then the totals; the status is 0 where all pass, else 1
+abbrev pub report_judged : List ℕ → List Verdict → Report
+report_judged path verdicts = record {
+  text = flat_map (verdict_text path) verdicts ++ totals_text (passed_in verdicts) (failed_in verdicts);
+  status = if failed_in verdicts == 0 then 0 else 1;
+}
+
+abbrev pub report_read : List ℕ → Result Script ScriptRefusal → Report
+report_read path (Ok script) = report_judged path (verdicts_of script)
+report_read path (Err refusal) = record { text = refusal_text path refusal; status = 6 }
+
+-- the report of a file by what was fetched: its bytes, or none
+abbrev pub report_found : List ℕ → Option (List ℕ) → Report
+report_found path None = record { text = fault_text path; status = 3 }
+report_found path (Some bytes) = report_read path (reading bytes)
+
+-- the report of words, by what the files have; words that are no command get the usage line
+abbrev pub report_asked : Option (List ℕ) → (List ℕ → Option (List ℕ)) → Report
+report_asked None files = record { text = usage; status = 2 }
+report_asked (Some path) files = report_found path (files path)
+
+abbrev pub report : List (List ℕ) → (List ℕ → Option (List ℕ)) → Report
+report words files = report_asked (path_of words) files

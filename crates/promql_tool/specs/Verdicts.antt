@@ -1,0 +1,75 @@
+-- Whether a result is as expected, and the first reason why it isn't. (The rules of promqltest; the reasons and their
+-- order are this project's own.)
+use Rattle.std.specs.Prelude.{ℕ, Bool, false, if◌then◌else◌, not, List, [], ◌∷◌, ◌++◌, map, filter, Option, None, Some, find, is_none, option_map}
+use Rattle.std.specs.Ordering.{is_eq, is_gt}
+use Rattle.label_set.specs.Labels.{labels_cmp}
+use Rattle.xfrac.specs.declared.value.XFrac.{XFrac}
+use Rattle.xfrac.specs.Near.{is_near}
+use Rattle.promql_tool.specs.Grammar.{LabelList}
+use Rattle.promql_tool.specs.Samples.{Series, series_loaded, answer}
+use Rattle.promql_tool.specs.declared.script.Script.{Script}
+use Rattle.promql_tool.specs.declared.script.Command.{Command}
+use Rattle.promql_tool.specs.declared.script.What.{What}
+use Rattle.promql_tool.specs.declared.script.What.TheVariants.{Load, Eval}
+use Rattle.promql_tool.specs.declared.script.Row.{Row}
+use Rattle.promql_tool.specs.declared.verdict.Reason.{Reason}
+use Rattle.promql_tool.specs.declared.verdict.Reason.TheVariants.{Missing, Extra, Differs}
+use Rattle.promql_tool.specs.declared.verdict.Verdict.{Verdict}
+
+-- the value that rows have under labels
+abbrev pub value_under : LabelList → List Row → Option XFrac
+value_under labels rows = option_map (λ (r : Row). r.value) (find (λ (r : Row). is_eq (labels_cmp r.labels labels)) rows)
+
+-- rows have no value under a row's labels
+abbrev pub is_lacking : List Row → Row → Bool
+is_lacking rows row = is_none (value_under row.labels rows)
+
+-- the first value is there and isn't near the second
+abbrev pub is_apart : Option XFrac → XFrac → Bool
+is_apart None wanted = false
+is_apart (Some got) wanted = not (is_near wanted got)
+
+-- rows have another value under a row's labels
+abbrev pub is_differing : List Row → Row → Bool
+is_differing rows row = is_apart (value_under row.labels rows) row.value
+
+-- the row before others, unless one of them has lesser labels
+abbrev pub lesser : Row → Option Row → Row
+lesser row None = row
+lesser row (Some other) = if is_gt (labels_cmp row.labels other.labels) then other else row
+
+-- the first row with the least labels
+abbrev pub least : List Row → Option Row
+least [] = None
+least (row ∷ rows) = Some (lesser row (least rows))
+
+abbrev pub differs : Row → Option XFrac → Option Reason
+differs row None = None
+differs row (Some got) = Some (Differs row.labels row.value got)
+
+abbrev pub first_reason : Option Row → Option Row → Option Row → List Row → Option Reason
+first_reason (Some missing) extra differing got = Some (Missing missing.labels)
+first_reason None (Some extra) differing got = Some (Extra extra.labels)
+first_reason None None None got = None
+first_reason None None (Some row) got = differs row (value_under row.labels got)
+
+-- The first reason why rows aren't those that are expected: the least labels that are missing, the least that are
+-- there and not expected, the least whose value isn't near the expected one.
+abbrev pub judged : List Row → List Row → Option Reason
+judged expected got =
+    first_reason (least (filter (is_lacking got) expected)) (least (filter (is_lacking expected) got)) (least (filter (is_differing got) expected)) got
+
+-- the verdicts of a command and of those behind it, which are judged over the series that stand then
+abbrev pub verdicts_headed : List Series → ℕ → What → (List Series → List Verdict) → List Verdict
+verdicts_headed loaded line (Load interval lines) later = later (loaded ++ map (series_loaded interval) lines)
+verdicts_headed loaded line (Eval at name expected) later =
+    record { line = line; reason = judged expected (answer loaded name at) } ∷ later loaded
+
+-- the verdicts of commands, in order, behind loads that put these series
+abbrev pub verdicts_after : List Series → List Command → List Verdict
+verdicts_after loaded [] = []
+verdicts_after loaded (command ∷ commands) = verdicts_headed loaded command.line command.what (λ series. verdicts_after series commands)
+
+-- the verdict of each evaluation of a script, over the samples that were loaded before it
+abbrev pub verdicts_of : Script → List Verdict
+verdicts_of script = verdicts_after [] script.commands

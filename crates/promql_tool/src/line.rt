@@ -1,0 +1,105 @@
+//! The lines of a script, and the words of a line.
+ghost use Rattle.promql_tool.specs.Lines.{is_blank, is_edge, is_line_feed, from_text, lines_of, trimmed, words_of};
+ghost use Rattle.promql_tool.specs.Views.{numbered};
+ghost use Rattle.std.specs.List.{slice_split};
+ghost use Rattle.std.specs.Prelude.{◌≡◌, [], ◌∷◌, MatchOption, ◌≤◌, ◌<◌, ◌-◌, ◌^◌, length, map, position, reverse, IfOk, IfSome};
+
+use std::alloc::{AllocError, Global};
+
+/// A line of a file: its number, counted from 1, and its text without blanks and carriage returns at the ends.
+#[derive(Clone, Copy)]
+pub struct Line<'a> {
+    pub number: u32,
+    pub text: &'a [u8],
+}
+
+const fn is_blank(byte: u8) -> bool
+    ensures { result ≡ is_blank byte }
+{
+    byte == b' ' || byte == b'\t'
+}
+
+const fn is_edge(byte: u8) -> bool
+    ensures { result ≡ is_edge byte }
+{
+    is_blank(byte) || byte == b'\r'
+}
+
+fn trim_front(text: &[u8]) -> &[u8]
+    ensures { result.now ≡ from_text text.now }
+{
+    let mut left = text;
+    while let [first, rest @ ..] = left
+        && is_edge(*first)
+    {
+        left = rest;
+    }
+    left
+}
+
+fn trim_back(text: &[u8]) -> &[u8]
+    ensures { reverse result.now ≡ from_text (reverse text.now) }
+{
+    let mut left = text;
+    while let [rest @ .., last] = left
+        && is_edge(*last)
+    {
+        left = rest;
+    }
+    left
+}
+
+fn trim(text: &[u8]) -> &[u8]
+    ensures { result.now ≡ trimmed text.now }
+{
+    trim_back(trim_front(text))
+}
+
+fn line_end(text: &[u8]) -> Option<usize>
+    ensures place { result ≡ position is_line_feed text.now }
+    ensures within { IfSome result (λ end. end < length text.now) }
+{
+    text.iter().position(|byte| *byte == b'\n')
+}
+
+/// The text up to the first line feed, and the text behind that, if there is one.
+fn cut_line(text: &[u8]) -> (&[u8], Option<&[u8]>)
+    ensures { MatchOption result.1
+        (slice_split is_line_feed text.now ≡ result.0.now ∷ [])
+        (λ rest. (slice_split is_line_feed text.now ≡ result.0.now ∷ slice_split is_line_feed rest.now)
+        × (length rest.now < length text.now)) }
+{
+    match line_end(text) {
+        Some(end) => (text.split_at(end).0, Some(text.split_at(end + 1).1)),
+        None => (text, None),
+    }
+}
+
+/// The lines of a file of fewer than 2^31 bytes. The only error is want of memory.
+pub fn lines_in<'a>(alloc: Global, bytes: &'a [u8]) -> Result<Vec<Line<'a>>, AllocError>
+    requires { length bytes.now < 2 ^ 31 }
+    ensures { IfOk result (λ lines. map numbered lines.items ≡ lines_of bytes.now) }
+{
+    let mut lines = Vec::new(alloc);
+    let mut left = Some(bytes);
+    let mut number = 1;
+    while let Some(text) = left {
+        let (line, rest) = cut_line(text);
+        lines.push(Line {
+            number,
+            text: trim(line),
+        })?;
+        left = rest;
+        number += 1;
+    }
+    Ok(lines)
+}
+
+/// The words of a line.
+pub fn words_in<'a>(alloc: Global, text: &'a [u8]) -> Result<Vec<&'a [u8]>, AllocError>
+    ensures { IfOk result (λ words. map (λ word. word.now) words.items ≡ words_of text.now) }
+{
+    text.split(|byte| is_blank(*byte))
+        .filter(|word| !word.is_empty())
+        .collect(alloc)
+}

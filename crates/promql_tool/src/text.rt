@@ -1,0 +1,107 @@
+//! The lines of a report.
+ghost use Rattle.promql_tool.specs.Report.{fault_text, number_text, reason_text, refusal_name, refusal_text, refused_line, totals_text, verdict_text};
+ghost use Rattle.std.specs.Prelude.{◌≡◌, ◌++◌, string_bytes, IfOk, OnOk};
+
+use crate::script::ScriptRefusal;
+use crate::verdict::{Reason, Verdict};
+use std::alloc::{AllocError, Global};
+use xfrac::{XFrac, parts};
+
+fn append_number(alloc: Global, value: &XFrac, into: &mut Vec<u8>) -> Result<(), AllocError>
+    ensures { OnOk result (into.new.items ≡ into.old.items ++ number_text value.now) }
+{
+    match value {
+        XFrac::Fin(fraction) => {
+            let (numerator, _) = parts(fraction);
+            let text = format!(in alloc; "{numerator}")?;
+            into.extend_from_slice(text.as_bytes())
+        }
+        XFrac::PosInf => into.extend_from_slice(b"+Inf"),
+        XFrac::NegInf => into.extend_from_slice(b"-Inf"),
+        XFrac::NaN => into.extend_from_slice(b"NaN"),
+    }
+}
+
+fn append_reason(alloc: Global, reason: &Reason, into: &mut Vec<u8>) -> Result<(), AllocError>
+    ensures { OnOk result (into.new.items ≡ into.old.items ++ reason_text reason.now) }
+{
+    match reason {
+        Reason::Missing(labels) => {
+            into.extend_from_slice(b"missing ")?;
+            labels.write(into)
+        }
+        Reason::Extra(labels) => {
+            into.extend_from_slice(b"unexpected series ")?;
+            labels.write(into)
+        }
+        Reason::Differs {
+            labels,
+            wanted,
+            got,
+        } => {
+            labels.write(into)?;
+            into.extend_from_slice(b" expected ")?;
+            append_number(alloc, wanted, into)?;
+            into.extend_from_slice(b" got ")?;
+            append_number(alloc, got, into)
+        }
+    }
+}
+
+/// The line of a verdict.
+pub fn verdict_line(alloc: Global, path: &str, verdict: &Verdict) -> Result<Vec<u8>, AllocError>
+    ensures { IfOk result (λ text. text.items ≡ verdict_text path.now verdict.now) }
+{
+    let line = verdict.line;
+    match &verdict.reason {
+        None => Ok(format!(in alloc; "PASS {path}:{line}\n")?.into_bytes()),
+        Some(reason) => {
+            let mut text = format!(in alloc; "FAIL {path}:{line} ")?.into_bytes();
+            append_reason(alloc, reason, &mut text)?;
+            text.extend_from_slice(b"\n")?;
+            Ok(text)
+        }
+    }
+}
+
+/// The line that is refused, counted from 1, or 0 where it is the whole file.
+fn refused_line(refusal: ScriptRefusal) -> u32
+    ensures { result ≡ refused_line refusal }
+{
+    match refusal {
+        ScriptRefusal::Malformed(line) => line,
+        ScriptRefusal::TooLarge => 0,
+    }
+}
+
+fn refusal_name(refusal: ScriptRefusal) -> &'static str
+    ensures { result.now ≡ refusal_name refusal }
+{
+    match refusal {
+        ScriptRefusal::Malformed(_) => "Malformed",
+        ScriptRefusal::TooLarge => "TooLarge",
+    }
+}
+
+/// The line of a script that is refused.
+pub fn refusal_line(alloc: Global, path: &str, refusal: ScriptRefusal) -> Result<String, AllocError>
+    ensures { IfOk result (λ text. string_bytes text ≡ refusal_text path.now refusal) }
+{
+    let line = refused_line(refusal);
+    let name = refusal_name(refusal);
+    format!(in alloc; "REFUSED {path}:{line} {name}\n")
+}
+
+/// The line of a file that can't be fetched.
+pub fn fault_line(alloc: Global, path: &str) -> Result<String, AllocError>
+    ensures { IfOk result (λ text. string_bytes text ≡ fault_text path.now) }
+{
+    format!(in alloc; "FAULT read {path}\n")
+}
+
+/// The line of how many evaluations pass and fail.
+pub fn totals_line(alloc: Global, passed: usize, failed: usize) -> Result<String, AllocError>
+    ensures { IfOk result (λ text. string_bytes text ≡ totals_text passed failed) }
+{
+    format!(in alloc; "passed {passed} failed {failed}\n")
+}

@@ -1,0 +1,23 @@
+//! Times and durations, in whole milliseconds.
+#![tactic(auto)]
+
+mod grid;
+mod law;
+mod moment;
+mod read;
+mod refusal;
+mod unit;
+mod walk;
+mod write;
+
+pub use grid::Grid;
+pub use law::spellings_are_durations;
+pub use moment::Ms;
+pub use read::read_duration;
+pub use refusal::TickRefusal;
+pub use std::alloc::AllocError as Memory;
+pub use walk::{Walk, WalkMoment};
+pub use write::write_duration;
+
+#[cfg(test)]
+mod tests;

@@ -1,0 +1,9 @@
+pub mod Formed
+pub mod Gcds
+pub mod LawProofs
+pub mod Multiples
+pub mod Nearness
+pub mod Products
+pub mod Ratios
+pub mod Reduced
+pub mod Totalling

@@ -1,0 +1,56 @@
+-- What users rely on of sums, nearness and the order. (This project's own.)
+use Rattle.std.specs.Prelude.{◌≡◌, ℕ, ◌<◌, ◌≤◌, ◌+◌, ℤ, pos, ◌*ℤ◌, List, ◌++◌, None, unsigned_abs}
+use Rattle.std.specs.Int.{IsGcd}
+use Rattle.std.specs.List.{All}
+use Rattle.std.specs.List.Sorted.{IsPermutation}
+use Rattle.std.specs.declared.cmp.Ordering.TheVariants.{Less, Equal}
+use Rattle.std.specs.Ordering.{ordering_reverse}
+use Rattle.xfrac.specs.Fractions.{IsReduced, lowest}
+use Rattle.xfrac.specs.Near.{is_near}
+use Rattle.xfrac.specs.Order.{total_order}
+use Rattle.xfrac.specs.Sums.{totals, sum_of}
+use Rattle.xfrac.specs.declared.value.XFrac.{XFrac}
+use Rattle.xfrac.specs.declared.value.XFrac.TheVariants.{Fin}
+
+-- a value of the type: its fraction is in lowest terms and within the limit
+abbrev pub IsNumber : XFrac → Type 0
+IsNumber (Fin f) = IsReduced (unsigned_abs f.0) f.1
+IsNumber _ = Unit {0}
+
+-- a sum doesn't depend on the order of its list
+abbrev pub SumIgnoresOrder : Type 0
+SumIgnoresOrder = (xs ys : List XFrac) → All IsNumber xs → IsPermutation xs ys → sum_of ys ≡ sum_of xs
+
+-- neither the common denominator nor the sum of the magnitudes falls when a list grows
+abbrev pub TotalsNeverFall : Type 0
+TotalsNeverFall =
+    (xs ys : List XFrac) → All IsNumber xs → All IsNumber ys → ((totals xs).multiple ≤ (totals (xs ++ ys)).multiple) × ((totals xs).above + (totals xs).below ≤ (totals (xs ++ ys)).above + (totals (xs ++ ys)).below)
+
+-- so a part that has no sum leaves the whole without one
+abbrev pub PartOverflowsWhole : Type 0
+PartOverflowsWhole = (xs ys : List XFrac) → All IsNumber xs → All IsNumber ys → sum_of xs ≡ None → sum_of (xs ++ ys) ≡ None
+
+-- nearness is symmetric
+abbrev pub NearIsSymmetric : Type 0
+NearIsSymmetric = (a b : XFrac) → is_near a b ≡ is_near b a
+
+-- the order is total: each number is equal to itself alone, of two others one is less, and less carries over
+abbrev pub EqualIsSame : Type 0
+EqualIsSame = (a b : XFrac) → IsNumber a → IsNumber b → total_order a b ≡ Equal → a ≡ b
+
+abbrev pub OrderIsReflexive : Type 0
+OrderIsReflexive = (a : XFrac) → total_order a a ≡ Equal
+
+abbrev pub OrderIsReversed : Type 0
+OrderIsReversed = (a b : XFrac) → total_order b a ≡ ordering_reverse (total_order a b)
+
+abbrev pub LessIsTransitive : Type 0
+LessIsTransitive =
+    (a b c : XFrac) → IsNumber a → IsNumber b → IsNumber c → total_order a b ≡ Less → total_order b c ≡ Less → total_order a c ≡ Less
+
+-- the lowest terms of n/d are n/d, and nothing above 1 divides both
+abbrev pub LowestIsEqual : Type 0
+LowestIsEqual = (n : ℤ) (d : ℕ) → 0 < d → (lowest n d).0 *ℤ pos d ≡ n *ℤ pos (lowest n d).1
+
+abbrev pub LowestIsReduced : Type 0
+LowestIsReduced = (n : ℤ) (d : ℕ) → 0 < d → IsGcd (unsigned_abs (lowest n d).0) (lowest n d).1 1

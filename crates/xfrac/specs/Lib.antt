@@ -1,0 +1,9 @@
+pub mod Arithmetic
+pub mod Divisors
+pub mod Forming
+pub mod Fractions
+pub mod Kinds
+pub mod Laws
+pub mod Near
+pub mod Order
+pub mod Sums

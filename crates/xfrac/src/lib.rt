@@ -1,0 +1,25 @@
+//! Exact numbers: fractions within a fixed limit, the two infinities and NaN.
+#![tactic(auto)]
+
+pub mod arithmetic;
+pub mod closeness;
+mod divisors;
+pub mod forming;
+pub mod laws;
+pub mod order;
+mod power;
+mod product;
+mod ratio;
+pub mod sums;
+#[cfg(test)]
+mod tests;
+pub mod value;
+
+pub use arithmetic::arith;
+pub use closeness::near;
+pub use forming::{abs, ceil, floor, neg, of};
+pub use order::{cmp_total, compare};
+pub use sums::SumAcc;
+pub use value::{
+    ArithOp, CompareOp, Frac, Held, LIMIT, NumFault, Overflow, PairOp, XFrac, parts, whole,
+};

@@ -1,0 +1,65 @@
+//! The order of numbers, and the comparison operators.
+ghost use Rattle.std.specs.Prelude.{◌≡◌, IsTrue};
+ghost use Rattle.xfrac.specs.Order.{fraction_order, total_order, rank, holds_at, holds_of_nan, compares};
+
+use crate::ratio;
+use crate::value::{CompareOp, Frac, XFrac, is_nan};
+use std::cmp::Ordering;
+
+/// Whether a comparison holds. With NaN on a side only `!=` does.
+pub fn compare(op: CompareOp, a: &XFrac, b: &XFrac) -> bool
+    ensures { result ≡ compares op a.now b.now }
+{
+    if is_nan(a) || is_nan(b) {
+        matches!(op, CompareOp::Ne)
+    } else {
+        holds(op, cmp_total(a, b))
+    }
+}
+
+/// The total order: -Inf, the fractions, +Inf, NaN.
+pub fn cmp_total(a: &XFrac, b: &XFrac) -> Ordering
+    ensures { result ≡ total_order a.now b.now }
+{
+    match (a, b) {
+        (XFrac::Fin(x), XFrac::Fin(y)) => cmp_fractions(x, y),
+        _ => place(a).cmp(&place(b)),
+    }
+}
+
+fn place(a: &XFrac) -> u8
+    ensures { result ≡ rank a.now }
+{
+    match a {
+        XFrac::NegInf => 0,
+        XFrac::Fin(_) => 1,
+        XFrac::PosInf => 2,
+        XFrac::NaN => 3,
+    }
+}
+
+fn holds(op: CompareOp, order: Ordering) -> bool
+    ensures { result ≡ holds_at op order }
+{
+    match op {
+        CompareOp::Eq => order.is_eq(),
+        CompareOp::Ne => order.is_ne(),
+        CompareOp::Lt => order.is_lt(),
+        CompareOp::Le => order.is_le(),
+        CompareOp::Gt => order.is_gt(),
+        CompareOp::Ge => order.is_ge(),
+    }
+}
+
+fn cmp_fractions(a: &Frac, b: &Frac) -> Ordering
+    ensures { result ≡ fraction_order a.now b.now }
+{
+    let (m, d) = (a.magnitude(), a.denominator());
+    let (n, e) = (b.magnitude(), b.denominator());
+    match (a.is_negative(), b.is_negative()) {
+        (false, false) => ratio::order(m, d, n, e),
+        (true, true) => ratio::order(n, e, m, d),
+        (true, false) => Ordering::Less,
+        (false, true) => Ordering::Greater,
+    }
+}

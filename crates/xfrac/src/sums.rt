@@ -1,0 +1,252 @@
+//! The sum of a list of numbers, kept as it grows.
+ghost use Rattle.std.specs.Prelude.{◌≡◌, ◌<◌, ◌≤◌, ◌+◌, ◌*◌, ◌^◌, ◌-ℤ◌, pos, List, [], ◌∷◌, ◌++◌, OnOk, OnErr, is_ok, is_some, length, Some, None, if◌then◌else◌};
+ghost use Rattle.std.specs.Option.{SomeIff, ok_or};
+ghost use Rattle.xfrac.specs.Arithmetic.{mean_of, whole_number, quotient as quotient_of};
+ghost use Rattle.xfrac.specs.declared.value.XFrac.{XFrac};
+ghost use Rattle.xfrac.specs.Fractions.{limit, lowest};
+ghost use Rattle.xfrac.specs.Sums.{StandsFor, joined, fits, value_of, sum_of, denominator_of, part_above, part_below};
+
+use crate::divisors::{limited_multiple, limited_product, quotient};
+use crate::forming::lowest_terms;
+use crate::product::divide;
+use crate::value::{
+    Frac, LIMIT, Overflow, XFrac, is_nan, is_negative_infinity, is_positive_infinity,
+};
+use std::marker::Model;
+
+/// The sum of a list of numbers, not yet reduced, so that its overflow depends on the numbers alone and
+/// not on their order. A contract sees it as the totals of the list that it stands for.
+#[derive(Clone, Copy, Debug, PartialEq, Eq)]
+pub struct SumAcc {
+    multiple: u128,
+    above: u128,
+    below: u128,
+    has_positive_infinity: bool,
+    has_negative_infinity: bool,
+    has_nan: bool,
+    count: u128,
+}
+
+impl Model for SumAcc {
+    ghost use Rattle.xfrac.specs.Sums.{IsHeld, Totals};
+
+    ghost Value = { Totals };
+
+    ghost view = { λ s. record { multiple = s.multiple; above = s.above; below = s.below; has_positive_infinity = s.has_positive_infinity; has_negative_infinity = s.has_negative_infinity; has_nan = s.has_nan; count = s.count } };
+
+    ghost invariant = { λ s. IsHeld s.multiple s.above s.below s.count };
+
+    ghost inverse = { λ t. record { multiple = t.multiple; above = t.above; below = t.below; has_positive_infinity = t.has_positive_infinity; has_negative_infinity = t.has_negative_infinity; has_nan = t.has_nan; count = t.count } };
+}
+
+impl SumAcc {
+    /// The sum of no numbers.
+    pub fn new() -> SumAcc
+        ensures value { StandsFor result [] }
+        ensures count { result.count ≡ 0 }
+    {
+        SumAcc {
+            multiple: 1,
+            above: 0,
+            below: 0,
+            has_positive_infinity: false,
+            has_negative_infinity: false,
+            has_nan: false,
+            count: 0,
+        }
+    }
+
+    /// The sum of one number.
+    fn of(v: &XFrac) -> SumAcc
+        ensures value { StandsFor result (v.now ∷ []) }
+        ensures count { result.count ≡ 1 }
+    {
+        let (multiple, above, below) = terms(v);
+        SumAcc {
+            multiple,
+            above,
+            below,
+            has_positive_infinity: is_positive_infinity(v),
+            has_negative_infinity: is_negative_infinity(v),
+            has_nan: is_nan(v),
+            count: 1,
+        }
+    }
+
+    /// Adds `v` to the list. `Overflow` comes exactly where the longer list has no sum, and then nothing
+    /// is changed.
+    pub fn add(&mut self, v: &XFrac) -> Result<(), Overflow>
+        requires { self.old.count + 1 < 2 ^ 96 }
+        ensures appended { (xs : List XFrac) → StandsFor self.old xs → OnOk result (StandsFor self.new (xs ++ v.now ∷ [])) }
+        ensures overflow { (xs : List XFrac) → StandsFor self.old xs → is_ok result ≡ is_some (sum_of (xs ++ v.now ∷ [])) }
+        ensures counted { OnOk result (self.new.count ≡ self.old.count + 1) }
+        ensures unchanged { OnErr result (self.new ≡ self.old) }
+    {
+        let one = SumAcc::of(v);
+        self.merge(&one)
+    }
+
+    /// Joins the other list to this one. `Overflow` comes exactly where the joint list has no sum, and
+    /// then nothing is changed.
+    pub fn merge(&mut self, other: &SumAcc) -> Result<(), Overflow>
+        requires { self.old.count + other.now.count < 2 ^ 96 }
+        ensures appended { (xs ys : List XFrac) → StandsFor self.old xs → StandsFor other.now ys
+            → OnOk result (StandsFor self.new (xs ++ ys)) }
+        ensures overflow { (xs ys : List XFrac) → StandsFor self.old xs → StandsFor other.now ys
+            → is_ok result ≡ is_some (sum_of (xs ++ ys)) }
+        ensures counted { OnOk result (self.new.count ≡ self.old.count + other.now.count) }
+        ensures unchanged { OnErr result (self.new ≡ self.old) }
+    {
+        match self.joined(other) {
+            Some(sum) => {
+                *self = sum;
+                Ok(())
+            }
+            None => Err(Overflow),
+        }
+    }
+
+    fn joined(&self, other: &SumAcc) -> Option<SumAcc>
+        requires { self.now.count + other.now.count < 2 ^ 96 }
+        ensures value { let t = joined self.now other.now in result ≡ (if fits t then Some t else None) }
+        ensures left { 0 < self.now.multiple }
+        ensures right { 0 < other.now.multiple }
+    {
+        let multiple = match limited_multiple(self.multiple, other.multiple) {
+            Some(multiple) => multiple,
+            None => return None,
+        };
+        let left = quotient(multiple, self.multiple);
+        let right = quotient(multiple, other.multiple);
+        match (
+            limited_sum(self.above, left, other.above, right),
+            limited_sum(self.below, left, other.below, right),
+        ) {
+            (Some(above), Some(below)) if above + below <= LIMIT => Some(SumAcc {
+                multiple,
+                above,
+                below,
+                has_positive_infinity: self.has_positive_infinity || other.has_positive_infinity,
+                has_negative_infinity: self.has_negative_infinity || other.has_negative_infinity,
+                has_nan: self.has_nan || other.has_nan,
+                count: self.count + other.count,
+            }),
+            _ => None,
+        }
+    }
+
+    /// How many numbers the list has: fewer than 2^96.
+    pub fn count(&self) -> u128
+        ensures value { result ≡ self.now.count }
+        ensures length { (xs : List XFrac) → StandsFor self.now xs → result ≡ length xs }
+        ensures few { result < 2 ^ 96 }
+    {
+        self.count
+    }
+
+    /// The sum of the list.
+    pub fn value(&self) -> XFrac
+        ensures value { result ≡ value_of self.now }
+        ensures sum { (xs : List XFrac) → StandsFor self.now xs → sum_of xs ≡ Some result }
+    {
+        if self.has_nan || (self.has_positive_infinity && self.has_negative_infinity) {
+            XFrac::NaN
+        } else if self.has_positive_infinity {
+            XFrac::PosInf
+        } else if self.has_negative_infinity {
+            XFrac::NegInf
+        } else {
+            XFrac::Fin(difference(self.above, self.below, self.multiple))
+        }
+    }
+
+    /// The sum of the list divided by how many numbers it has. `Overflow` comes exactly where that
+    /// quotient is outside the limits.
+    pub fn mean(&self) -> Result<XFrac, Overflow>
+        requires { 0 < self.now.count }
+        ensures value { result ≡ ok_or (quotient_of (value_of self.now) (whole_number self.now.count)) (record {}) }
+        ensures mean { (xs : List XFrac) → StandsFor self.now xs → result ≡ ok_or (mean_of xs) (record {}) }
+    {
+        let count = XFrac::Fin(Frac::with_parts(false, self.count, 1));
+        divide(&self.value(), &count).ok_or(Overflow)
+    }
+}
+
+/// The sum of two numbers.
+pub(crate) fn sum_of_two(a: &XFrac, b: &XFrac) -> Option<XFrac>
+    ensures { result ≡ sum_of (a.now ∷ b.now ∷ []) }
+{
+    let left = SumAcc::of(a);
+    let right = SumAcc::of(b);
+    match left.joined(&right) {
+        Some(sum) => Some(sum.value()),
+        None => None,
+    }
+}
+
+/// The denominator, and how far the numerator is above and below 0.
+fn terms(v: &XFrac) -> (u128, u128, u128)
+    ensures value { result ≡ (denominator_of v.now, part_above v.now, part_below v.now) }
+    ensures positive { 0 < result.0 }
+    ensures denominator_within { result.0 ≤ limit }
+    ensures within { result.1 + result.2 ≤ limit }
+{
+    match v {
+        XFrac::Fin(f) => {
+            if f.is_negative() {
+                (f.denominator(), 0, f.magnitude())
+            } else {
+                (f.denominator(), f.magnitude(), 0)
+            }
+        }
+        _ => (1, 0, 0),
+    }
+}
+
+/// a * k + b * l, where it is within the limit.
+fn limited_sum(a: u128, k: u128, b: u128, l: u128) -> Option<u128>
+    requires left { a ≤ limit }
+    requires right { b ≤ limit }
+    ensures { SomeIff result (a * k + b * l ≤ limit) (a * k + b * l) }
+{
+    match (limited_product(a, k), limited_product(b, l)) {
+        (Some(left), Some(right)) if left + right <= LIMIT => Some(left + right),
+        _ => None,
+    }
+}
+
+/// The fraction (a - b)/d in lowest terms.
+fn difference(a: u128, b: u128, d: u128) -> Frac
+    requires positive { 0 < d }
+    requires within { d ≤ limit }
+    requires left_within { a ≤ limit }
+    requires right_within { b ≤ limit }
+    ensures { result ≡ lowest (pos a -ℤ pos b) d }
+{
+    if a < b {
+        lowest_terms(true, b - a, d)
+    } else {
+        lowest_terms(false, a - b, d)
+    }
+}
+
+#[cfg(test)]
+mod tests {
+    use super::SumAcc;
+    use crate::{of, whole};
+    use std::test::Fail;
+
+    #[test]
+    fn keeps_multiple_and_magnitude(rt: HostRuntime) -> Result<(), Fail> {
+        let mut sum = SumAcc::new();
+        sum.add(&of(1, 2)?)?;
+        sum.add(&of(1, 3)?)?;
+        sum.add(&of(-5, 6)?)?;
+        assert_eq!(rt; sum.value(), whole(0));
+        assert_eq!(rt;
+            (sum.multiple, sum.above + sum.below, sum.count),
+            (6, 10, 3)
+        );
+        Ok(())
+    }
+}
