@@ -1,4 +1,3 @@
-pub mod Digits
 pub mod Lines
 pub mod Names
 pub mod Words
@@ -11,3 +10,5 @@ pub mod Founds
 pub mod Pieces
 pub mod Ending
 pub mod Refusals
+pub mod Agreements
+pub mod Digits

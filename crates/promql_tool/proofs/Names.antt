@@ -6,7 +6,9 @@ use Rattle.std.specs.Str.{IsAscii, IsUtf8}
 use Rattle.std.proofs.lemmas.Bool.Decides.{nat_tests}
 use Rattle.std.proofs.lemmas.Str.Ascii.{IsAscii-nil, IsAscii-cons}
 use Rattle.std.proofs.lemmas.Str.{IsUtf8-from_ascii}
-use Rattle.promql_tool.specs.Tokens.{starts_name, continues_name, is_identifier, is_metric_name}
+use Rattle.promql_tool.specs.Tokens.{starts_name, continues_name, is_ascii, is_identifier, is_metric_name}
+use Rattle.std.proofs.lemmas.Bool.{ltb-true}
+use Rattle.std.proofs.Math.Dec.{ltb}
 
 pub and_left : (a b : Bool) → (a && b) ≡ true → a ≡ true
 and_left true b h = refl
@@ -34,3 +36,11 @@ identifier_ascii (b ∷ text) h =
 
 pub name_is_text : (text : List ℕ) → is_metric_name text ≡ true → IsUtf8 text
 name_is_text text h = IsUtf8-from_ascii text (identifier_ascii text (and_left (is_identifier text) _ h))
+
+bytes_ascii : (text : List ℕ) → is_ascii text ≡ true → IsAscii text
+bytes_ascii [] h = IsAscii-nil
+bytes_ascii (b ∷ text) h =
+    IsAscii-cons b text (ltb-true b 128 (and_left (ltb b 128) (is_ascii text) h)) (bytes_ascii text (and_right (ltb b 128) (is_ascii text) h))
+
+pub ascii_is_text : (text : List ℕ) → is_ascii text ≡ true → IsUtf8 text
+ascii_is_text text h = IsUtf8-from_ascii text (bytes_ascii text h)

@@ -1,9 +1,10 @@
 -- Lines of words, by their number.
-use Rattle.std.proofs.Common.{◌≡◌, ◌≢◌, ℕ, List, [], ◌∷◌, length, map, refl, None, Bor}
+use Rattle.std.proofs.Common.{◌≡◌, ◌≢◌, ℕ, List, [], ◌∷◌, length, map, refl, None, Err, Bor}
+use Rattle.promql_tool.specs.declared.script.WordRefusal.TheVariants.{NoForm}
 use Rattle.promql_tool.specs.Grammar.{head_worded, row_worded}
 
 module _ (f : Bor (List ℕ) → List ℕ) where
-  pub row_not_two : (words : List (Bor (List ℕ))) → length words ≢ 2 → row_worded (map f words) ≡ None
+  pub row_not_two : (words : List (Bor (List ℕ))) → length words ≢ 2 → row_worded (map f words) ≡ Err NoForm
   row_not_two [] h = refl
   row_not_two (a ∷ []) h = refl
   row_not_two (a ∷ b ∷ []) h = absurd (h refl)

@@ -2,20 +2,22 @@
 --
 -- A file's lines stand in blocks, parted by empty lines. The first line of a block is its command, the others are its
 -- body: series after `load`, results after `eval`. The first line that fits no form at its place is refused.
-use Rattle.std.specs.Prelude.{ℕ, Bool, true, false, if◌then◌else◌, List, [], ◌∷◌, ◌++◌, length, nat_lt, nat_le, ◌&&◌, Option, None, Some, Result, Ok, Err, ℤ, codes, bytes_eq, option_map}
+use Rattle.std.specs.Prelude.{ℕ, Bool, true, false, if◌then◌else◌, List, [], ◌∷◌, ◌++◌, length, nat_lt, nat_le, ◌&&◌, Option, None, Some, Result, Ok, Err, codes, bytes_eq, option_map}
 use Rattle.std.specs.List.{slice_split, list_any}
 use Rattle.std.specs.Ordering.{is_eq}
 use Rattle.label_set.specs.Labels.{labels_cmp, metric_name}
 use Rattle.promql_tool.specs.Lines.{Numbered, lines_of, words_of, is_empty}
-use Rattle.promql_tool.specs.Tokens.{item_of, duration_of, time_of, is_metric_name, milliseconds}
+use Rattle.promql_tool.specs.Tokens.{duration_of, is_metric_name, milliseconds, number_spelled, time_of}
 use Rattle.promql_tool.specs.Outcomes.{each_of, onto, then_give}
 use Rattle.ticks.specs.declared.Ms.{Ms}
 use Rattle.xfrac.specs.declared.value.XFrac.{XFrac}
-use Rattle.xfrac.specs.declared.value.XFrac.TheVariants.{Fin}
 use Rattle.promql_tool.specs.declared.script.ScriptRefusal.{ScriptRefusal}
-use Rattle.promql_tool.specs.declared.script.ScriptRefusal.TheVariants.{Malformed, TooLarge}
+use Rattle.promql_tool.specs.declared.script.ScriptRefusal.TheVariants.{Malformed, TooLarge, NumberRange}
+use Rattle.promql_tool.specs.declared.script.WordRefusal.{WordRefusal}
+use Rattle.promql_tool.specs.declared.script.WordRefusal.TheVariants.{NoForm, OutOfRange}
 use Rattle.promql_tool.specs.declared.script.Script.{Script}
 use Rattle.promql_tool.specs.declared.script.Command.{Command}
+use Rattle.promql_tool.specs.declared.script.What.{What}
 use Rattle.promql_tool.specs.declared.script.What.TheVariants.{Load, Eval}
 use Rattle.promql_tool.specs.declared.script.SeriesLine.{SeriesLine}
 use Rattle.promql_tool.specs.declared.script.Row.{Row}
@@ -28,41 +30,39 @@ LabelList = List (List ℕ × List ℕ)
 abbrev pub labels_named : List ℕ → LabelList
 labels_named name = (metric_name, name) ∷ []
 
--- the value of a whole number
-abbrev pub whole_value : ℤ → XFrac
-whole_value n = Fin (n, 1)
-
-abbrev pub value_spelled : List ℕ → Option XFrac
-value_spelled text = option_map whole_value (item_of text)
-
 -- the values of 1 to 1,000 items
-abbrev pub values_spelled : List (List ℕ) → Option (List XFrac)
-values_spelled items = if (nat_lt 0 (length items) && nat_le (length items) 1000) then each_of value_spelled items else None
+abbrev pub values_spelled : List (List ℕ) → Result (List XFrac) WordRefusal
+values_spelled items = if (nat_lt 0 (length items) && nat_le (length items) 1000) then each_of number_spelled items else Err NoForm
+
+-- the refusal of a line
+abbrev pub line_refusal : ℕ → WordRefusal → ScriptRefusal
+line_refusal line NoForm = Malformed line
+line_refusal line OutOfRange = NumberRange line
 
 -- what a line says, or the refusal of that line
-abbrev pub or_malformed : {X : Type 0} → ℕ → Option X → Result X ScriptRefusal
-or_malformed line None = Err (Malformed line)
-or_malformed line (Some x) = Ok x
+abbrev pub at_line : {X : Type 0} → ℕ → Result X WordRefusal → Result X ScriptRefusal
+at_line line (Ok x) = Ok x
+at_line line (Err refusal) = Err (line_refusal line refusal)
 
 -- a series: a metric's name and its items
-abbrev pub series_worded : ℕ → List (List ℕ) → Option SeriesLine
-series_worded line [] = None
+abbrev pub series_worded : ℕ → List (List ℕ) → Result SeriesLine WordRefusal
+series_worded line [] = Err NoForm
 series_worded line (name ∷ items) = if is_metric_name name
-    then option_map (λ values. record { line = line; labels = labels_named name; values = values }) (values_spelled items)
-    else None
+    then then_give (values_spelled items) (λ values. record { line = line; labels = labels_named name; values = values })
+    else Err NoForm
 
 abbrev pub series_of : Numbered → Result SeriesLine ScriptRefusal
-series_of line = or_malformed line.number (series_worded line.number (words_of line.text))
+series_of line = at_line line.number (series_worded line.number (words_of line.text))
 
 -- a result: a metric's name and one number
-abbrev pub row_worded : List (List ℕ) → Option Row
+abbrev pub row_worded : List (List ℕ) → Result Row WordRefusal
 row_worded (name ∷ item ∷ []) = if is_metric_name name
-    then option_map (λ value. record { labels = labels_named name; value = value }) (value_spelled item)
-    else None
-row_worded words = None
+    then then_give (number_spelled item) (λ value. record { labels = labels_named name; value = value })
+    else Err NoForm
+row_worded words = Err NoForm
 
 abbrev pub row_of : Numbered → Result Row ScriptRefusal
-row_of line = or_malformed line.number (row_worded (words_of line.text))
+row_of line = at_line line.number (row_worded (words_of line.text))
 
 -- whether labels stand in a list
 abbrev pub stands_in : List LabelList → LabelList → Bool

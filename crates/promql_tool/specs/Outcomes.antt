@@ -1,15 +1,5 @@
 -- Steps that may refuse: the first refusal is the answer. (This project's own.)
-use Rattle.std.specs.Prelude.{List, [], ◌∷◌, Option, None, Some, Result, Ok, Err}
-
--- what each item gives, where each gives something
-abbrev pub each_of : {X Y : Type 0} → (X → Option Y) → List X → Option (List Y)
-each_of read [] = Some []
-each_of {X} {Y} read (x ∷ xs) = joined (read x) (each_of read xs)
-  where
-    joined : Option Y → Option (List Y) → Option (List Y)
-    joined None ys = None
-    joined (Some y) None = None
-    joined (Some y) (Some ys) = Some (y ∷ ys)
+use Rattle.std.specs.Prelude.{List, [], ◌∷◌, Result, Ok, Err}
 
 -- an item before others, or the first refusal
 abbrev pub onto : {X E : Type 0} → Result X E → Result (List X) E → Result (List X) E
@@ -21,3 +11,8 @@ onto (Ok x) (Ok xs) = Ok (x ∷ xs)
 abbrev pub then_give : {X Y E : Type 0} → Result X E → (X → Y) → Result Y E
 then_give (Err refusal) make = Err refusal
 then_give (Ok x) make = Ok (make x)
+
+-- what each item gives, or the first refusal
+abbrev pub each_of : {X Y E : Type 0} → (X → Result Y E) → List X → Result (List Y) E
+each_of read [] = Ok []
+each_of read (x ∷ xs) = onto (read x) (each_of read xs)

@@ -1,16 +1,14 @@
 -- What a run prints, and its status. (This project's own, after promqltest.)
 use Rattle.std.specs.Prelude.{ℕ, Bool, true, if◌then◌else◌, ◌==◌, ◌&&◌, ◌||◌, not, List, [], ◌∷◌, ◌++◌, Option, None, Some, Result, Ok, Err, codes, decimal, bytes_eq, count_by, is_none}
-use Rattle.std.specs.Fmt.{signed_decimal}
 use Rattle.std.specs.List.{flat_map}
+use Rattle.frac_text.specs.Spellings.{spelling}
 use Rattle.label_set.specs.LabelText.{labels_text}
-use Rattle.xfrac.specs.declared.value.XFrac.{XFrac}
-use Rattle.xfrac.specs.declared.value.XFrac.TheVariants.{Fin, PosInf, NegInf, NaN}
 use Rattle.promql_tool.specs.Lines.{is_empty}
 use Rattle.promql_tool.specs.Grammar.{reading}
 use Rattle.promql_tool.specs.Verdicts.{verdicts_of}
 use Rattle.promql_tool.specs.declared.script.Script.{Script}
 use Rattle.promql_tool.specs.declared.script.ScriptRefusal.{ScriptRefusal}
-use Rattle.promql_tool.specs.declared.script.ScriptRefusal.TheVariants.{Malformed, TooLarge}
+use Rattle.promql_tool.specs.declared.script.ScriptRefusal.TheVariants.{Malformed, TooLarge, NumberRange}
 use Rattle.promql_tool.specs.declared.verdict.Reason.{Reason}
 use Rattle.promql_tool.specs.declared.verdict.Reason.TheVariants.{Missing, Extra, Differs}
 use Rattle.promql_tool.specs.declared.verdict.Verdict.{Verdict}
@@ -28,17 +26,10 @@ path_of words = None
 abbrev pub usage : List ℕ
 usage = codes "usage: promqltest [options] FILE.. or query [options] FILE EXPR\n"
 
--- a number's text; the numbers of a script are whole so far
-abbrev pub number_text : XFrac → List ℕ
-number_text (Fin v) = signed_decimal v.0
-number_text PosInf = codes "+Inf"
-number_text NegInf = codes "-Inf"
-number_text NaN = codes "NaN"
-
 abbrev pub reason_text : Reason → List ℕ
 reason_text (Missing labels) = codes "missing " ++ labels_text labels
 reason_text (Extra labels) = codes "unexpected series " ++ labels_text labels
-reason_text (Differs labels wanted got) = labels_text labels ++ (codes " expected " ++ (number_text wanted ++ (codes " got " ++ number_text got)))
+reason_text (Differs labels wanted got) = labels_text labels ++ (codes " expected " ++ (spelling wanted ++ (codes " got " ++ spelling got)))
 
 -- `<word> <path>:<line>`, and what stands behind it
 abbrev pub placed : List ℕ → List ℕ → ℕ → List ℕ → List ℕ
@@ -68,10 +59,12 @@ totals_text passed failed = codes "passed " ++ (decimal passed ++ (codes " faile
 abbrev pub refused_line : ScriptRefusal → ℕ
 refused_line (Malformed line) = line
 refused_line TooLarge = 0
+refused_line (NumberRange line) = line
 
 abbrev pub refusal_name : ScriptRefusal → List ℕ
 refusal_name (Malformed line) = codes "Malformed"
 refusal_name TooLarge = codes "TooLarge"
+refusal_name (NumberRange line) = codes "NumberRange"
 
 abbrev pub refusal_text : List ℕ → ScriptRefusal → List ℕ
 refusal_text path refusal = placed (codes "REFUSED") path (refused_line refusal) (codes " " ++ (refusal_name refusal ++ codes "\n"))

@@ -1,20 +1,37 @@
 -- What a word of a script spells. (The promqltest format and the PromQL grammar, in their part that is read so far.)
-use Rattle.std.specs.Prelude.{ℕ, ◌*◌, ◌-◌, Bool, false, if◌then◌else◌, List, [], ◌∷◌, length, take, ◌==◌, ◌||◌, ◌&&◌, nat_lt, nat_le, not, map, Option, None, Some, ℤ, pos, neg_ℤ, codes, slice_index, bytes_eq, option_map, option_and_then}
-use Rattle.std.specs.Char.{is_ascii_digit, is_ascii_alphabetic, is_ascii_alphanumeric, to_ascii_lowercase}
+use Rattle.std.specs.Prelude.{ℕ, ◌*◌, ◌-◌, Bool, false, if◌then◌else◌, List, [], ◌∷◌, length, take, ◌==◌, ◌||◌, ◌&&◌, nat_lt, nat_le, not, map, Option, None, Some, Result, Ok, Err, pos, codes, slice_index, bytes_eq, option_and_then}
 use Rattle.ticks.specs.declared.Ms.{Ms}
+use Rattle.std.specs.Char.{is_ascii_digit, is_ascii_alphabetic, is_ascii_alphanumeric, to_ascii_lowercase}
 use Rattle.std.specs.List.{list_all, list_any}
 use Rattle.std.specs.Str.Parse.{digits_value}
+use Rattle.frac_text.specs.Readings.{script_answer}
+use Rattle.frac_text.specs.declared.refusal.NumberRefusal.{NumberRefusal}
+use Rattle.frac_text.specs.declared.refusal.NumberRefusal.TheVariants.{BadNumber, NumberRange, LeadingZero}
+use Rattle.xfrac.specs.declared.value.XFrac.{XFrac}
+use Rattle.promql_tool.specs.declared.script.WordRefusal.{WordRefusal}
+use Rattle.promql_tool.specs.declared.script.WordRefusal.TheVariants.{NoForm, OutOfRange}
+
+-- a byte above 127 stands in no number
+abbrev pub is_ascii : List ℕ → Bool
+is_ascii text = list_all (λ byte. nat_lt byte 128) text
+
+-- a number beyond the limits is told apart from what is no number
+abbrev pub refused_as : NumberRefusal → WordRefusal
+refused_as NumberRange = OutOfRange
+refused_as BadNumber = NoForm
+refused_as LeadingZero = NoForm
+
+abbrev pub spelled_or_refused : Result XFrac NumberRefusal → Result XFrac WordRefusal
+spelled_or_refused (Ok value) = Ok value
+spelled_or_refused (Err refusal) = Err (refused_as refusal)
+
+-- a number of the script format: a decimal number, Inf or NaN, with an optional sign
+abbrev pub number_spelled : List ℕ → Result XFrac WordRefusal
+number_spelled text = if is_ascii text then spelled_or_refused (script_answer text) else Err NoForm
 
 -- the number of 1 to `most` decimal digits
 abbrev pub digits_within : ℕ → List ℕ → Option ℕ
 digits_within most text = if (list_all is_ascii_digit text && (nat_lt 0 (length text) && nat_le (length text) most)) then Some (digits_value 10 text) else None
-
--- an item: 1 to 18 digits with an optional minus sign
-abbrev pub item_of : List ℕ → Option ℤ
-item_of [] = None
-item_of (first ∷ rest) = if first == 45
-    then option_map (λ n. neg_ℤ (pos n)) (digits_within 18 rest)
-    else option_map (λ n. pos n) (digits_within 18 (first ∷ rest))
 
 -- the milliseconds of a unit: seconds or minutes
 abbrev pub unit_of : ℕ → Option ℕ

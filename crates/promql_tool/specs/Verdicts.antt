@@ -1,6 +1,7 @@
 -- Whether a result is as expected, and the first reason why it isn't. (The rules of promqltest; the reasons and their
 -- order are this project's own.)
-use Rattle.std.specs.Prelude.{ℕ, Bool, false, if◌then◌else◌, not, List, [], ◌∷◌, ◌++◌, map, filter, Option, None, Some, find, is_none, option_map}
+use Rattle.std.specs.Prelude.{ℕ, Bool, false, if◌then◌else◌, not, List, [], ◌∷◌, ◌++◌, map, filter, Option, None, Some, find, is_none, option_map, IsTrue, IsSome, IsSomeAnd}
+use Rattle.std.specs.List.{AllByRecursion}
 use Rattle.std.specs.Ordering.{is_eq, is_gt}
 use Rattle.label_set.specs.Labels.{labels_cmp}
 use Rattle.xfrac.specs.declared.value.XFrac.{XFrac}
@@ -73,3 +74,12 @@ verdicts_after loaded (command ∷ commands) = verdicts_headed loaded command.li
 -- the verdict of each evaluation of a script, over the samples that were loaded before it
 abbrev pub verdicts_of : Script → List Verdict
 verdicts_of script = verdicts_after [] script.commands
+
+-- an expected row is there, with a near value
+abbrev pub IsMet : List Row → Row → Type 0
+IsMet got row = IsSomeAnd (value_under row.labels got) (λ value. IsTrue (is_near row.value value))
+
+-- Rows are as expected: each expected row is there with a near value, and no row is there that isn't expected.
+pub record Agrees (expected got : List Row) : Type 0 where
+  pub each : AllByRecursion (IsMet got) expected
+  pub no_other : AllByRecursion (λ (row : Row). IsSome (value_under row.labels expected)) got

@@ -2,6 +2,7 @@
 #![tactic(auto)]
 
 mod fetch;
+mod law;
 mod line;
 mod print;
 mod read;
@@ -13,6 +14,7 @@ mod token;
 mod tool;
 mod verdict;
 
+pub use law::passes_exactly_where_rows_agree;
 pub use print::Status;
 pub use script::{Command, Row, Script, ScriptRefusal, SeriesLine, What};
 pub use tool::run_tool;

@@ -1,16 +1,16 @@
 //! Reading a script from the bytes of a file.
-ghost use Rattle.promql_tool.specs.Grammar.{body_after, command_headed, asks_instant, commands_of, eval_worded, head_worded, load_worded, labels_named, LabelList, eval_of, has_no_text, load_of, limit, or_malformed, reading, row_of, row_worded, rows, script_of, series_lines, series_of, series_worded, value_spelled, values_spelled};
+ghost use Rattle.promql_tool.specs.Grammar.{body_after, command_headed, asks_instant, commands_of, eval_worded, head_worded, load_worded, labels_named, LabelList, eval_of, has_no_text, load_of, limit, line_refusal, reading, row_of, row_worded, rows, script_of, series_lines, series_of, series_worded, values_spelled};
 ghost use Rattle.promql_tool.specs.Lines.{Numbered, words_of};
 ghost use Rattle.std.specs.List.{slice_split};
 ghost use Rattle.promql_tool.specs.declared.script.ScriptRefusal.{ScriptRefusal};
 ghost use Rattle.promql_tool.specs.Readings.{Gives, head_seen, run_of};
 ghost use Rattle.promql_tool.specs.Tokens.{is_metric_name};
 ghost use Rattle.promql_tool.specs.Views.{numbered};
-ghost use Rattle.std.specs.Prelude.{◌≡◌, ◌≤◌, ◌<◌, ◌^◌, [], Err, false, true, length, map, option_map, IfOk, List, MatchOption, MatchResult, Result};
+ghost use Rattle.std.specs.Prelude.{◌≡◌, ◌≤◌, ◌<◌, ◌^◌, [], Err, Ok, false, true, length, map, option_map, IfOk, List, MatchOption, MatchResult, Result};
 
 use crate::line::{Line, lines_in, words_in};
-use crate::script::{Command, Row, Script, ScriptRefusal, SeriesLine, What};
-use crate::token::{is_metric_name, read_duration, read_item, read_time};
+use crate::script::{Command, Row, Script, ScriptRefusal, SeriesLine, What, WordRefusal};
+use crate::token::{is_metric_name, read_duration, read_number, read_time};
 use holders::{Items, Text};
 use label_set::{Labels, METRIC_NAME};
 use std::alloc::{AllocError, AllocFailed, Global};
@@ -18,7 +18,7 @@ use std::collections::BTreeSet;
 use std::str;
 use thiserror::Error;
 use ticks::Ms;
-use xfrac::{XFrac, whole};
+use xfrac::XFrac;
 
 /// The most bytes of a file.
 pub const LIMIT: usize = 65536;
@@ -65,6 +65,16 @@ enum Head<'a> {
     Evaluates(Ms, &'a str),
 }
 
+/// A line that is refused for a word.
+fn refused<T>(line: u32, refusal: WordRefusal) -> Result<T, ReadFault>
+    ensures { result ≡ Err (ReadFault.Refused (line_refusal line refusal)) }
+{
+    match refusal {
+        WordRefusal::NoForm => Err(ReadFault::Refused(ScriptRefusal::Malformed(line))),
+        WordRefusal::OutOfRange => Err(ReadFault::Refused(ScriptRefusal::NumberRange(line))),
+    }
+}
+
 fn malformed<T>(line: Line<'_>) -> Result<T, ReadFault>
     ensures { result ≡ Err (ReadFault.Refused (ScriptRefusal.Malformed line.entry.number)) }
 {
@@ -97,56 +107,63 @@ fn labels_named(alloc: Global, name: &str) -> Result<Labels, AllocError>
     }
 }
 
-fn read_values(alloc: Global, words: &[&[u8]]) -> Result<Option<Items<XFrac>>, AllocError>
+/// The values of items, or why the first of them that is refused isn't taken.
+type Values = Result<Items<XFrac>, WordRefusal>;
+
+fn read_values(alloc: Global, words: &[&[u8]]) -> Result<Values, AllocError>
     ensures { IfOk result (λ values. values ≡ values_spelled (map (λ word. word.now) words.now)) }
 {
     if words.is_empty() || words.len() > MOST_ITEMS {
-        return Ok(None);
+        return Ok(Err(WordRefusal::NoForm));
     }
     let mut values = Items::new(alloc);
     for word in words {
-        match read_item(word) {
-            Some(n) => values.push(whole(n))?,
-            None => return Ok(None),
+        match read_number(word) {
+            Ok(value) => values.push(value)?,
+            Err(refusal) => return Ok(Err(refusal)),
         }
     }
-    Ok(Some(values))
+    Ok(Ok(values))
 }
 
-fn series_in(alloc: Global, line: u32, words: &[&[u8]]) -> Result<Option<SeriesLine>, AllocError>
+fn series_in(
+    alloc: Global,
+    line: u32,
+    words: &[&[u8]],
+) -> Result<Result<SeriesLine, WordRefusal>, AllocError>
     ensures { IfOk result (λ series. series ≡ series_worded line (map (λ word. word.now) words.now)) }
 {
     let [name, items @ ..] = words else {
-        return Ok(None);
+        return Ok(Err(WordRefusal::NoForm));
     };
     let Some(name) = metric_name(name) else {
-        return Ok(None);
+        return Ok(Err(WordRefusal::NoForm));
     };
     match read_values(alloc, items)? {
-        Some(values) => Ok(Some(SeriesLine {
+        Ok(values) => Ok(Ok(SeriesLine {
             line,
             labels: labels_named(alloc, name)?,
             values,
         })),
-        None => Ok(None),
+        Err(refusal) => Ok(Err(refusal)),
     }
 }
 
-fn row_in(alloc: Global, words: &[&[u8]]) -> Result<Option<Row>, AllocError>
+fn row_in(alloc: Global, words: &[&[u8]]) -> Result<Result<Row, WordRefusal>, AllocError>
     ensures { IfOk result (λ row. row ≡ row_worded (map (λ word. word.now) words.now)) }
 {
     if words.len() != 2 {
-        return Ok(None);
+        return Ok(Err(WordRefusal::NoForm));
     }
     let Some(name) = metric_name(words[0]) else {
-        return Ok(None);
+        return Ok(Err(WordRefusal::NoForm));
     };
-    match read_item(words[1]) {
-        Some(n) => Ok(Some(Row {
+    match read_number(words[1]) {
+        Ok(value) => Ok(Ok(Row {
             labels: labels_named(alloc, name)?,
-            value: whole(n),
+            value,
         })),
-        None => Ok(None),
+        Err(refusal) => Ok(Err(refusal)),
     }
 }
 
@@ -173,8 +190,8 @@ impl BodyLine for SeriesLine {
     fn read(alloc: Global, line: Line<'_>) -> Result<SeriesLine, ReadFault> {
         let words = words_in(alloc, line.text)?;
         match series_in(alloc, line.number, &words)? {
-            Some(series) => Ok(series),
-            None => malformed(line),
+            Ok(series) => Ok(series),
+            Err(refusal) => refused(line.number, refusal),
         }
     }
 
@@ -191,8 +208,8 @@ impl BodyLine for Row {
     fn read(alloc: Global, line: Line<'_>) -> Result<Row, ReadFault> {
         let words = words_in(alloc, line.text)?;
         match row_in(alloc, &words)? {
-            Some(row) => Ok(row),
-            None => malformed(line),
+            Ok(row) => Ok(row),
+            Err(refusal) => refused(line.number, refusal),
         }
     }
 

@@ -14,6 +14,18 @@ pub enum ScriptRefusal {
     /// The file has more than 65,536 bytes.
     #[error("the file is too large")]
     TooLarge,
+    /// A number of the line is outside the limits.
+    #[error("line {0} has a number outside the limits")]
+    NumberRange(u32),
+}
+
+/// Why a word isn't taken.
+#[derive(Clone, Copy, Debug, PartialEq, Eq)]
+pub enum WordRefusal {
+    /// It has no form that is taken at its place.
+    NoForm,
+    /// It is a number outside the limits.
+    OutOfRange,
 }
 
 /// A script: its commands in the order of their lines.

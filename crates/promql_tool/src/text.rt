@@ -1,28 +1,13 @@
 //! The lines of a report.
-ghost use Rattle.promql_tool.specs.Report.{fault_text, number_text, reason_text, refusal_name, refusal_text, refused_line, totals_text, verdict_text};
+ghost use Rattle.promql_tool.specs.Report.{fault_text, reason_text, refusal_name, refusal_text, refused_line, totals_text, verdict_text};
 ghost use Rattle.std.specs.Prelude.{◌≡◌, ◌++◌, string_bytes, IfOk, OnOk};
 
 use crate::script::ScriptRefusal;
 use crate::verdict::{Reason, Verdict};
+use frac_text::write_number;
 use std::alloc::{AllocError, Global};
-use xfrac::{XFrac, parts};
 
-fn append_number(alloc: Global, value: &XFrac, into: &mut Vec<u8>) -> Result<(), AllocError>
-    ensures { OnOk result (into.new.items ≡ into.old.items ++ number_text value.now) }
-{
-    match value {
-        XFrac::Fin(fraction) => {
-            let (numerator, _) = parts(fraction);
-            let text = format!(in alloc; "{numerator}")?;
-            into.extend_from_slice(text.as_bytes())
-        }
-        XFrac::PosInf => into.extend_from_slice(b"+Inf"),
-        XFrac::NegInf => into.extend_from_slice(b"-Inf"),
-        XFrac::NaN => into.extend_from_slice(b"NaN"),
-    }
-}
-
-fn append_reason(alloc: Global, reason: &Reason, into: &mut Vec<u8>) -> Result<(), AllocError>
+fn append_reason(reason: &Reason, into: &mut Vec<u8>) -> Result<(), AllocError>
     ensures { OnOk result (into.new.items ≡ into.old.items ++ reason_text reason.now) }
 {
     match reason {
@@ -41,9 +26,9 @@ fn append_reason(alloc: Global, reason: &Reason, into: &mut Vec<u8>) -> Result<(
         } => {
             labels.write(into)?;
             into.extend_from_slice(b" expected ")?;
-            append_number(alloc, wanted, into)?;
+            write_number(wanted, into)?;
             into.extend_from_slice(b" got ")?;
-            append_number(alloc, got, into)
+            write_number(got, into)
         }
     }
 }
@@ -57,7 +42,7 @@ pub fn verdict_line(alloc: Global, path: &str, verdict: &Verdict) -> Result<Vec<
         None => Ok(format!(in alloc; "PASS {path}:{line}\n")?.into_bytes()),
         Some(reason) => {
             let mut text = format!(in alloc; "FAIL {path}:{line} ")?.into_bytes();
-            append_reason(alloc, reason, &mut text)?;
+            append_reason(reason, &mut text)?;
             text.extend_from_slice(b"\n")?;
             Ok(text)
         }
@@ -71,6 +56,7 @@ fn refused_line(refusal: ScriptRefusal) -> u32
     match refusal {
         ScriptRefusal::Malformed(line) => line,
         ScriptRefusal::TooLarge => 0,
+        ScriptRefusal::NumberRange(line) => line,
     }
 }
 
@@ -80,6 +66,7 @@ fn refusal_name(refusal: ScriptRefusal) -> &'static str
     match refusal {
         ScriptRefusal::Malformed(_) => "Malformed",
         ScriptRefusal::TooLarge => "TooLarge",
+        ScriptRefusal::NumberRange(_) => "NumberRange",
     }
 }
 

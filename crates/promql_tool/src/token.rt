@@ -1,13 +1,52 @@
 //! What a word of a script spells.
-ghost use Rattle.promql_tool.specs.Tokens.{digits_within, duration_of, is_identifier, is_metric_name, is_reserved, item_of, milliseconds, time_of, unit_of, starts_name, continues_name};
+ghost use Rattle.promql_tool.specs.Tokens.{continues_name, digits_within, duration_of, is_ascii, is_identifier, is_metric_name, is_reserved, milliseconds, number_spelled, starts_name, time_of, unit_of};
 ghost use Rattle.std.specs.Char.{to_ascii_lowercase};
 ghost use Rattle.std.specs.List.{list_all};
-ghost use Rattle.std.specs.Prelude.{◌≡◌, ◌<◌, ◌≤◌, ◌^◌, ◌*◌, map, option_map, pos, bytes_eq, IfSome};
+ghost use Rattle.std.specs.Prelude.{◌≡◌, ◌<◌, ◌≤◌, ◌^◌, false, true, map, option_map, bytes_eq, IfSome, MatchOption};
 
+use crate::script::WordRefusal;
+use frac_text::{NumberRefusal, read_script_number};
+use std::str;
 use ticks::Ms;
+use xfrac::XFrac;
 
 /// The longest metric name, in bytes.
 const LONGEST_NAME: usize = 4096;
+
+fn is_ascii(word: &[u8]) -> bool
+    ensures { result ≡ is_ascii word.now }
+{
+    word.iter().all(|byte| *byte < 128)
+}
+
+/// The word as a text, unless it has a byte above 127.
+fn ascii_text(word: &[u8]) -> Option<&str>
+    ensures { MatchOption result (is_ascii word.now ≡ false) (λ text. (text.now ≡ word.now) × (is_ascii word.now ≡ true)) }
+{
+    if !is_ascii(word) {
+        return None;
+    }
+    match str::from_utf8(word) {
+        Ok(text) => Some(text),
+        Err(_) => None,
+    }
+}
+
+/// A number of the script format. `OutOfRange` comes exactly where it is outside the limits, `NoForm` where the word is
+/// no number.
+pub fn read_number(word: &[u8]) -> Result<XFrac, WordRefusal>
+    ensures { result ≡ number_spelled word.now }
+{
+    let Some(text) = ascii_text(word) else {
+        return Err(WordRefusal::NoForm);
+    };
+    match read_script_number(text) {
+        Ok(value) => Ok(value),
+        Err(NumberRefusal::NumberRange) => Err(WordRefusal::OutOfRange),
+        Err(NumberRefusal::BadNumber) => Err(WordRefusal::NoForm),
+        Err(NumberRefusal::LeadingZero) => Err(WordRefusal::NoForm),
+    }
+}
 
 fn digits(text: &[u8], most: usize) -> Option<u64>
     requires { most ≤ 18 }
@@ -25,22 +64,6 @@ fn digits(text: &[u8], most: usize) -> Option<u64>
         value = value * 10 + u64::from(*digit - b'0');
     }
     Some(value)
-}
-
-/// A number of 1 to 18 digits with an optional minus sign.
-pub fn read_item(text: &[u8]) -> Option<i64>
-    ensures { result ≡ item_of text.now }
-{
-    match text {
-        [b'-', rest @ ..] => match digits(rest, 18) {
-            Some(n) => Some(-(n as i64)),
-            None => None,
-        },
-        _ => match digits(text, 18) {
-            Some(n) => Some(n as i64),
-            None => None,
-        },
-    }
 }
 
 fn unit(byte: u8) -> Option<u64>

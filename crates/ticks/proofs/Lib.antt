@@ -1,3 +1,5 @@
 pub mod Pairs
 pub mod Spelled
 pub mod Written
+pub mod Steps
+pub mod Walks

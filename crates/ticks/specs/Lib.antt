@@ -2,4 +2,7 @@ pub mod Durations
 pub mod Grids
 pub mod Runs
 pub mod Spellings
+pub mod Steps
 pub mod Units
+pub mod Walks
+pub mod Works

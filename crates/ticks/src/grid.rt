@@ -1,6 +1,7 @@
-ghost use Rattle.std.specs.Prelude.{◌≡◌, ◌<◌, ◌≤◌, ◌+◌, IfOk, IsErrOf};
-ghost use Rattle.ticks.specs.Grids.{IsInRange, step_count};
+ghost use Rattle.std.specs.Prelude.{◌≡◌, ◌<◌, ◌≤◌, ◌<ℤ◌, ◌≤ℤ◌, ◌+◌, ℤ, IfNone, IfOk, IfSome, IsErrOf};
+ghost use Rattle.ticks.specs.Grids.{IsInRange, IsOnGrid, step_count};
 
+use crate::step::step_after;
 use crate::{Ms, TickRefusal};
 
 /// No time is further from 0 than this.
@@ -50,6 +51,25 @@ impl Grid {
         ensures few { result ≤ 11000 }
     {
         count_of(self.start, self.end, self.step) as u32
+    }
+
+    /// The least instant of the grid that is later than a time.
+    pub(crate) fn after(&self, t: Ms) -> Option<Ms>
+        ensures instant { IfSome result (λ at. IsOnGrid self.now.start.0 self.now.end.0 self.now.step.0 at.0) }
+        ensures later { IfSome result (λ at. t.0 <ℤ at.0) }
+        ensures least { IfSome result (λ at. (u : ℤ) → IsOnGrid self.now.start.0 self.now.end.0 self.now.step.0 u → t.0 <ℤ u → at.0 ≤ℤ u) }
+        ensures none { IfNone result ((u : ℤ) → IsOnGrid self.now.start.0 self.now.end.0 self.now.step.0 u → t.0 <ℤ u → ⊥) }
+    {
+        if self.end.0 <= t.0 {
+            return None;
+        }
+        if t.0 < self.start.0 {
+            return Some(self.start);
+        }
+        match step_after(self.start.0, self.step.0, t.0, self.end.0) {
+            None => None,
+            Some(at) => Some(Ms(at)),
+        }
     }
 }
 

@@ -6,8 +6,10 @@ mod law;
 mod moment;
 mod read;
 mod refusal;
+mod step;
 mod unit;
 mod walk;
+mod work;
 mod write;
 
 pub use grid::Grid;
@@ -17,6 +19,7 @@ pub use read::read_duration;
 pub use refusal::TickRefusal;
 pub use std::alloc::AllocError as Memory;
 pub use walk::{Walk, WalkMoment};
+pub use work::Work;
 pub use write::write_duration;
 
 #[cfg(test)]

@@ -1,6 +1,10 @@
+ghost use Rattle.std.specs.Prelude.{◌<◌, IfOk};
+ghost use Rattle.ticks.specs.Walks.{LeadsToTimes};
+
 use crate::TickRefusal::{BadDuration, OutOfRange, TooManySteps};
 use crate::{Grid, Ms, Walk, WalkMoment, read_duration, spellings_are_durations, write_duration};
 use holders::Boxed;
+use std::alloc::{AllocError, Global};
 use std::test::Fail;
 
 #[test]
@@ -120,5 +124,94 @@ fn walks_are_copied_whole(rt: HostRuntime) -> Result<(), Fail> {
         step: Ms(10),
     };
     assert!(rt; walk.copy(rt.alloc())? == walk);
+    Ok(())
+}
+
+/// The walk of a subquery over a grid.
+fn subquery(
+    alloc: Global,
+    grid: Grid,
+    offset: i32,
+    range: u16,
+    step: u16,
+) -> Result<Walk, AllocError>
+    requires range { 0 < range }
+    requires step { 0 < step }
+    ensures { IfOk result (λ walk. LeadsToTimes walk) }
+{
+    let outer = Boxed::new(alloc, Walk::Grid(grid))?;
+    Ok(Walk::Multiples {
+        outer,
+        moment: WalkMoment {
+            fixed: None,
+            offset: Ms(offset as i64),
+        },
+        range: Ms(range as i64),
+        step: Ms(step as i64),
+    })
+}
+
+/// The instants of a walk, each with a space before it; of more than 64 the first ones.
+fn listed(alloc: Global, walk: &Walk) -> Result<String, AllocError>
+    requires { LeadsToTimes walk.now }
+{
+    let mut text = String::new(alloc);
+    let mut instant = walk.first();
+    for _ in 0..64 {
+        if let Some(at) = instant {
+            let milliseconds = at.0;
+            text.push_str(format!(in alloc; " {milliseconds}")?.as_str())?;
+            instant = walk.after(at);
+        }
+    }
+    Ok(text)
+}
+
+#[test]
+fn subqueries_walk_over_multiples(rt: HostRuntime) -> Result<(), Fail> {
+    // each list is a plain enumeration of the times, made elsewhere
+    let rows = [
+        (0, 60, 20, 0, 30, 10, " -20 -10 0 10 20 30 40 50 60"),
+        (0, 60, 20, 0, 20, 10, " -10 0 10 20 30 40 50 60"),
+        (0, 60, 20, 0, 10, 10, " 0 20 40 60"),
+        (0, 60, 20, 5, 10, 10, " -10 10 30 50"),
+        (0, 60, 20, 0, 5, 10, " 0 20 40 60"),
+        (3, 63, 20, 0, 5, 10, " 0 20 40 60"),
+        (3, 63, 20, 0, 4, 10, " 0 20 40 60"),
+        (3, 63, 20, 0, 3, 10, ""),
+        (7, 67, 30, 0, 100, 25, " -75 -50 -25 0 25 50"),
+        (-50, 50, 25, 0, 25, 20, " -60 -40 -20 0 20 40"),
+        (-50, 50, 25, -13, 25, 20, " -60 -40 -20 0 20 40 60"),
+        (-1, 1, 1, 0, 1, 1, " -1 0 1"),
+        (-1, 1, 1, 0, 2, 1, " -2 -1 0 1"),
+        (
+            0,
+            100,
+            7,
+            3,
+            9,
+            6,
+            " -6 0 6 12 18 24 30 36 42 48 54 60 66 72 78 84 90",
+        ),
+        (0, 100, 7, 3, 2, 6, " 18 24 60 66"),
+        (0, 100, 13, -40, 1, 11, " 66"),
+        (5, 5, 1, 0, 50, 10, " -40 -30 -20 -10 0"),
+        (5, 5, 1, 0, 5, 10, ""),
+        (5, 5, 1, 0, 6, 10, " 0"),
+        (-97, -17, 16, 8, 21, 17, " -119 -102 -85 -68 -51 -34"),
+        (0, 90, 45, 0, 10, 30, " 0 90"),
+        (0, 90, 45, 10, 200, 40, " -200 -160 -120 -80 -40 0 40 80"),
+        (1, 2, 1, 0, 1, 50, ""),
+        (1, 9, 1, 0, 1, 3, " 3 6 9"),
+    ];
+    for (start, end, step, offset, range, multiple, instants) in rows {
+        if let Ok(grid) = Grid::of(Ms(start), Ms(end), Ms(step)) {
+            assert!(rt; 0 < range && 0 < multiple);
+            let walk = subquery(rt.alloc(), grid, offset, range, multiple)?;
+            assert_eq!(rt; listed(rt.alloc(), &walk)?.as_str(), instants);
+        } else {
+            assert!(rt; false);
+        }
+    }
     Ok(())
 }

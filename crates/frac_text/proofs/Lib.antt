@@ -1,0 +1,9 @@
+pub mod Answered
+pub mod Caps
+pub mod Hexadecimals
+pub mod Lowest
+pub mod Numbers
+pub mod Signed
+pub mod Splits
+pub mod Values
+pub mod Written

@@ -1,0 +1,27 @@
+-- The one spelling of a number that is written. It is this project's own: a plain decimal where it ends, else a fraction.
+use Rattle.std.specs.Prelude.{ℕ, zero, suc, ◌+◌, ◌*◌, ◌/◌, ◌%◌, ◌^◌, ℤ, pos, negsuc, unsigned_abs, ◌==◌, if◌then◌else◌, List, [], ◌∷◌, ◌++◌, decimal, codes}
+use Rattle.xfrac.specs.declared.value.XFrac.{XFrac}
+use Rattle.xfrac.specs.declared.value.XFrac.TheVariants.{Fin, PosInf, NegInf, NaN}
+
+-- the digits of r/d after the point, by long division: as many as stand before nothing is left, and at most so many
+unfoldable pub places : ℕ → ℕ → ℕ → List ℕ
+places zero r d = []
+places (suc more) r d = if r == 0 then [] else (48 + r * 10 / d) ∷ places more (r * 10 % d) d
+
+-- a number below 1 as what stands after the whole digits
+abbrev pub tail : ℕ → ℕ → List ℕ
+tail r d = if r == 0 then [] else codes "." ++ places 100 r d
+
+-- m/d as a decimal where that ends, which it does by the 100th place if it ever does, else as a fraction
+abbrev pub magnitude_text : ℕ → ℕ → List ℕ
+magnitude_text m d = if m % d * 10 ^ 100 % d == 0 then decimal (m / d) ++ tail (m % d) d else decimal m ++ (codes "/" ++ decimal d)
+
+abbrev pub sign : ℤ → List ℕ
+sign (pos n) = []
+sign (negsuc n) = codes "-"
+
+abbrev pub spelling : XFrac → List ℕ
+spelling (Fin f) = sign f.0 ++ magnitude_text (unsigned_abs f.0) f.1
+spelling PosInf = codes "+Inf"
+spelling NegInf = codes "-Inf"
+spelling NaN = codes "NaN"

@@ -1,0 +1,10 @@
+//! The names of PromQL: set operators, functions and aggregations, and what a function's name stands for.
+#![tactic(auto)]
+
+mod names;
+mod table;
+#[cfg(test)]
+mod tests;
+
+pub use names::{find, listed_names_are_found};
+pub use table::{Aggregate, Element, Found, Func, SetOp, Window};

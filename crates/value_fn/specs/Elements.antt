@@ -1,0 +1,83 @@
+-- The element functions. (The Prometheus querying documentation, on exact numbers: the order of the operations, and so where they overflow, is this project's own.)
+use Rattle.std.specs.Prelude.{◌≡◌, pos, ◌||◌, false, Option, Some, None, Result, Ok, Err, if◌then◌else◌}
+use Rattle.std.specs.declared.cmp.Ordering.{Ordering}
+use Rattle.std.specs.declared.cmp.Ordering.TheVariants.{Less, Equal, Greater}
+use Rattle.func_table.specs.declared.table.Element.{Element}
+use Rattle.func_table.specs.declared.table.Element.TheVariants.{Abs, Ceil, Floor, Round, Sgn, Neg, Clamp, ClampMin, ClampMax}
+use Rattle.xfrac.specs.Arithmetic.{arithmetic, whole_number}
+use Rattle.xfrac.specs.Forming.{negated, magnitude, floor_of, ceiling_of}
+use Rattle.xfrac.specs.Kinds.{is_not_a_number}
+use Rattle.xfrac.specs.Order.{compares, total_order}
+use Rattle.xfrac.specs.declared.value.ArithOp.TheVariants.{Add, Mul, Div}
+use Rattle.xfrac.specs.declared.value.CompareOp.TheVariants.{Lt, Gt}
+use Rattle.xfrac.specs.declared.value.NumFault.{NumFault}
+use Rattle.xfrac.specs.declared.value.XFrac.{XFrac}
+use Rattle.xfrac.specs.declared.value.XFrac.TheVariants.{Fin, NaN}
+
+-- what comes of a number once it is there; a fault stays
+abbrev pub and_then : {T : Type 0} → Result XFrac NumFault → (XFrac → Result T NumFault) → Result T NumFault
+and_then (Ok v) next = next v
+and_then (Err fault) next = Err fault
+
+-- ---- rounding
+
+abbrev pub half : XFrac
+half = Fin (pos 1, 2)
+
+-- floor(v / to + 1/2) * to, an operation after the other: for a positive `to` its nearest multiple, the upper one of two
+abbrev pub rounded : XFrac → XFrac → Result XFrac NumFault
+rounded v to =
+    and_then (arithmetic Div v to) (λ quotient. and_then (arithmetic Add quotient half) (λ shifted. arithmetic Mul (floor_of shifted) to))
+
+-- ---- signs
+
+abbrev pub unit_of : Ordering → XFrac
+unit_of Less = negated (whole_number 1)
+unit_of Equal = whole_number 0
+unit_of Greater = whole_number 1
+
+-- -1 below 0, 0 at 0 and 1 above it; NaN of NaN
+abbrev pub sign_number : XFrac → XFrac
+sign_number v = if is_not_a_number v then NaN else unit_of (total_order v (whole_number 0))
+
+-- ---- clamping
+
+-- no less than `low`: `low` where v is below it, else v; NaN where either is
+abbrev pub raised : XFrac → XFrac → XFrac
+raised v low =
+    if is_not_a_number v || is_not_a_number low then NaN else if compares Lt v low then low else v
+
+-- no more than `high`: `high` where v is above it, else v; NaN where either is
+abbrev pub lowered : XFrac → XFrac → XFrac
+lowered v high =
+    if is_not_a_number v || is_not_a_number high then NaN else if compares Gt v high then high else v
+
+-- no row where `low` is above `high`, whatever v is; NaN where one of the three is; else `low` where v is below it, `high` where v is above it, or v
+abbrev pub clamped : XFrac → XFrac → XFrac → Option XFrac
+clamped v low high =
+    if compares Gt low high then None
+    else if is_not_a_number v || is_not_a_number low || is_not_a_number high then Some NaN
+    else if compares Lt v low then Some low
+    else if compares Gt v high then Some high
+    else Some v
+
+-- ---- all element functions
+
+-- a function's value, or that there is no row; `first` is what is rounded to or a bound, `second` the upper bound of a clamp
+abbrev pub element_of : Element → XFrac → XFrac → XFrac → Result (Option XFrac) NumFault
+element_of Abs v first second = Ok (Some (magnitude v))
+element_of Ceil v first second = Ok (Some (ceiling_of v))
+element_of Floor v first second = Ok (Some (floor_of v))
+element_of Round v first second = and_then (rounded v first) (λ value. Ok (Some value))
+element_of Sgn v first second = Ok (Some (sign_number v))
+element_of Neg v first second = Ok (Some (negated v))
+element_of Clamp v first second = Ok (clamped v first second)
+element_of ClampMin v first second = Ok (Some (raised v first))
+element_of ClampMax v first second = Ok (Some (lowered v first))
+
+-- ---- what users rely on
+
+-- a clamp whose bounds are in order is its two halves, one after the other
+abbrev pub ClampIsBothHalves : Type 0
+ClampIsBothHalves =
+    (v low high : XFrac) → compares Gt low high ≡ false → clamped v low high ≡ Some (lowered (raised v low) high)

@@ -1,0 +1,10 @@
+//! The functions of one value at a time, on exact numbers.
+#![tactic(auto)]
+
+mod formulas;
+mod laws;
+#[cfg(test)]
+mod tests;
+
+pub use formulas::element;
+pub use laws::clamp_is_both_halves;
