@@ -1,9 +1,11 @@
 pub mod Answered
+pub mod Bounds
 pub mod Caps
 pub mod Hexadecimals
 pub mod Lowest
 pub mod Numbers
 pub mod Signed
+pub mod Signs
 pub mod Splits
 pub mod Values
 pub mod Written

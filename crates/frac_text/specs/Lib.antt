@@ -5,3 +5,4 @@ pub mod Hexadecimals
 pub mod Readings
 pub mod Scales
 pub mod Spellings
+pub mod Times

@@ -1,4 +1,4 @@
-//! Texts of numbers.
+//! Texts of numbers and times.
 #![tactic(auto)]
 
 mod decimal;
@@ -6,12 +6,14 @@ mod digits;
 mod hexadecimal;
 mod read;
 mod refusal;
+mod time;
 mod value;
 mod write;
 
 pub use read::{read_number, read_script_number};
-pub use refusal::NumberRefusal;
+pub use refusal::{NumberRefusal, TimeRefusal};
 pub use std::alloc::AllocError as Memory;
+pub use time::read_time;
 pub use write::write_number;
 
 #[cfg(test)]

@@ -1,7 +1,8 @@
 use crate::NumberRefusal::{BadNumber, LeadingZero, NumberRange};
-use crate::{NumberRefusal, read_number, read_script_number, write_number};
+use crate::{NumberRefusal, TimeRefusal, read_number, read_script_number, read_time, write_number};
 use std::alloc::{AllocError, Global};
 use std::test::Fail;
+use ticks::Ms;
 use xfrac::{XFrac, of};
 
 // Each line is a text and the spelling of its value or the name of its refusal, found by exact fractions in Python.
@@ -140,6 +141,41 @@ nan1 BadNumber
 1-1 BadNumber
 1/3 BadNumber";
 
+const TIMES: &str = "0 0
+-0 0
+5 5000
++5 5000
+-5 -5000
+0.001 1
+1e-3 1
+0.0005 BadTime
+1.5 1500
+1_0 10000
+0x10 16000
+5m 300000
+-1h30m -5400000
++1d 86400000
+100y 3153600000000
+-100y -3153600000000
+100y1ms OutOfRange
+-101y OutOfRange
+100000000000 100000000000000
+-1e11 -100000000000000
+100000000000.001 OutOfRange
+1e12 OutOfRange
+1e31 OutOfRange
+Inf BadTime
+NaN BadTime
+-Inf BadTime
+007 BadTime
+--5 BadTime
+- BadTime
+5x BadTime
+30m1h BadTime
+1.5m BadTime
+-+1 BadTime
+1s_ BadTime";
+
 fn answer_text(alloc: Global, answer: Result<XFrac, NumberRefusal>) -> Result<Vec<u8>, AllocError> {
     match answer {
         Ok(value) => {
@@ -166,6 +202,21 @@ fn texts_have_their_values(rt: HostRuntime) -> Result<(), Fail> {
         let (text, wanted) = line.split_once(' ').ok_or("a row without a blank")?;
         let answer = answer_text(rt.alloc(), read_script_number(text))?;
         assert_eq!(rt; answer.as_slice(), wanted.as_bytes(), "{text}");
+    }
+    Ok(())
+}
+
+#[test]
+fn times_are_read(rt: HostRuntime) -> Result<(), Fail> {
+    assert_eq!(rt; read_time(""), Err(TimeRefusal::BadTime));
+    for line in TIMES.lines() {
+        let (text, wanted) = line.split_once(' ').ok_or("a row without a blank")?;
+        let answer = match read_time(text) {
+            Ok(Ms(milliseconds)) => format!(in rt.alloc(); "{milliseconds}")?,
+            Err(TimeRefusal::BadTime) => String::from_str(rt.alloc(), "BadTime")?,
+            Err(TimeRefusal::OutOfRange) => String::from_str(rt.alloc(), "OutOfRange")?,
+        };
+        assert_eq!(rt; answer.as_str(), wanted, "{text}");
     }
     Ok(())
 }

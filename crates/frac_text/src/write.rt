@@ -3,7 +3,7 @@ ghost use Rattle.frac_text.specs.Spellings.{magnitude_text, places, sign, spelli
 ghost use Rattle.std.specs.Prelude.{◌≡◌, ◌==◌, ◌<◌, ◌≤◌, ◌*◌, ◌%◌, ◌/◌, ◌^◌, ◌++◌, codes, decimal, string_bytes, unsigned_abs, IfOk, OnOk, OnErr};
 
 use std::alloc::{AllocError, Global};
-use xfrac::{LIMIT, XFrac, parts};
+use xfrac::{XFrac, parts};
 
 /// A number below 2^127 has at most so many decimal places, if they end.
 const MOST_PLACES: usize = 100;
@@ -110,21 +110,24 @@ fn fraction_text(alloc: Global, n: i128, d: u128) -> Result<Vec<u8>, AllocError>
     }
 }
 
+/// The number itself, which shows that its parts are within the limits.
+fn copy_of(v: &XFrac) -> XFrac
+    ensures { result ≡ v.now }
+{
+    *v
+}
+
 /// Writes the one spelling of a number at the end of a list: `+Inf`, `-Inf` or `NaN`; a plain decimal without needless
 /// zeros where that ends; else the lowest terms as `n/d`. The only error is want of memory; then the list is as it was.
 pub fn write_number(v: &XFrac, into: &mut Vec<u8>) -> Result<(), AllocError>
     ensures ok { OnOk result (into.new.items ≡ into.old.items ++ spelling v.now) }
     ensures err { OnErr result (into.new.items ≡ into.old.items) }
 {
-    match v {
+    let value = copy_of(v);
+    match &value {
         XFrac::Fin(fraction) => {
             let (n, d) = parts(fraction);
-            let d = d.unsigned_abs();
-            // A fraction has no such denominator, but `parts` doesn't tell.
-            if d == 0 || d > LIMIT {
-                return Err(AllocError);
-            }
-            let text = fraction_text(*into.allocator(), n, d)?;
+            let text = fraction_text(*into.allocator(), n, d.unsigned_abs())?;
             into.extend_from_slice(text.as_slice())
         }
         XFrac::PosInf => into.extend_from_slice(b"+Inf"),

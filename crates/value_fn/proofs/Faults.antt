@@ -1,5 +1,5 @@
 -- When an element function has no value.
-use Rattle.std.proofs.Common.{◌≡◌, refl, ◌||◌, cond, Bool, true, false, IsTrue, Option, Some, None, Result, Ok, Err, IfErr}
+use Rattle.std.proofs.Common.{◌↔◌, ap, ◌≡◌, refl, ◌||◌, cond, Bool, true, false, IsTrue, Option, Some, None, Result, Ok, Err, IfErr}
 use Rattle.std.specs.Option.{ok_or}
 use Rattle.func_table.specs.declared.table.Element.{Element}
 use Rattle.func_table.specs.declared.table.Element.TheVariants.{Abs, Ceil, Floor, Round, Sgn, Neg, Clamp, ClampMin, ClampMax}
@@ -64,7 +64,7 @@ is_row o = Ok o
 inner : (o : Option XFrac) → is_row o ≡ Ok None → o ≡ None
 inner o e = cc
 
-pub no_row_of_clamp : (f : Element) (v first second : XFrac) → element_of f v first second ≡ Ok None → (f ≡ Clamp) × IsTrue (compares Gt first second)
+no_row_of_clamp : (f : Element) (v first second : XFrac) → element_of f v first second ≡ Ok None → (f ≡ Clamp) × IsTrue (compares Gt first second)
 no_row_of_clamp Round v first second e = absurd (some_row (rounded v first) e)
 no_row_of_clamp Clamp v first second e =
     (refl, first_test (compares Gt first second) (is_not_a_number v || is_not_a_number first || is_not_a_number second) (compares Lt v first) (compares Gt v second) NaN first second v (inner (clamped v first second) e))
@@ -75,3 +75,22 @@ no_row_of_clamp Sgn v first second e = absurd (cc)
 no_row_of_clamp Neg v first second e = absurd (cc)
 no_row_of_clamp ClampMin v first second e = absurd (cc)
 no_row_of_clamp ClampMax v first second e = absurd (cc)
+
+-- the first of the tests leaves no row
+leaves_none : {A : Type 0} (b : Bool) (o : Option A) → IsTrue b → cond b None o ≡ None
+leaves_none true o is = refl
+leaves_none false o is = absurd (cc)
+
+back : (f : Element) (v first second : XFrac) → (f ≡ Clamp) × IsTrue (compares Gt first second) → element_of f v first second ≡ Ok None
+back Clamp v first second h = ap is_row (leaves_none (compares Gt first second) _ h.1)
+back Round v first second h = let e : Round ≡ Clamp = h.0 in absurd (cc)
+back Abs v first second h = let e : Abs ≡ Clamp = h.0 in absurd (cc)
+back Ceil v first second h = let e : Ceil ≡ Clamp = h.0 in absurd (cc)
+back Floor v first second h = let e : Floor ≡ Clamp = h.0 in absurd (cc)
+back Sgn v first second h = let e : Sgn ≡ Clamp = h.0 in absurd (cc)
+back Neg v first second h = let e : Neg ≡ Clamp = h.0 in absurd (cc)
+back ClampMin v first second h = let e : ClampMin ≡ Clamp = h.0 in absurd (cc)
+back ClampMax v first second h = let e : ClampMax ≡ Clamp = h.0 in absurd (cc)
+
+pub no_row_exactly : (f : Element) (v first second : XFrac) → (element_of f v first second ≡ Ok None) ↔ ((f ≡ Clamp) × IsTrue (compares Gt first second))
+no_row_exactly f v first second = (no_row_of_clamp f v first second, back f v first second)

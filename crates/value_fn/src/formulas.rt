@@ -1,5 +1,5 @@
 //! One formula for each element function, by the Prometheus querying documentation.
-ghost use Rattle.std.specs.Prelude.{◌≡◌, IsTrue, IfErr};
+ghost use Rattle.std.specs.Prelude.{◌≡◌, ◌↔◌, IsTrue, IfErr};
 ghost use Rattle.xfrac.specs.Kinds.{is_not_a_number};
 ghost use Rattle.xfrac.specs.Order.{compares};
 ghost use Rattle.value_fn.specs.Elements.{half as half_number, rounded, sign_number, raised, lowered, clamped, element_of};
@@ -15,7 +15,7 @@ use xfrac::{
 /// one alone. `first` is the number that `Round` rounds to, or the bound of `ClampMin` and `ClampMax`; `Clamp` has the
 /// lower bound as `first` and the upper one as `second`; the others read neither. It is `Overflow` exactly where an
 /// operation of `Round` is, and never `Irrational`. It takes no memory.
-#[tactic(auto, using(crate::proofs::Faults::fault_is_overflow, crate::proofs::Faults::no_row_of_clamp))]
+#[tactic(auto, using(crate::proofs::Faults::fault_is_overflow, crate::proofs::Faults::no_row_exactly))]
 pub fn element(
     f: Element,
     v: &XFrac,
@@ -23,7 +23,7 @@ pub fn element(
     second: &XFrac,
 ) -> Result<Option<XFrac>, NumFault>
     ensures value { result ≡ element_of f v.now first.now second.now }
-    ensures no_row { result ≡ Ok None → (f ≡ Element.Clamp) × IsTrue (compares CompareOp.Gt first.now second.now) }
+    ensures no_row { (result ≡ Ok None) ↔ ((f ≡ Element.Clamp) × IsTrue (compares CompareOp.Gt first.now second.now)) }
     ensures faults { IfErr result (λ fault. (f ≡ Element.Round) × (fault ≡ NumFault.Overflow)) }
 {
     match f {
