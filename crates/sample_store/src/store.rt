@@ -1,0 +1,231 @@
+ghost use Rattle.sample_store.specs.Samples.{IsCause, IsCauseIn, IsFoundAt, IsFree, IsGapAt, IsRising, IsRoomIn, Names, Samples, held_in, later_than, sample_count, samples_of, with_sample};
+ghost use Rattle.std.specs.Option.{option_map};
+ghost use Rattle.std.specs.Prelude.{◌≡◌, ◌<◌, ◌≤◌, ◌+◌, Some, [], ◌∷◌, length, insert, slice_get, IfErr, IfOk, MatchResult, OnErr, OnOk};
+
+use crate::held::is_same;
+use crate::search::{find_series, find_time, first_later};
+use crate::{Cursor, StoreRefusal};
+use holders::{Boxed, Items};
+use label_set::Labels;
+use std::alloc::{AllocError, Global};
+use std::marker::Model;
+use std::sync::ledger::Ledger;
+use ticks::{Ms, Work};
+use xfrac::Held;
+
+/// The most samples.
+const MOST_SAMPLES: u32 = 2_000_000;
+
+/// The most series.
+const MOST_SERIES: usize = 100_000;
+
+/// Samples by series. Contracts see the list of the series in the order of their labels, each with its labels and its
+/// samples in rising time, held markers of staleness among them. Series are numbered from 0 in that order.
+#[derive(Drop)]
+pub struct Store {
+    series: Vec<Boxed<(Labels, Items<(Ms, Held)>)>>,
+    samples: u32,
+}
+
+impl Model for Store {
+    ghost use Rattle.sample_store.specs.Samples.{AllSeries, IsStore};
+
+    ghost Value = { AllSeries };
+
+    ghost view = { λ s. s.series.items };
+
+    ghost invariant = { λ s. IsStore s.series.items s.samples };
+}
+
+impl Store {
+    /// An empty store. It takes no memory.
+    pub fn new(alloc: Global) -> Store
+        ensures { result ≡ [] }
+    {
+        Store {
+            series: Vec::new(alloc),
+            samples: 0,
+        }
+    }
+
+    /// Takes all samples and series out.
+    pub fn clear(&mut self)
+        ensures { self.new ≡ [] }
+    {
+        self.series.clear();
+        self.samples = 0;
+    }
+
+    /// How many series there are. It takes no memory.
+    pub fn series(&self) -> u32
+        ensures { result ≡ length self.now }
+    {
+        self.series.len() as u32
+    }
+
+    /// How many samples there are in all series. It takes no memory.
+    pub fn samples(&self) -> u32
+        ensures { result ≡ sample_count self.now }
+    {
+        self.samples
+    }
+
+    /// The labels of a series. It takes no memory.
+    pub fn labels(&self, s: u32) -> &Labels
+        requires { s < length self.now }
+        ensures { option_map (λ one. one.0) (slice_get self.now s) ≡ Some result.now }
+    {
+        &self.series[s as usize].get().0
+    }
+
+    /// Puts a sample into the series with these labels, in its place by time; an equal one that is there changes
+    /// nothing. It refuses, in this order, with Conflict another value at that time, with TooManySeries a series beyond
+    /// 100,000 and with TooManySamples a sample beyond 2,000,000. After an error the store is as it was.
+    pub fn append(&mut self, labels: &Labels, at: Ms, held: &Held) -> Result<(), StoreRefusal>
+        ensures same { held_in (samples_of self.old labels.now) at ≡ Some held.now → self.new ≡ self.old }
+        ensures free { OnOk result (IsFree self.old labels.now at held.now) }
+        ensures refused { IfErr result (IsCause self.old labels.now at held.now) }
+        ensures ok { OnOk result (self.new ≡ with_sample self.old labels.now at held.now) }
+        ensures err { OnErr result (self.new ≡ self.old) }
+    {
+        match find_series(self.series.as_slice(), labels) {
+            Ok(place) => self.add_sample(place, labels, at, held),
+            Err(place) => self.add_series(place, labels, at, held),
+        }
+    }
+
+    /// Puts a sample into a series that is there.
+    fn add_sample(
+        &mut self,
+        place: usize,
+        labels: &Labels,
+        at: Ms,
+        held: &Held,
+    ) -> Result<(), StoreRefusal>
+        requires found { IsFoundAt self.old labels.now place }
+        ensures same { held_in (samples_of self.old labels.now) at ≡ Some held.now → self.new ≡ self.old }
+        ensures free { OnOk result (IsFree self.old labels.now at held.now) }
+        ensures refused { IfErr result (IsCause self.old labels.now at held.now) }
+        ensures ok { OnOk result (self.new ≡ with_sample self.old labels.now at held.now) }
+        ensures err { OnErr result (self.new ≡ self.old) }
+    {
+        match weigh(self.series[place].get(), at, held, self.samples) {
+            Err(refusal) => Err(refusal),
+            Ok(None) => Ok(()),
+            Ok(Some(i)) => match put(&mut self.series[place], i, at, held) {
+                Err(_) => Err(StoreRefusal::Memory),
+                Ok(()) => {
+                    self.samples += 1;
+                    Ok(())
+                }
+            },
+        }
+    }
+
+    /// Puts in a series of one sample, at a place that keeps the order of labels.
+    fn add_series(
+        &mut self,
+        place: usize,
+        labels: &Labels,
+        at: Ms,
+        held: &Held,
+    ) -> Result<(), StoreRefusal>
+        requires gap { IsGapAt self.old labels.now place }
+        ensures same { held_in (samples_of self.old labels.now) at ≡ Some held.now → self.new ≡ self.old }
+        ensures free { OnOk result (IsFree self.old labels.now at held.now) }
+        ensures refused { IfErr result (IsCause self.old labels.now at held.now) }
+        ensures ok { OnOk result (self.new ≡ with_sample self.old labels.now at held.now) }
+        ensures err { OnErr result (self.new ≡ self.old) }
+    {
+        if self.series.len() >= MOST_SERIES {
+            return Err(StoreRefusal::TooManySeries);
+        }
+        if self.samples >= MOST_SAMPLES {
+            return Err(StoreRefusal::TooManySamples);
+        }
+        match series_of(*self.series.allocator(), labels, at, held) {
+            Err(_) => Err(StoreRefusal::Memory),
+            Ok(one) => match self.series.insert(place, one) {
+                Err(_) => Err(StoreRefusal::Memory),
+                Ok(()) => {
+                    self.samples += 1;
+                    Ok(())
+                }
+            },
+        }
+    }
+
+    /// A cursor over the samples of a series that are later than a time. It takes no memory, and looks at no more than
+    /// 64 times.
+    pub fn seek<W: Ledger>(&self, s: u32, after: Ms, work: &mut Work<W>) -> Cursor<'_>
+        requires { s < length self.now }
+        ensures later { (one : Names × Samples) → slice_get self.now s ≡ Some one → result ≡ later_than after one.1 }
+        ensures probed { work.new.probed ≤ work.old.probed + 64 }
+        ensures more { work.old.probed ≤ work.new.probed }
+        ensures fetched { work.new.fetched ≡ work.old.fetched }
+        ensures tested { work.new.tested ≡ work.old.tested }
+    {
+        let samples = self.series[s as usize].get().1.as_slice();
+        let place = first_later(samples, after, work);
+        Cursor::of(samples.split_at(place).1)
+    }
+}
+
+/// Where a sample goes into a series: nowhere if an equal one is there.
+fn weigh(
+    one: &(Labels, Items<(Ms, Held)>),
+    at: Ms,
+    held: &Held,
+    count: u32,
+) -> Result<Option<usize>, StoreRefusal>
+    requires { IsRising one.now.1 }
+    ensures { MatchResult result (IsRoomIn one.now.1 at held.now count) (IsCauseIn one.now.1 at held.now count) }
+{
+    match find_time(one.1.as_slice(), at) {
+        Ok(i) => {
+            let kept = one.1.as_slice()[i].1;
+            if is_same(&kept, held) {
+                Ok(None)
+            } else {
+                Err(StoreRefusal::Conflict { kept, given: *held })
+            }
+        }
+        Err(i) => {
+            if count >= MOST_SAMPLES {
+                Err(StoreRefusal::TooManySamples)
+            } else {
+                Ok(Some(i))
+            }
+        }
+    }
+}
+
+/// A new series of one sample.
+fn series_of(
+    alloc: Global,
+    labels: &Labels,
+    at: Ms,
+    held: &Held,
+) -> Result<Boxed<(Labels, Items<(Ms, Held)>)>, AllocError>
+    ensures { IfOk result (λ one. one ≡ (labels.now, (at, held.now) ∷ [])) }
+{
+    let mut samples = Items::new(alloc);
+    samples.push((at, *held))?;
+    let labels = labels.copy()?;
+    Boxed::new(alloc, (labels, samples))
+}
+
+/// Puts a sample at a place of a series.
+fn put(
+    one: &mut Boxed<(Labels, Items<(Ms, Held)>)>,
+    i: usize,
+    at: Ms,
+    held: &Held,
+) -> Result<(), AllocError>
+    requires { i ≤ length one.old.1 }
+    ensures ok { OnOk result (one.new ≡ (one.old.0, insert one.old.1 i (at, held.now))) }
+    ensures err { OnErr result (one.new ≡ one.old) }
+{
+    let series = one.get_mut();
+    series.1.insert(i, (at, *held))
+}
