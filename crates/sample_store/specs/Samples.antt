@@ -1,13 +1,15 @@
 -- What a store holds: series in the order of their labels, each with its samples in rising time (Prometheus, "Data
 -- model"). That an equal sample is taken twice and another one refused, and the limits, are this project's own.
-use Rattle.std.specs.Prelude.{◌≡◌, ◌<◌, ◌≤◌, ◌+◌, slice_get, slice_set, insert, ℕ, List, [], ◌∷◌, length, Option, None, Some, int_lt, unwrap_or, filter}
+use Rattle.std.specs.Prelude.{Bool, ⊤, if◌then◌else◌, ◌≡◌, ◌<◌, ◌≤◌, ◌+◌, slice_get, slice_set, insert, ℕ, List, [], ◌∷◌, length, Option, None, Some, int_lt, unwrap_or, filter}
 use Rattle.std.specs.BTreeMap.{insert_entry, is_at}
-use Rattle.std.specs.List.{AllByRecursion}
+use Rattle.std.specs.List.{AllByRecursion, list_all}
 use Rattle.std.specs.List.Sorted.{IsStrictlySortedBy}
 use Rattle.std.specs.Map.{keys_of, lookup}
 use Rattle.std.specs.Ordering.{int_cmp, on}
 use Rattle.std.specs.declared.cmp.Ordering.{Ordering}
-use Rattle.label_set.specs.Labels.{labels_cmp}
+use Rattle.label_set.specs.Labels.{labels_cmp, value_of}
+use Rattle.label_set.specs.declared.rules.Rule.{Rule}
+use Rattle.match_rule.specs.Patterns.{HasItsPattern, kind_passes}
 use Rattle.sample_store.specs.declared.refusal.StoreRefusal.{StoreRefusal}
 use Rattle.sample_store.specs.declared.refusal.StoreRefusal.TheVariants.{Conflict, TooManySamples, TooManySeries, Memory}
 use Rattle.ticks.specs.declared.moment.Ms.{Ms}
@@ -115,3 +117,18 @@ IsCauseIn samples at held count (Conflict kept given) = (held_in samples at ≡ 
 IsCauseIn samples at held count TooManySeries = ⊥
 IsCauseIn samples at held count TooManySamples = (held_in samples at ≡ None) × (2000000 ≤ count)
 IsCauseIn samples at held count Memory = ⊥
+
+-- each rule has its pattern
+abbrev pub HaveTheirPatterns : List (Bool × List ℕ) → List Rule → Type 0
+HaveTheirPatterns kept [] = ⊤
+HaveTheirPatterns kept (rule ∷ rules) = HasItsPattern kept rule.kind × HaveTheirPatterns kept rules
+
+-- whether labels pass each of some rules; a missing label is the empty text
+abbrev pub labels_pass : List (Bool × List ℕ) → List Rule → Names → Bool
+labels_pass kept rules names = list_all (λ rule. kind_passes kept rule.kind (value_of names rule.label)) rules
+
+-- the numbers of the series that pass, where the first of these series has this number
+abbrev pub selected : List (Bool × List ℕ) → List Rule → ℕ → AllSeries → List ℕ
+selected kept rules number [] = []
+selected kept rules number (s ∷ series) =
+    if labels_pass kept rules s.0 then number ∷ selected kept rules (number + 1) series else selected kept rules (number + 1) series

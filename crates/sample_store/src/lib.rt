@@ -5,6 +5,7 @@ mod cursor;
 mod held;
 mod refusal;
 mod search;
+mod select;
 mod store;
 
 pub use cursor::Cursor;

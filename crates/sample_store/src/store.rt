@@ -1,12 +1,14 @@
-ghost use Rattle.sample_store.specs.Samples.{IsCause, IsCauseIn, IsFoundAt, IsFree, IsGapAt, IsRising, IsRoomIn, Names, Samples, held_in, later_than, sample_count, samples_of, with_sample};
+ghost use Rattle.sample_store.specs.Samples.{IsCause, IsCauseIn, IsFoundAt, HaveTheirPatterns, IsFree, IsGapAt, IsRising, IsRoomIn, Names, Samples, held_in, later_than, sample_count, samples_of, selected, with_sample};
 ghost use Rattle.std.specs.Option.{option_map};
 ghost use Rattle.std.specs.Prelude.{◌≡◌, ◌<◌, ◌≤◌, ◌+◌, Some, [], ◌∷◌, length, insert, slice_get, IfErr, IfOk, MatchResult, OnErr, OnOk};
 
 use crate::held::is_same;
 use crate::search::{find_series, find_time, first_later};
+use crate::select::places_of;
 use crate::{Cursor, StoreRefusal};
 use holders::{Boxed, Items};
-use label_set::Labels;
+use label_set::{Labels, Rule};
+use match_rule::Patterns;
 use std::alloc::{AllocError, Global};
 use std::marker::Model;
 use std::sync::ledger::Ledger;
@@ -153,6 +155,30 @@ impl Store {
                 }
             },
         }
+    }
+
+    /// The numbers of the series whose labels pass each rule, in the order of labels; each series is counted as tested.
+    /// The patterns of the rules must be of `Patterns::whole`, from these patterns. The only error is want of memory.
+    pub fn select<W: Ledger>(
+        &self,
+        rules: &Items<Rule>,
+        patterns: &mut Patterns,
+        work: &mut Work<W>,
+    ) -> Result<Items<u32>, AllocError>
+        requires { HaveTheirPatterns patterns.old rules.now }
+        ensures selected { IfOk result (λ places. places ≡ selected patterns.old rules.now 0 self.now) }
+        ensures tested { IfOk result (λ _. work.new.tested ≡ work.old.tested + length self.now) }
+        ensures fetched { work.new.fetched ≡ work.old.fetched }
+        ensures probed { work.new.probed ≡ work.old.probed }
+        ensures same { patterns.new ≡ patterns.old }
+    {
+        places_of(
+            *self.series.allocator(),
+            self.series.as_slice(),
+            rules.as_slice(),
+            patterns,
+            work,
+        )
     }
 
     /// A cursor over the samples of a series that are later than a time. It takes no memory, and looks at no more than

@@ -1,7 +1,10 @@
-ghost use Rattle.std.specs.Prelude.{◌≡◌};
+ghost use Rattle.match_rule.specs.Patterns.{HasItsPattern};
+ghost use Rattle.std.specs.Prelude.{◌≡◌, IfOk};
 
 use crate::{Store, StoreRefusal};
-use label_set::{LabelRefusal, Labels};
+use holders::{Items, Text};
+use label_set::{LabelRefusal, Labels, Rule, RuleKind};
+use match_rule::Patterns;
 use std::alloc::{AllocError, Global};
 use std::marker::Brand;
 use std::sync::ledger::{Blank, Ledger};
@@ -111,6 +114,74 @@ fn samples_stand_in_rising_time(rt: HostRuntime) -> Result<(), Fail> {
     }
     store.clear();
     assert_eq!(rt; (store.series(), store.samples()), (0, 0));
+    Ok(())
+}
+
+/// The numbers of the series that one rule selects, with counters of their own.
+fn selected_by<W: Ledger>(
+    alloc: Global,
+    blank: Blank,
+    store: &Store,
+    rule: Rule,
+    patterns: &mut Patterns,
+) -> Result<Items<u32>, AllocError>
+    requires name { blank.name ≡ W.name }
+    requires parts { blank.parts ≡ W.parts }
+    requires three { blank.parts ≡ 3 }
+    requires rule { HasItsPattern patterns.old rule.kind }
+    ensures same { patterns.new ≡ patterns.old }
+{
+    let mut work = Work::<W>::new(blank);
+    let mut rules = Items::new(alloc);
+    rules.push(rule)?;
+    store.select(&rules, patterns, &mut work)
+}
+
+/// The same, with counters that nobody reads.
+fn places_by(
+    alloc: Global,
+    store: &Store,
+    rule: Rule,
+    patterns: &mut Patterns,
+) -> Result<Items<u32>, AllocError>
+    requires { HasItsPattern patterns.old rule.kind }
+    ensures { patterns.new ≡ patterns.old }
+{
+    selected_by::<Brand>(alloc, Blank::new(3), store, rule, patterns)
+}
+
+fn rule_of(alloc: Global, label: &str, kind: RuleKind) -> Result<Rule, AllocError>
+    ensures { IfOk result (λ rule. rule.kind ≡ kind) }
+{
+    Ok(Rule {
+        label: Text::of(alloc, label)?,
+        kind,
+    })
+}
+
+#[test]
+fn rules_select_series(rt: HostRuntime) -> Result<(), Fail> {
+    let alloc = rt.alloc();
+    let mut store = Store::new(alloc);
+    for name in ["up", "down", "idle"] {
+        store.append(&named(alloc, name)?, Ms(0), &Held::Value(XFrac::PosInf))?;
+    }
+    let mut patterns = Patterns::new(alloc);
+    let words = patterns.whole("up|down")?;
+
+    let rule = rule_of(alloc, "__name__", RuleKind::Eq(Text::of(alloc, "up")?))?;
+    let found = places_by(alloc, &store, rule, &mut patterns)?;
+    assert_eq!(rt; found.as_slice(), [2].as_slice());
+    let rule = rule_of(alloc, "__name__", RuleKind::Ne(Text::of(alloc, "up")?))?;
+    let found = places_by(alloc, &store, rule, &mut patterns)?;
+    assert_eq!(rt; found.as_slice(), [0, 1].as_slice());
+    let rule = rule_of(alloc, "__name__", RuleKind::Re(words))?;
+    let found = places_by(alloc, &store, rule, &mut patterns)?;
+    assert_eq!(rt; found.as_slice(), [0, 2].as_slice());
+    // A missing label is the empty text.
+    let rule = rule_of(alloc, "job", RuleKind::Nre(words))?;
+    let found = places_by(alloc, &store, rule, &mut patterns)?;
+    assert_eq!(rt; found.as_slice(), [0, 1, 2].as_slice());
     Ok(())
 }
 
