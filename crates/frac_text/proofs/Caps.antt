@@ -12,7 +12,7 @@ use Rattle.frac_text.specs.Capped.{IsCapped}
 use Rattle.frac_text.specs.Decimals.{scaled}
 use Rattle.frac_text.specs.Digits.{digits_in, number}
 use Rattle.frac_text.proofs.Lowest.{Terms, terms, formed_same, formed_above, formed_beyond}
-use Rattle.frac_text.proofs.Numbers.{ten_positive, digit_range}
+use Rattle.frac_text.proofs.Numbers.{ten_positive, digit_range, number-cons}
 
 pub number_below : (text : List ℕ) → number (digits_in text) < 10 ^ length (digits_in text)
 number_below [] = omega arith
@@ -26,7 +26,7 @@ number_below (c ∷ text) = by_digit (is_ascii_digit c) refl (number_below text)
         let long : 10 ^ length (c ∷ digits_in text) ≡ 10 ^ length (digits_in text) * 10 = pow-suc 10 (length (digits_in text)) in
         let most : c - 48 ≤ 9 = omega (arith, range.1) in
         let more = mul-le-mul_right (10 ^ length (digits_in text)) most in
-        omega (arith, long, more, below)
+        omega (arith, long, more, below, number-cons c (digits_in text) is)
 
 far : (n k j : ℕ) → 0 < n → k + 31 ≤ j → limit * 10 ^ k < n * 10 ^ j
 far n k j some le =

@@ -1,11 +1,14 @@
 pub mod Answered
 pub mod Bounds
 pub mod Caps
+pub mod Durations
 pub mod Hexadecimals
 pub mod Lowest
 pub mod Numbers
+pub mod ReadBack
 pub mod Signed
 pub mod Signs
 pub mod Splits
+pub mod Timed
 pub mod Values
 pub mod Written

@@ -1,8 +1,9 @@
 -- The numbers of digits, from either end.
-use Rattle.std.proofs.Common.{◌≡◌, ℕ, ◌+◌, ◌-◌, ◌*◌, ◌^◌, ◌<◌, ◌≤◌, sym, ap, ◌∙◌, arith, false, true, cond, List, [], ◌∷◌, ◌++◌, length, take, drop, get_or, add-one, length-append, take-append-drop, drop-cons}
-use Rattle.std.specs.Char.{is_ascii_digit}
-use Rattle.std.proofs.Math.Nat.{one-le-pow, le-mul_of_pos_right}
-use Rattle.std.proofs.lemmas.Nat.{pow-add}
+use Rattle.std.proofs.Common.{◌≡◌, ℕ, refl, ◌+◌, ◌-◌, ◌*◌, ◌^◌, ◌<◌, ◌≤◌, sym, ap, ◌∙◌, arith, false, true, cond, List, [], ◌∷◌, ◌++◌, length, take, drop, get_or, add-one, take-append-drop, drop-cons}
+use Rattle.std.specs.Char.{digit_value, is_ascii_digit}
+use Rattle.std.specs.Str.Parse.{digits_value_after}
+use Rattle.std.proofs.Math.Nat.{one-le-pow, le-mul_of_pos_right, pow-suc}
+use Rattle.std.proofs.lemmas.Bool.{cond-false, cond-true, le-ltb, lt-ltb}
 use Rattle.std.proofs.lemmas.Bool.Decides.{nat_tests}
 use Rattle.std.proofs.lemmas.List.Elements.{filter_more, filter-append}
 use Rattle.frac_text.specs.Digits.{digits_in, number}
@@ -13,20 +14,36 @@ ten_positive k = one-le-pow k 10 (omega arith)
 pub digit_range : (c : ℕ) → is_ascii_digit c ≡ true → (48 ≤ c) × (c ≤ 57)
 digit_range c h = grind (arith, nat_tests)
 
-pub number-append : (xs ys : List ℕ) → number (xs ++ ys) ≡ number xs * 10 ^ length ys + number ys
-number-append [] ys = omega arith
-number-append (x ∷ xs) ys =
-    let more = number-append xs ys in
-    let long : 10 ^ length (xs ++ ys) ≡ 10 ^ length xs * 10 ^ length ys = ap (λ k. 10 ^ k) (length-append xs ys) ∙ pow-add 10 (length xs) (length ys) in
-    spread (x - 48) (10 ^ length xs) (10 ^ length ys) (number xs) (number ys) _ _ long more
-  where
-    spread : (c p q n m r s : ℕ) → r ≡ p * q → s ≡ n * q + m → c * r + s ≡ (c * p + n) * q + m
-    spread c p q n m r s e f =
-        let g : c * r ≡ c * (p * q) = ap (λ z. c * z) e in
-        omega arith
+pub digit_worth : (c : ℕ) → is_ascii_digit c ≡ true → digit_value c ≡ c - 48
+digit_worth c h =
+    let range = digit_range c h in
+    let low : 48 ≤ c = range.0 in
+    let high : c ≤ 57 = range.1 in
+    cond-false _ _ _ (le-ltb c 48 low) ∙ cond-true _ _ _ (lt-ltb c 58 (omega arith))
 
-pub number_push : (xs : List ℕ) (c : ℕ) → number (xs ++ (c ∷ [])) ≡ number xs * 10 + (c - 48)
-number_push xs c = number-append xs (c ∷ []) ∙ omega arith
+-- the digits before others count by a power of ten
+value_after : (n : ℕ) (ds : List ℕ) → digits_value_after 10 n ds ≡ n * 10 ^ length ds + number ds
+value_after n [] = omega arith
+value_after n (c ∷ cs) =
+    let left : digits_value_after 10 (n * 10 + digit_value c) cs ≡ (n * 10 + digit_value c) * 10 ^ length cs + number cs = value_after (n * 10 + digit_value c) cs in
+    let right : digits_value_after 10 (0 * 10 + digit_value c) cs ≡ (0 * 10 + digit_value c) * 10 ^ length cs + number cs = value_after (0 * 10 + digit_value c) cs in
+    let long : n * 10 ^ length (c ∷ cs) ≡ n * (10 ^ length cs * 10) = ap (λ z. n * z) (pow-suc 10 (length cs)) in
+    omega arith
+
+value-append : (n : ℕ) (xs ys : List ℕ) → digits_value_after 10 n (xs ++ ys) ≡ digits_value_after 10 (digits_value_after 10 n xs) ys
+value-append n [] ys = refl
+value-append n (x ∷ xs) ys = value-append (n * 10 + digit_value x) xs ys
+
+pub number-append : (xs ys : List ℕ) → number (xs ++ ys) ≡ number xs * 10 ^ length ys + number ys
+number-append xs ys = value-append 0 xs ys ∙ value_after (number xs) ys
+
+pub number-cons : (c : ℕ) (ds : List ℕ) → is_ascii_digit c ≡ true → number (c ∷ ds) ≡ (c - 48) * 10 ^ length ds + number ds
+number-cons c ds digit =
+    let worth : 0 * 10 + digit_value c ≡ c - 48 = omega (arith, digit_worth c digit) in
+    value_after (0 * 10 + digit_value c) ds ∙ ap (λ z. z * 10 ^ length ds + number ds) worth
+
+pub number_push : (xs : List ℕ) (c : ℕ) → is_ascii_digit c ≡ true → number (xs ++ (c ∷ [])) ≡ number xs * 10 + (c - 48)
+number_push xs c digit = number-append xs (c ∷ []) ∙ (let one = number-cons c [] digit in omega arith)
 
 pub digits_parted : (text : List ℕ) (i : ℕ) → digits_in text ≡ digits_in (take i text) ++ digits_in (drop i text)
 digits_parted text i = ap digits_in (sym (take-append-drop i text)) ∙ filter-append is_ascii_digit (take i text) (drop i text)
@@ -38,7 +55,7 @@ number_more text i value next lt digit is was =
     let range = digit_range (get_or text i 0) digit in
     let more : digits_in (take (i + 1) text) ≡ digits_in (take i text) ++ (get_or text i 0 ∷ []) =
     filter_more is_ascii_digit text i 0 lt ∙ ap (λ b. digits_in (take i text) ++ cond b (get_or text i 0 ∷ []) []) digit in
-    let pushed = number_push (digits_in (take i text)) (get_or text i 0) in
+    let pushed = number_push (digits_in (take i text)) (get_or text i 0) digit in
     let worth : next ≡ number (digits_in (take i text)) * 10 + (get_or text i 0 - 48) = omega (arith, range.0, was, is) in
     worth ∙ sym pushed ∙ ap number (sym more)
 

@@ -12,7 +12,7 @@ use Rattle.frac_text.specs.declared.value.Rest.{Rest}
 use Rattle.frac_text.specs.Digits.{digits_in, number}
 use Rattle.frac_text.specs.Scales.{IsRest, IsScaled}
 use Rattle.frac_text.proofs.Lowest.{scaled_same, beyond, formed_same, formed_above, formed_beyond}
-use Rattle.frac_text.proofs.Numbers.{ten_positive, number-append, digits_drop, digits_parted}
+use Rattle.frac_text.proofs.Numbers.{ten_positive, number-append, number-cons, digits_drop, digits_parted}
 
 digit_step : (c n d s k : ℕ) → n * k ≡ s * d → (c * d + n) * (k * 10) ≡ (c * k + s) * (10 * d)
 digit_step c n d s k e =
@@ -20,13 +20,14 @@ digit_step c n d s k e =
     omega arith
 
 -- one more digit before a rest
-pub fraction_step : (rest : Rest) (c : ℕ) (ds : List ℕ) (r : Option Rest) → IsRest rest (number ds) (10 ^ length ds)
+pub fraction_step : (rest : Rest) (c : ℕ) (ds : List ℕ) (r : Option Rest) → is_ascii_digit c ≡ true → IsRest rest (number ds) (10 ^ length ds)
     → IsScaled r ((c - 48) * rest.d + rest.n) (10 * rest.d) → IsScaled r (number (c ∷ ds)) (10 ^ length (c ∷ ds))
-fraction_step rest c ds r is next =
+fraction_step rest c ds r digit is next =
     let below = is.below in
     let long : 10 ^ length (c ∷ ds) ≡ 10 ^ length ds * 10 = pow-suc 10 (length ds) in
     let same : ((c - 48) * rest.d + rest.n) * 10 ^ length (c ∷ ds) ≡ number (c ∷ ds) * (10 * rest.d) =
-    ap (λ z. ((c - 48) * rest.d + rest.n) * z) long ∙ digit_step (c - 48) rest.n rest.d (number ds) (10 ^ length ds) is.equal in
+    ap (λ z. ((c - 48) * rest.d + rest.n) * z) long ∙ digit_step (c - 48) rest.n rest.d (number ds) (10 ^ length ds) is.equal
+    ∙ ap (λ z. z * (10 * rest.d)) (sym (number-cons c ds digit)) in
     scaled_same ((c - 48) * rest.d + rest.n) (10 * rest.d) (number (c ∷ ds)) (10 ^ length (c ∷ ds)) (omega (arith, below)) (ten_positive (length (c ∷ ds))) same r next
 
 front_moves : (a x y c p q r : ℕ) → c ≡ a * q + y → r ≡ p * q → (a * q + y) * r ≡ c * p * q
@@ -169,7 +170,7 @@ fraction_more text place i digit rest r here lt is worth was next =
     let was' : IsRest rest (number (digits_in (drop (i + 1) text))) (10 ^ length (digits_in (drop (i + 1) text))) =
     subst (λ k. IsRest rest (number (digits_in (drop k text))) (10 ^ length (digits_in (drop k text)))) (sym here) was in
     let next' : IsScaled r ((get_or text i 0 - 48) * rest.d + rest.n) (10 * rest.d) = subst (λ k. IsScaled r (k * rest.d + rest.n) (10 * rest.d)) worth next in
-    subst (λ ds. IsScaled r (number ds) (10 ^ length ds)) (sym (digits_drop text i lt is)) (fraction_step rest (get_or text i 0) (digits_in (drop (i + 1) text)) r was' next')
+    subst (λ ds. IsScaled r (number ds) (10 ^ length ds)) (sym (digits_drop text i lt is)) (fraction_step rest (get_or text i 0) (digits_in (drop (i + 1) text)) r is was' next')
 
 pub fraction_outside : (text : List ℕ) (i : ℕ) → limit < 10 ^ length (digits_in (drop i text)) / gcd (number (digits_in (drop i text))) (10 ^ length (digits_in (drop i text)))
     → limit < 10 ^ length (digits_in text) / gcd (number (digits_in text)) (10 ^ length (digits_in text))

@@ -1,7 +1,8 @@
 -- Runs of decimal digits, and the numbers that they stand for. (PromQL's literals.)
-use Rattle.std.specs.Prelude.{ℕ, ◌+◌, ◌*◌, ◌-◌, ◌^◌, Bool, true, false, ◌==◌, ◌&&◌, ◌||◌, if◌then◌else◌, List, [], ◌∷◌, length, take, drop}
+use Rattle.std.specs.Prelude.{ℕ, Bool, true, false, ◌==◌, ◌&&◌, ◌||◌, if◌then◌else◌, List, [], ◌∷◌, take, drop}
 use Rattle.std.specs.Char.{is_ascii_digit}
 use Rattle.std.specs.List.{filter, prefix_len}
+use Rattle.std.specs.Str.Parse.{digits_value}
 
 -- a byte of a run: a digit or, where digits may be grouped, an underscore
 abbrev pub is_part : Bool → ℕ → Bool
@@ -23,7 +24,6 @@ is_run after (byte ∷ bytes) = if is_ascii_digit byte then is_run true bytes el
 abbrev pub digits_in : List ℕ → List ℕ
 digits_in text = filter is_ascii_digit text
 
--- the number that digits stand for: each counts ten times as much as the next
+-- the number that decimal digits stand for
 abbrev pub number : List ℕ → ℕ
-number [] = 0
-number (digit ∷ digits) = (digit - 48) * 10 ^ length digits + number digits
+number digits = digits_value 10 digits

@@ -1,5 +1,5 @@
 -- The one spelling of a number that is written. It is this project's own: a plain decimal where it ends, else a fraction.
-use Rattle.std.specs.Prelude.{ℕ, zero, suc, ◌+◌, ◌*◌, ◌/◌, ◌%◌, ◌^◌, ℤ, pos, negsuc, unsigned_abs, ◌==◌, if◌then◌else◌, List, [], ◌∷◌, ◌++◌, decimal, codes}
+use Rattle.std.specs.Prelude.{ℕ, zero, suc, ◌+◌, ◌*◌, ◌/◌, ◌%◌, ◌^◌, ℤ, pos, negsuc, unsigned_abs, ◌≤ℤ◌, Bool, true, ◌==◌, if◌then◌else◌, List, [], ◌∷◌, ◌++◌, decimal, codes, ⊤}
 use Rattle.xfrac.specs.declared.value.XFrac.{XFrac}
 use Rattle.xfrac.specs.declared.value.XFrac.TheVariants.{Fin, PosInf, NegInf, NaN}
 
@@ -12,9 +12,13 @@ places (suc more) r d = if r == 0 then [] else (48 + r * 10 / d) ∷ places more
 abbrev pub tail : ℕ → ℕ → List ℕ
 tail r d = if r == 0 then [] else codes "." ++ places 100 r d
 
--- m/d as a decimal where that ends, which it does by the 100th place if it ever does, else as a fraction
+-- the decimal places of r/d end, which they do by the 100th if they ever do
+abbrev pub ends : ℕ → ℕ → Bool
+ends r d = r * 10 ^ 100 % d == 0
+
+-- m/d as a decimal where that ends, else as a fraction
 abbrev pub magnitude_text : ℕ → ℕ → List ℕ
-magnitude_text m d = if m % d * 10 ^ 100 % d == 0 then decimal (m / d) ++ tail (m % d) d else decimal m ++ (codes "/" ++ decimal d)
+magnitude_text m d = if ends (m % d) d then decimal (m / d) ++ tail (m % d) d else decimal m ++ (codes "/" ++ decimal d)
 
 abbrev pub sign : ℤ → List ℕ
 sign (pos n) = []
@@ -25,3 +29,14 @@ spelling (Fin f) = sign f.0 ++ magnitude_text (unsigned_abs f.0) f.1
 spelling PosInf = codes "+Inf"
 spelling NegInf = codes "-Inf"
 spelling NaN = codes "NaN"
+
+-- the spelling is no fraction
+abbrev pub is_plain : XFrac → Bool
+is_plain (Fin f) = ends (unsigned_abs f.0 % f.1) f.1
+is_plain _ = true
+
+-- the spelling has no sign
+abbrev pub IsUnsigned : XFrac → Type 0
+IsUnsigned (Fin f) = pos 0 ≤ℤ f.0
+IsUnsigned NaN = ⊤
+IsUnsigned _ = ⊥

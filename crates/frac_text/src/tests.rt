@@ -1,5 +1,8 @@
 use crate::NumberRefusal::{BadNumber, LeadingZero, NumberRange};
-use crate::{NumberRefusal, TimeRefusal, read_number, read_script_number, read_time, write_number};
+use crate::{
+    NumberRefusal, TimeRefusal, durations_are_times, read_number, read_script_number, read_time,
+    spellings_are_numbers, times_are_told, write_number,
+};
 use std::alloc::{AllocError, Global};
 use std::test::Fail;
 use ticks::Ms;
@@ -164,6 +167,9 @@ const TIMES: &str = "0 0
 100000000000.001 OutOfRange
 1e12 OutOfRange
 1e31 OutOfRange
+-1e31 OutOfRange
+1e-31 OutOfRange
+0x1000000000000000000000000000 OutOfRange
 Inf BadTime
 NaN BadTime
 -Inf BadTime
@@ -208,6 +214,8 @@ fn texts_have_their_values(rt: HostRuntime) -> Result<(), Fail> {
 
 #[test]
 fn times_are_read(rt: HostRuntime) -> Result<(), Fail> {
+    times_are_told();
+    durations_are_times();
     assert_eq!(rt; read_time(""), Err(TimeRefusal::BadTime));
     for line in TIMES.lines() {
         let (text, wanted) = line.split_once(' ').ok_or("a row without a blank")?;
@@ -223,6 +231,7 @@ fn times_are_read(rt: HostRuntime) -> Result<(), Fail> {
 
 #[test]
 fn numbers_have_one_spelling(rt: HostRuntime) -> Result<(), Fail> {
+    spellings_are_numbers();
     let most = 1_000_000_000_000_000_000_000_000_000_000;
     let rows = [
         (0, 1, "=0"),

@@ -1,7 +1,8 @@
 //! Readers of times.
-ghost use Rattle.frac_text.specs.Times.{IsBeyond, IsBounded, IsLate, IsMilliseconds, IsNoTime, IsSeconds, IsTaken, amount_of, is_negative, time_limit};
+ghost use Rattle.frac_text.specs.Readings.{literal_answer};
+ghost use Rattle.frac_text.specs.Times.{IsBounded, amount_answer, amount_of, exact_quotient, is_negative, milliseconds_of, seconds_answer, time_answer, time_limit};
 ghost use Rattle.xfrac.specs.Fractions.{with_sign};
-ghost use Rattle.std.specs.Prelude.{◌≡◌, ◌<◌, ◌≤◌, ◌*◌, ◌≤ℤ◌, ℕ, pos, IfOk, IsErrOf, IsOkAnd, MatchOption};
+ghost use Rattle.std.specs.Prelude.{◌≡◌, ◌<◌, ◌≤◌, IfOk};
 
 use crate::{NumberRefusal, TimeRefusal, read_number};
 use ticks::{Ms, TickRefusal, read_duration};
@@ -13,55 +14,52 @@ const TIME_LIMIT: u128 = 100_000_000_000_000;
 /// The milliseconds in a number of seconds, where they are a whole number.
 fn milliseconds_in(seconds: &XFrac) -> Option<u128>
     requires { IsBounded seconds.now }
-    ensures { MatchOption result ((n : ℕ) → IsMilliseconds seconds.now n → ⊥) (λ n. IsMilliseconds seconds.now n) }
+    ensures { result ≡ milliseconds_of seconds.now }
 {
     match seconds {
         XFrac::Fin(fraction) => {
             let (n, d) = parts(fraction);
-            whole_quotient(n.unsigned_abs() * 1000, d.unsigned_abs())
+            exact_quotient(n.unsigned_abs() * 1000, d.unsigned_abs())
         }
         _ => None,
     }
 }
 
-fn whole_quotient(m: u128, d: u128) -> Option<u128>
+fn exact_quotient(m: u128, d: u128) -> Option<u128>
     requires { 0 < d }
-    ensures { MatchOption result ((n : ℕ) → m ≡ n * d → ⊥) (λ n. m ≡ n * d) }
+    ensures { result ≡ exact_quotient m d }
 {
     if m % d == 0 { Some(m / d) } else { None }
 }
 
 /// The milliseconds of a text that is no duration.
-fn read_seconds(text: &str) -> Result<i64, TimeRefusal>
-    ensures taken { IfOk result (λ t. (n : ℕ) × IsSeconds text.now n × (n ≤ time_limit) × (t ≡ pos n)) }
-    ensures read { (n : ℕ) → IsSeconds text.now n → n ≤ time_limit → IsOkAnd result (λ t. t ≡ pos n) }
-    ensures late { IsErrOf result TimeRefusal.OutOfRange → IsLate text.now }
-    ensures bad { IsErrOf result TimeRefusal.BadTime → (n : ℕ) → IsSeconds text.now n → ⊥ }
+fn read_seconds(text: &str) -> Result<u64, TimeRefusal>
+    ensures answer { result ≡ seconds_answer (literal_answer text.now) }
+    ensures within { IfOk result (λ n. n ≤ time_limit) }
 {
     match read_number(text) {
         Err(NumberRefusal::NumberRange) => Err(TimeRefusal::OutOfRange),
-        Err(_) => Err(TimeRefusal::BadTime),
+        Err(NumberRefusal::BadNumber) => Err(TimeRefusal::BadTime),
+        Err(NumberRefusal::LeadingZero) => Err(TimeRefusal::BadTime),
         Ok(value) => match milliseconds_in(&value) {
             None => Err(TimeRefusal::BadTime),
             Some(n) => {
                 if n > TIME_LIMIT {
                     return Err(TimeRefusal::OutOfRange);
                 }
-                Ok(n as i64)
+                Ok(n as u64)
             }
         },
     }
 }
 
 /// The milliseconds of a time without its sign.
-fn read_amount(text: &str) -> Result<i64, TimeRefusal>
-    ensures taken { IfOk result (λ t. (n : ℕ) × IsTaken text.now n × (t ≡ pos n)) }
-    ensures read { (n : ℕ) → IsTaken text.now n → IsOkAnd result (λ t. t ≡ pos n) }
-    ensures beyond { IsErrOf result TimeRefusal.OutOfRange → IsBeyond text.now }
-    ensures bad { IsErrOf result TimeRefusal.BadTime → IsNoTime text.now }
+fn read_amount(text: &str) -> Result<u64, TimeRefusal>
+    ensures answer { result ≡ amount_answer text.now }
+    ensures within { IfOk result (λ n. n ≤ time_limit) }
 {
     match read_duration(text) {
-        Ok(duration) => Ok(duration.0),
+        Ok(duration) => Ok(duration.0.unsigned_abs()),
         Err(TickRefusal::BadDuration) => read_seconds(text),
         Err(TickRefusal::OutOfRange) => Err(TimeRefusal::OutOfRange),
         Err(TickRefusal::TooManySteps) => Err(TimeRefusal::BadTime),
@@ -87,10 +85,7 @@ fn split_sign(text: &str) -> (bool, &str)
 /// number is outside the limits of numbers; and `BadTime` where the text is neither form, or the seconds are no whole
 /// number of milliseconds. It takes no memory.
 pub fn read_time(text: &str) -> Result<Ms, TimeRefusal>
-    ensures taken { IfOk result (λ t. (n : ℕ) × IsTaken (amount_of text.now) n × (t.0 ≡ with_sign (is_negative text.now) n)) }
-    ensures read { (n : ℕ) → IsTaken (amount_of text.now) n → IsOkAnd result (λ t. t.0 ≡ with_sign (is_negative text.now) n) }
-    ensures beyond { IsErrOf result TimeRefusal.OutOfRange → IsBeyond (amount_of text.now) }
-    ensures bad { IsErrOf result TimeRefusal.BadTime → IsNoTime (amount_of text.now) }
+    ensures { result ≡ time_answer text.now }
 {
     let (negative, amount) = split_sign(text);
     match read_amount(amount) {
@@ -99,13 +94,10 @@ pub fn read_time(text: &str) -> Result<Ms, TimeRefusal>
     }
 }
 
-fn turned(negative: bool, milliseconds: i64) -> i64
-    requires { pos 0 ≤ℤ milliseconds }
-    ensures { (n : ℕ) → milliseconds ≡ pos n → result ≡ with_sign negative n }
+fn turned(negative: bool, milliseconds: u64) -> i64
+    requires { milliseconds ≤ time_limit }
+    ensures { result ≡ with_sign negative milliseconds }
 {
-    if negative {
-        -milliseconds
-    } else {
-        milliseconds
-    }
+    let time = milliseconds as i64;
+    if negative { -time } else { time }
 }

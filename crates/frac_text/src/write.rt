@@ -1,6 +1,6 @@
 //! The spelling of numbers.
-ghost use Rattle.frac_text.specs.Spellings.{magnitude_text, places, sign, spelling, tail};
-ghost use Rattle.std.specs.Prelude.{◌≡◌, ◌==◌, ◌<◌, ◌≤◌, ◌*◌, ◌%◌, ◌/◌, ◌^◌, ◌++◌, codes, decimal, string_bytes, unsigned_abs, IfOk, OnOk, OnErr};
+ghost use Rattle.frac_text.specs.Spellings.{ends, magnitude_text, places, sign, spelling, tail};
+ghost use Rattle.std.specs.Prelude.{◌≡◌, ◌<◌, ◌≤◌, ◌%◌, ◌/◌, ◌^◌, ◌++◌, codes, decimal, string_bytes, unsigned_abs, IfOk, OnOk, OnErr};
 
 use std::alloc::{AllocError, Global};
 use xfrac::{XFrac, parts};
@@ -12,7 +12,7 @@ const MOST_PLACES: usize = 100;
 fn ends(r: u128, d: u128) -> bool
     requires left { r < d }
     requires within { d ≤ 10 ^ 30 }
-    ensures { result ≡ (r * 10 ^ 100 % d == 0) }
+    ensures { result ≡ ends r d }
 {
     if r == 0 {
         return true;

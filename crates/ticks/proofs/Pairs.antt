@@ -1,9 +1,11 @@
 -- A text of pairs falls into its first digits, the name after them and the rest in one way.
-use Rattle.std.proofs.Common.{◌≡◌, ℕ, suc, ◌+◌, ◌*◌, ◌<◌, ◌≤◌, min, ◌^◌, ◌-◌, Bool, true, false, cond, not, List, [], ◌∷◌, ◌++◌, length, take, drop, None, Some, find, inl, inr, bytes_eq, refl, sym, ap, subst, ◌∙◌, arith, take-append-drop, length-append}
-use Rattle.std.proofs.lemmas.Bool.{cases_lt}
+use Rattle.std.proofs.Common.{◌≡◌, ℕ, suc, ◌+◌, ◌*◌, ◌<◌, ◌≤◌, min, ◌^◌, ◌-◌, Bool, true, false, cond, not, List, [], ◌∷◌, ◌++◌, length, take, drop, None, Some, find, inl, inr, bytes_eq, refl, sym, ap, subst, ◌∙◌, arith, get_or, zero, take-append-drop, length-append}
+use Rattle.std.proofs.lemmas.Bool.{cases_lt, cond-false, cond-true, le-ltb, lt-ltb}
+use Rattle.std.proofs.lemmas.Bool.Decides.{nat_tests}
+use Rattle.std.proofs.lemmas.Int.Digits.{digits_value_more}
 use Rattle.std.proofs.Math.Seq.{take-append_seam, drop-append_seam}
 use Rattle.std.proofs.lemmas.Slice.Eq.{bytes_eq-Decides}
-use Rattle.std.specs.Char.{is_ascii_digit}
+use Rattle.std.specs.Char.{digit_value, is_ascii_digit}
 use Rattle.std.specs.List.{position_or_len, prefix_len}
 use Rattle.ticks.specs.declared.unit.Unit.{Unit}
 use Rattle.ticks.specs.declared.unit.Unit.TheVariants.{Year, Week, Day, Hour, Minute, Second, Millisecond}
@@ -42,7 +44,7 @@ pairs_first longest (([], unit) ∷ pairs) falling = absurd (omega (arith, falli
 pairs_first longest ((digit ∷ digits, unit) ∷ pairs) falling =
     ap (λ b. cond (not b) (1 + position_or_len is_ascii_digit (digits ++ (name_of unit ++ text_of pairs))) 0) falling.1.0
 
-find-name : (unit : Unit) → find (λ u. bytes_eq (name_of u) (name_of unit)) units ≡ Some unit
+pub find-name : (unit : Unit) → find (λ u. bytes_eq (name_of u) (name_of unit)) units ≡ Some unit
 find-name Year = refl
 find-name Week = refl
 find-name Day = refl
@@ -52,7 +54,7 @@ find-name Second = refl
 find-name Millisecond = refl
 
 -- the first pair of a text, and what the pairs after it are
-record Step (longest : ℕ) (digits name later : List ℕ) (n : ℕ) : Type 0 where
+pub record Step (longest : ℕ) (digits name later : List ℕ) (n : ℕ) : Type 0 where
   pub unit : Unit
   pub more : ℕ
   pub some : 0 < length digits
@@ -91,11 +93,11 @@ step-pairs longest n text ((digits, unit) ∷ pairs) some falling spelled amount
     (step-cons longest digits unit pairs falling))
 
 -- a text of pairs that isn't empty begins with a pair
-step-from_Spells : (longest n : ℕ) (text : List ℕ) → 0 < length text → Spells longest text n
+pub step-from_Spells : (longest n : ℕ) (text : List ℕ) → 0 < length text → Spells longest text n
     → Step longest (digits_of text) (name_at (after_digits text)) (after_name (after_digits text)) n
 step-from_Spells longest n text some spells = step-pairs longest n text spells.pairs some spells.falling spells.spelled spells.amount
 
-find-passes : {X : Type 0} (p : X → Bool) (xs : List X) (x : X) → find p xs ≡ Some x → p x ≡ true
+pub find-passes : {X : Type 0} (p : X → Bool) (xs : List X) (x : X) → find p xs ≡ Some x → p x ≡ true
 find-passes p [] x found = absurd (cc found)
 find-passes {X} p (y ∷ ys) x found = passes (p y) refl (find-passes p ys x) found where
   passes : (b : Bool) → p y ≡ b → (find p ys ≡ Some x → p x ≡ true) → cond b (Some y) (find p ys) ≡ Some x → p x ≡ true
@@ -104,7 +106,7 @@ find-passes {X} p (y ∷ ys) x found = passes (p y) refl (find-passes p ys x) fo
       subst (λ z. p z ≡ true) same is
   passes false is later found = later found
 
-AreDigits-digits_of : (text : List ℕ) → AreDigits (digits_of text)
+pub AreDigits-digits_of : (text : List ℕ) → AreDigits (digits_of text)
 AreDigits-digits_of [] = tt
 AreDigits-digits_of (byte ∷ bytes) = digits (is_ascii_digit byte) refl (AreDigits-digits_of bytes) where
   digits : (b : Bool) → is_ascii_digit byte ≡ b → AreDigits (digits_of bytes) → AreDigits (take (cond b (1 + prefix_len is_ascii_digit bytes) 0) (byte ∷ bytes))
@@ -114,7 +116,7 @@ AreDigits-digits_of (byte ∷ bytes) = digits (is_ascii_digit byte) refl (AreDig
   digits false is later = tt
 
 -- a text that begins with a pair, whose rest is a text of pairs, is one
-Spells-from_step : (longest n : ℕ) (text : List ℕ) → Step longest (digits_of text) (name_at (after_digits text)) (after_name (after_digits text)) n → Spells longest text n
+pub Spells-from_step : (longest n : ℕ) (text : List ℕ) → Step longest (digits_of text) (name_at (after_digits text)) (after_name (after_digits text)) n → Spells longest text n
 Spells-from_step longest n text step =
     let after : List ℕ = after_digits text in
     let named : name_of step.unit ≡ name_at after =
@@ -213,6 +215,29 @@ IsCapped-sum n counted more rest product scale least grows same first later =
                 record { within = λ h. omega arith; beyond = λ h. omega arith }
           ]
     ]
+
+digit-range : (c : ℕ) → is_ascii_digit c ≡ true → (48 ≤ c) × (c ≤ 57)
+digit-range c is = grind (arith, nat_tests)
+
+pub digit-at : (digits : List ℕ) (i : ℕ) → AreDigits digits → i < length digits → (48 ≤ get_or digits i 0) × (get_or digits i 0 ≤ 57)
+digit-at [] i all within = absurd (omega arith)
+digit-at (c ∷ cs) zero all within = digit-range c all.0
+digit-at (c ∷ cs) (suc i) all within = digit-at cs i all.1 (omega arith)
+
+digit-worth : (c : ℕ) → 48 ≤ c → c ≤ 57 → digit_value c ≡ c - 48
+digit-worth c low high = cond-false _ _ _ (le-ltb c 48 low) ∙ cond-true _ _ _ (lt-ltb c 58 (omega arith))
+
+-- the capped number of one more digit
+pub IsCapped-digit : (digits : List ℕ) (i n next : ℕ) → AreDigits digits → i < length digits → IsCapped (number (take i digits)) n
+    → next ≡ min (min (n * 10) (2 ^ 64 - 1) + (get_or digits i 0 - 48)) (2 ^ 64 - 1) → IsCapped (number (take (i + 1) digits)) next
+IsCapped-digit digits i n next all within capped is =
+    let range = digit-at digits i all within in
+    let more : number (take (i + 1) digits) ≡ number (take i digits) * 10 + (get_or digits i 0 - 48) =
+    digits_value_more 10 digits i within ∙ ap (λ (d : ℕ). number (take i digits) * 10 + d) (digit-worth (get_or digits i 0) range.0 range.1) in
+    subst (λ (m : ℕ). IsCapped m next) (sym more)
+    (subst (λ (k : ℕ). IsCapped (number (take i digits) * 10 + (get_or digits i 0 - 48)) k) (sym is)
+    (IsCapped-sum (number (take i digits)) n (get_or digits i 0 - 48) (get_or digits i 0 - 48) (number (take i digits) * 10) (n * 10) (omega arith) (omega arith)
+    (λ e. ap (λ (k : ℕ). k * 10) e) capped (record { within = λ h. refl; beyond = λ h. h })))
 
 -- the capped sum of a capped count of a unit and a capped rest
 IsCapped-pair : (unit : Unit) (n counted more rest : ℕ) → IsCapped n counted → IsCapped more rest

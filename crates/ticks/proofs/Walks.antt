@@ -1,5 +1,5 @@
 -- The loop over the instants of an outer walk, in whose ranges the multiples of a step are sought.
-use Rattle.std.proofs.Common.{◌≡◌, ℕ, ◌+◌, ◌<◌, ◌^◌, refl, sym, subst, arith}
+use Rattle.std.proofs.Common.{◌≡◌, ℕ, ◌+◌, ◌<◌, ◌≤◌, ◌^◌, refl, sym, subst, arith}
 use Rattle.std.specs.Prelude.{⊤, ℤ, pos, ◌+ℤ◌, ◌-ℤ◌, ◌<ℤ◌, ◌≤ℤ◌, Option, None, Some, IfSome, IfNone, unsigned_abs, is_some, true, false}
 use Rattle.std.proofs.lemmas.Int.{ints, by_lt_z}
 use Rattle.ticks.specs.declared.grid.Grid as grid
@@ -151,19 +151,47 @@ pub first-none : (w : Walk) → LeadsToTimes w → (found : Option Ms) (low : �
 first-none w times None low h none = λ u i. none u i (let b = instant-is_time w times u i in omega (arith, ints, h, b.low))
 first-none w times (Some at) low h none = tt
 
--- a subquery over a grid keeps to the times where its offset and its range are small
-pub grid-leads : (outer : Walk) (g : grid.Grid) → outer ≡ Grid g → (offset range step : Ms) → offset.0 <ℤ pos (2 ^ 40) → pos 0 <ℤ (offset.0 +ℤ pos (2 ^ 40))
-    → pos 0 <ℤ range.0 → range.0 <ℤ pos (2 ^ 40) → pos 0 <ℤ step.0 → LeadsToTimes (Multiples outer (record { fixed = None; offset = offset }) range step)
-grid-leads outer g e offset range step a b r s p =
-    subst (λ z. LeadsToTimes (Multiples z (record { fixed = None; offset = offset }) range step)) (sym e)
-    (coe 1 0 (k. multiples-times (Grid g) (record { fixed = None; offset = offset }) range step k) (
-      tt,
+-- a subquery over a walk keeps to the times where the instants, its offset and its range are small
+module _ (outer : Walk) (bound : ℕ) (small : bound ≤ 2 ^ 50) (near : (o : ℤ) → IsInstant outer o → (pos 0 ≤ℤ (o +ℤ pos bound)) × (o ≤ℤ pos bound)) (offset range step : Ms)
+    (a : offset.0 <ℤ pos (2 ^ 40)) (b : pos 0 <ℤ (offset.0 +ℤ pos (2 ^ 40))) (r : pos 0 <ℤ range.0) (s : range.0 <ℤ pos (2 ^ 40)) where
+  pub near-leads : LeadsToTimes outer → pos 0 <ℤ step.0 → LeadsToTimes (Multiples outer (record { fixed = None; offset = offset }) range step)
+  near-leads times p =
+      coe 1 0 (k. multiples-times outer (record { fixed = None; offset = offset }) range step k) (
+        times,
+        r,
+        p,
+        λ o i.
+            let n = near o i in
+            record {
+              ends = record { low = omega (arith, ints, a, b, n.0, small); high = omega (arith, ints, a, b, n.1, small) };
+              begins = record { low = omega (arith, ints, a, b, r, s, n.0, small); high = omega (arith, ints, a, b, r, n.1, small) };
+            },
+      )
+
+  pub near-instants : (t : ℤ) → IsInstant (Multiples outer (record { fixed = None; offset = offset }) range step) t → (pos 0 ≤ℤ (t +ℤ pos (bound + 2 ^ 41))) × (t ≤ℤ pos (bound + 2 ^ 41))
+  near-instants t i =
+      let j = coe 0 1 (k. multiples-instants outer (record { fixed = None; offset = offset }) range step t k) i in
+      let n = near j.0 j.1 in
+      (omega (arith, ints, a, b, r, s, n.0, j.2.after_edge), omega (arith, ints, a, b, n.1, j.2.to_moment))
+
+-- so does a subquery at a fixed time
+pub pinned-leads : (outer : Walk) → LeadsToTimes outer → (at offset range step : Ms) → at.0 <ℤ pos (2 ^ 40) → pos 0 <ℤ (at.0 +ℤ pos (2 ^ 40)) → offset.0 <ℤ pos (2 ^ 40)
+    → pos 0 <ℤ (offset.0 +ℤ pos (2 ^ 40)) → pos 0 <ℤ range.0 → range.0 <ℤ pos (2 ^ 40) → pos 0 <ℤ step.0
+    → LeadsToTimes (Multiples outer (record { fixed = Some at; offset = offset }) range step)
+pinned-leads outer times at offset range step f g a b r s p =
+    coe 1 0 (k. multiples-times outer (record { fixed = Some at; offset = offset }) range step k) (
+      times,
       r,
       p,
       λ o i.
-          let h = g.in_range in
           record {
-            ends = record { low = omega (arith, ints, a, b, i.from_start, h.first); high = omega (arith, ints, a, b, i.to_end, h.last) };
-            begins = record { low = omega (arith, ints, a, b, r, s, i.from_start, h.first); high = omega (arith, ints, a, b, r, i.to_end, h.last) };
+            ends = record { low = omega (arith, ints, f, g, a, b); high = omega (arith, ints, f, g, a, b) };
+            begins = record { low = omega (arith, ints, f, g, a, b, r, s); high = omega (arith, ints, f, g, a, b, r) };
           },
-    ))
+    )
+
+pub grid-near : (w : Walk) (g : grid.Grid) → w ≡ Grid g → (o : ℤ) → IsInstant w o → (pos 0 ≤ℤ (o +ℤ pos (10 ^ 14))) × (o ≤ℤ pos (10 ^ 14))
+grid-near w g e o i =
+    let j = subst (λ z. IsInstant z o) e i in
+    let h = g.in_range in
+    (omega (arith, ints, j.from_start, h.first), omega (arith, ints, j.to_end, h.last))

@@ -1,8 +1,13 @@
-ghost use Rattle.std.specs.Prelude.{ℕ, pos, ◌<◌, ◌^◌};
-ghost use Rattle.ticks.specs.Durations.{IsDuration};
+ghost use Rattle.std.specs.Prelude.{◌≡◌, ℕ, pos, ◌<◌, ◌^◌, ◌↔◌, List, Some};
+ghost use Rattle.ticks.specs.Durations.{IsDuration, duration_in};
 ghost use Rattle.ticks.specs.Spellings.{spelling};
 
 /// A law, with nothing to run: the spelling of a duration that isn't negative is read as that duration.
 pub fn spellings_are_durations()
     ensures { (n : ℕ) → n < 2 ^ 63 → IsDuration (spelling (pos n)) n }
+{}
+
+/// A law, with nothing to run: `duration_in` finds exactly the milliseconds of the duration that a text spells.
+pub fn durations_are_found()
+    ensures { (text : List ℕ) (n : ℕ) → (duration_in text ≡ Some n) ↔ IsDuration text n }
 {}

@@ -1,7 +1,7 @@
 ghost use Rattle.std.specs.Prelude.{◌≡◌, ◌<◌, ◌≤◌, ℕ, length, pos, find, bytes_eq, IfOk, IfSome, IsOkAnd, IsErrOf, IsSomeAnd, option_copied};
 ghost use Rattle.std.specs.Char.{is_ascii_digit};
 ghost use Rattle.std.specs.List.{position_or_len, prefix_len};
-ghost use Rattle.ticks.specs.Durations.{number, hundred_years, IsCapped, IsDuration, Spells};
+ghost use Rattle.ticks.specs.Durations.{AreDigits, number, duration_answer, hundred_years, IsCapped, IsDuration, Spells};
 ghost use Rattle.ticks.specs.Runs.{digits_of, after_digits, name_at, after_name};
 ghost use Rattle.ticks.specs.Units.{name_of, units};
 
@@ -15,6 +15,7 @@ const HUNDRED_YEARS: u64 = 3_153_600_000_000;
 /// `ms`, from the longest to the shortest, each at most once. It is `OutOfRange` where they are more than 100 years, and
 /// `BadDuration` where the text is no duration. It takes no memory.
 pub fn read_duration(text: &str) -> Result<Ms, TickRefusal>
+    ensures answer { result ≡ duration_answer text.now }
     ensures duration { IfOk result (λ d. (n : ℕ) × IsDuration text.now n × (n ≤ hundred_years) × (d.0 ≡ pos n)) }
     ensures read { (n : ℕ) → IsDuration text.now n → n ≤ hundred_years → IsOkAnd result (λ d. d.0 ≡ pos n) }
     ensures long { IsErrOf result TickRefusal.OutOfRange → (n : ℕ) × IsDuration text.now n × (hundred_years < n) }
@@ -108,13 +109,14 @@ fn unit_named(name: &[u8]) -> Option<Unit>
 
 /// The number of decimal digits, as far as 64 bits hold it.
 fn number_of(digits: &[u8]) -> u64
+    requires { AreDigits digits.now }
     ensures { IsCapped (number digits.now) result }
 {
     let mut n = 0u64;
     for digit in digits {
         n = n
             .saturating_mul(10)
-            .saturating_add(u64::from(digit.saturating_sub(b'0')));
+            .saturating_add(u64::from(*digit - b'0'));
     }
     n
 }

@@ -1,14 +1,18 @@
-ghost use Rattle.std.specs.Prelude.{◌<◌, IfOk};
-ghost use Rattle.ticks.specs.Walks.{LeadsToTimes};
+ghost use Rattle.std.specs.Prelude.{◌+◌, ◌^◌, ◌<◌, ℤ, pos, ◌+ℤ◌, ◌≤ℤ◌, IfOk};
+ghost use Rattle.ticks.specs.Walks.{IsInstant, LeadsToTimes};
 
 use crate::TickRefusal::{BadDuration, OutOfRange, TooManySteps};
-use crate::{Grid, Ms, Walk, WalkMoment, read_duration, spellings_are_durations, write_duration};
+use crate::{
+    Grid, Ms, Walk, WalkMoment, durations_are_found, read_duration, spellings_are_durations,
+    write_duration,
+};
 use holders::Boxed;
 use std::alloc::{AllocError, Global};
 use std::test::Fail;
 
 #[test]
 fn durations_are_read_exactly(rt: HostRuntime) {
+    durations_are_found();
     assert!(rt; Ms(-1) < Ms(0));
     let taken = [
         ("0s", 0),
@@ -127,23 +131,78 @@ fn walks_are_copied_whole(rt: HostRuntime) -> Result<(), Fail> {
     Ok(())
 }
 
-/// The walk of a subquery over a grid.
+/// A subquery over a grid or a time.
 fn subquery(
     alloc: Global,
-    grid: Grid,
+    outer: Walk,
     offset: i32,
     range: u16,
     step: u16,
 ) -> Result<Walk, AllocError>
+    requires times { LeadsToTimes outer }
+    requires near { (o : ℤ) → IsInstant outer o → (pos 0 ≤ℤ (o +ℤ pos (10 ^ 14))) × (o ≤ℤ pos (10 ^ 14)) }
     requires range { 0 < range }
     requires step { 0 < step }
-    ensures { IfOk result (λ walk. LeadsToTimes walk) }
+    ensures times { IfOk result (λ walk. LeadsToTimes walk) }
+    ensures near { IfOk result (λ walk. (t : ℤ) → IsInstant walk t → (pos 0 ≤ℤ (t +ℤ pos (10 ^ 14 + 2 ^ 41))) × (t ≤ℤ pos (10 ^ 14 + 2 ^ 41))) }
 {
-    let outer = Boxed::new(alloc, Walk::Grid(grid))?;
+    let outer = Boxed::new(alloc, outer)?;
     Ok(Walk::Multiples {
         outer,
         moment: WalkMoment {
             fixed: None,
+            offset: Ms(offset as i64),
+        },
+        range: Ms(range as i64),
+        step: Ms(step as i64),
+    })
+}
+
+/// A subquery over a subquery over a grid.
+fn over_subquery(
+    alloc: Global,
+    outer: Walk,
+    offset: i32,
+    range: u16,
+    step: u16,
+) -> Result<Walk, AllocError>
+    requires times { LeadsToTimes outer }
+    requires near { (o : ℤ) → IsInstant outer o → (pos 0 ≤ℤ (o +ℤ pos (10 ^ 14 + 2 ^ 41))) × (o ≤ℤ pos (10 ^ 14 + 2 ^ 41)) }
+    requires range { 0 < range }
+    requires step { 0 < step }
+    ensures { IfOk result (λ walk. LeadsToTimes walk) }
+{
+    let outer = Boxed::new(alloc, outer)?;
+    Ok(Walk::Multiples {
+        outer,
+        moment: WalkMoment {
+            fixed: None,
+            offset: Ms(offset as i64),
+        },
+        range: Ms(range as i64),
+        step: Ms(step as i64),
+    })
+}
+
+/// A subquery whose moment is the time that its `@` names, less the offset.
+fn pinned(
+    alloc: Global,
+    outer: Walk,
+    at: i32,
+    offset: i32,
+    range: u16,
+    step: u16,
+) -> Result<Walk, AllocError>
+    requires times { LeadsToTimes outer }
+    requires range { 0 < range }
+    requires step { 0 < step }
+    ensures { IfOk result (λ walk. LeadsToTimes walk) }
+{
+    let outer = Boxed::new(alloc, outer)?;
+    Ok(Walk::Multiples {
+        outer,
+        moment: WalkMoment {
+            fixed: Some(Ms(at as i64)),
             offset: Ms(offset as i64),
         },
         range: Ms(range as i64),
@@ -207,11 +266,95 @@ fn subqueries_walk_over_multiples(rt: HostRuntime) -> Result<(), Fail> {
     for (start, end, step, offset, range, multiple, instants) in rows {
         if let Ok(grid) = Grid::of(Ms(start), Ms(end), Ms(step)) {
             assert!(rt; 0 < range && 0 < multiple);
-            let walk = subquery(rt.alloc(), grid, offset, range, multiple)?;
+            let walk = subquery(rt.alloc(), Walk::Grid(grid), offset, range, multiple)?;
             assert_eq!(rt; listed(rt.alloc(), &walk)?.as_str(), instants);
         } else {
             assert!(rt; false);
         }
+    }
+    Ok(())
+}
+
+#[test]
+fn subqueries_walk_over_subqueries(rt: HostRuntime) -> Result<(), Fail> {
+    // each list is a plain enumeration of the times, made elsewhere: a grid, then the offset, range and step of each
+    let rows = [
+        (
+            (0, 60, 20),
+            (0, 30, 10),
+            (0, 15, 5),
+            " -30 -25 -20 -15 -10 -5 0 5 10 15 20 25 30 35 40 45 50 55 60",
+        ),
+        (
+            (0, 60, 20),
+            (5, 10, 10),
+            (0, 7, 3),
+            " -15 -12 6 9 24 27 30 45 48",
+        ),
+        (
+            (0, 60, 30),
+            (0, 5, 10),
+            (-4, 9, 4),
+            " -4 0 4 28 32 56 60 64",
+        ),
+        (
+            (-50, 50, 25),
+            (-13, 25, 20),
+            (6, 13, 9),
+            " -72 -54 -36 -27 -18 -9 9 27 45 54",
+        ),
+        ((3, 63, 20), (0, 3, 10), (0, 60, 5), ""),
+        ((7, 7, 1), (0, 100, 25), (0, 10, 6), " -84 -78 -54 -30 -6 0"),
+        ((7, 67, 30), (2, 100, 25), (-30, 50, 40), " -80 -40 0 40 80"),
+        (
+            (0, 90, 45),
+            (10, 60, 40),
+            (1, 2, 1),
+            " -42 -41 -2 -1 38 39 78 79",
+        ),
+        ((0, 4, 1), (0, 2, 1), (0, 2, 1), " -2 -1 0 1 2 3 4"),
+    ];
+    for ((start, end, step), (offset, range, multiple), (later, wide, apart), instants) in rows {
+        if let Ok(grid) = Grid::of(Ms(start), Ms(end), Ms(step)) {
+            assert!(rt; 0 < range && 0 < multiple);
+            assert!(rt; 0 < wide && 0 < apart);
+            let inner = subquery(rt.alloc(), Walk::Grid(grid), offset, range, multiple)?;
+            let walk = over_subquery(rt.alloc(), inner, later, wide, apart)?;
+            assert_eq!(rt; listed(rt.alloc(), &walk)?.as_str(), instants);
+        } else {
+            assert!(rt; false);
+        }
+    }
+    Ok(())
+}
+
+#[test]
+fn subqueries_walk_over_a_fixed_time(rt: HostRuntime) -> Result<(), Fail> {
+    // each list is a plain enumeration of the times, made elsewhere
+    let rows = [
+        (0, 0, 30, 10, " -20 -10 0"),
+        (60, 5, 30, 10, " 30 40 50"),
+        (60, -5, 30, 10, " 40 50 60"),
+        (7, 0, 5, 10, ""),
+        (10, 0, 5, 10, " 10"),
+        (5, 0, 5, 10, ""),
+        (-33, 12, 40, 15, " -75 -60 -45"),
+        (100, 0, 1, 1, " 100"),
+        (-1, 0, 2, 50, ""),
+        (99, 3, 100, 33, " 0 33 66"),
+    ];
+    for (at, offset, range, multiple, instants) in rows {
+        assert!(rt; 0 < range && 0 < multiple);
+        let walk = subquery(
+            rt.alloc(),
+            Walk::Fixed(Ms(at as i64)),
+            offset,
+            range,
+            multiple,
+        )?;
+        assert_eq!(rt; listed(rt.alloc(), &walk)?.as_str(), instants);
+        let walk = pinned(rt.alloc(), Walk::Fixed(Ms(9)), at, offset, range, multiple)?;
+        assert_eq!(rt; listed(rt.alloc(), &walk)?.as_str(), instants);
     }
     Ok(())
 }

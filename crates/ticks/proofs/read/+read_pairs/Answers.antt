@@ -1,8 +1,11 @@
 use Rattle.std.proofs.Common.{rules, ◌≡◌, ◌*◌, ◌+◌, ℕ, length, arith, sym, subst, ◌∙◌}
-use Rattle.ticks.specs.Durations.{IsCapped, Spells, number}
+use Rattle.ticks.specs.Durations.{AreDigits, IsCapped, Spells, number}
 use Rattle.ticks.specs.Units.{milliseconds_in}
-use Rattle.ticks.proofs.Pairs.{no_digits, no_unit, not_shorter, Spells-split, Spells-joined, Spells-nil, IsCapped-counted, IsCapped-text}
+use Rattle.ticks.proofs.Pairs.{AreDigits-digits_of, no_digits, no_unit, not_shorter, Spells-split, Spells-joined, Spells-nil, IsCapped-counted, IsCapped-text}
 use Rattle.ticks.proofs.read.+read_pairs.Goals as goal
+
+pub number_of-requires : goal.number_of-requires
+number_of-requires t c = subst AreDigits (sym c.split_pair.ensures.digits) (AreDigits-digits_of c.args.text.now)
 
 pub returns-then-is_empty-clause-complete : goal.returns-then-is_empty-clause-complete
 returns-then-is_empty-clause-complete t c = λ n spells.

@@ -1,0 +1,10 @@
+use Rattle.std.proofs.Common.{arith, subst, sym}
+use Rattle.std.proofs.lemmas.Int.{ints}
+use Rattle.ticks.specs.Walks.{LeadsToTimes}
+use Rattle.ticks.proofs.Walks.{pinned-leads}
+use Rattle.ticks.proofs.tests.pinned.Goals as goal
+
+pub returns : goal.returns
+returns c =
+    pinned-leads c.in_ok-outer.outer (subst LeadsToTimes (sym c.in_ok-outer.ensures) c.requires.times) _ _ _ _ (omega (arith, ints)) (omega (arith, ints)) (omega (arith, ints))
+    (omega (arith, ints)) (omega (arith, ints, c.requires.range)) (omega (arith, ints)) (omega (arith, ints, c.requires.step))
