@@ -26,6 +26,7 @@ pub record IsHalved (samples : Samples) (after : Ms) (low high old probed : ℕ)
   pub probes : probed ≡ old + count
   pub spent : (high - low) * 2 ^ count ≤ length samples
   pub paid : 2 ^ count ≤ 2 * length samples + 1
+  pub told : length samples + 2 ≤ (high - low + 2) * 2 ^ count
 
 earlier : (samples : Samples) (i j : ℕ) (a b : Ms × Held) → IsRising samples → i < j → slice_get samples i ≡ Some a → slice_get samples j ≡ Some b → a.0.0 <ℤ b.0.0
 earlier samples i j a b s l f g = let less : int_cmp a.0.0 b.0.0 ≡ Less = later_key time_cmp samples i j a b s l f g in int_ranked a.0.0 b.0.0 Less (sym less)
@@ -37,10 +38,14 @@ spent-half w v p n h s = let t : v * 2 * p ≤ w * p = mul-le-mul_right p h in o
 paid-half : (w p n : ℕ) → 1 ≤ w → w * p ≤ n → 2 * p ≤ 2 * n + 1
 paid-half w p n h s = let t : 1 * p ≤ w * p = mul-le-mul_right p h in omega (arith, t, s)
 
+-- less than a half is never left
+told-half : (w v p n : ℕ) → w ≤ v * 2 + 2 → n + 2 ≤ (w + 2) * p → n + 2 ≤ (v + 2) * (2 * p)
+told-half w v p n h s = let t : (w + 2) * p ≤ (v * 2 + 4) * p = mul-le-mul_right p (let k : w + 2 ≤ v * 2 + 4 = omega arith in k) in omega (arith, t, s)
+
 module _ (samples : Samples) (after : Ms) (rising : IsRising samples) (low high old probed now m : ℕ) (b : IsHalved samples after low high old probed)
     (l : low ≤ m) (w : m < high) (e : now ≡ probed + 1) (a : Ms × Held) (at : slice_get samples m ≡ Some a) where
-  pub lower : (m - low) * 2 ≤ high - low → after.0 <ℤ a.0.0 → IsHalved samples after low m old now
-  lower half h = record {
+  pub lower : (m - low) * 2 ≤ high - low → high - low ≤ (m - low) * 2 + 2 → after.0 <ℤ a.0.0 → IsHalved samples after low m old now
+  lower half wide h = record {
     ordered = l;
     within = let i = b.within in omega arith;
     before = b.before;
@@ -52,10 +57,11 @@ module _ (samples : Samples) (after : Ms) (rising : IsRising samples) (low high 
     probes = let p = b.probes in omega arith;
     spent = subst (λ (z : ℕ). (m - low) * z ≤ length samples) (sym (pow-succ' 2 b.count)) (spent-half (high - low) (m - low) (2 ^ b.count) (length samples) half b.spent);
     paid = subst (λ (z : ℕ). z ≤ 2 * length samples + 1) (sym (pow-succ' 2 b.count)) (paid-half (high - low) (2 ^ b.count) (length samples) (omega arith) b.spent);
+    told = subst (λ (z : ℕ). length samples + 2 ≤ ((m - low) + 2) * z) (sym (pow-succ' 2 b.count)) (told-half (high - low) (m - low) (2 ^ b.count) (length samples) wide b.told);
   }
 
-  pub upper : (high - (m + 1)) * 2 ≤ high - low → a.0.0 ≤ℤ after.0 → IsHalved samples after (m + 1) high old now
-  upper half h = record {
+  pub upper : (high - (m + 1)) * 2 ≤ high - low → high - low ≤ (high - (m + 1)) * 2 + 2 → a.0.0 ≤ℤ after.0 → IsHalved samples after (m + 1) high old now
+  upper half wide h = record {
     ordered = omega arith;
     within = b.within;
     before = λ j s g f. elim (eq-or-lt_of_le (let n : j ≤ m = omega arith in n)) [
@@ -67,6 +73,7 @@ module _ (samples : Samples) (after : Ms) (rising : IsRising samples) (low high 
     probes = let p = b.probes in omega arith;
     spent = subst (λ (z : ℕ). (high - (m + 1)) * z ≤ length samples) (sym (pow-succ' 2 b.count)) (spent-half (high - low) (high - (m + 1)) (2 ^ b.count) (length samples) half b.spent);
     paid = subst (λ (z : ℕ). z ≤ 2 * length samples + 1) (sym (pow-succ' 2 b.count)) (paid-half (high - low) (2 ^ b.count) (length samples) (omega arith) b.spent);
+    told = subst (λ (z : ℕ). length samples + 2 ≤ ((high - (m + 1)) + 2) * z) (sym (pow-succ' 2 b.count)) (told-half (high - low) (high - (m + 1)) (2 ^ b.count) (length samples) wide b.told);
   }
 
 pub whole : (samples : Samples) (after : Ms) (old : ℕ) → IsHalved samples after 0 (length samples) old old
@@ -79,12 +86,20 @@ whole samples after old = record {
   probes = omega arith;
   spent = omega arith;
   paid = omega arith;
+  told = omega arith;
 }
   where
     beyond-end : (samples : Samples) (j : ℕ) (s : Ms × Held) → length samples ≤ j → slice_get samples j ≡ Some s → after.0 <ℤ s.0.0
     beyond-end [] j s g f = absurd (cc)
     beyond-end (x ∷ xs) zero s g f = absurd (omega arith)
     beyond-end (x ∷ xs) (suc j) s g f = beyond-end xs j s (omega arith) f
+
+-- a search that is done has looked often enough to tell the samples apart
+pub looked-enough : (samples : Samples) (after : Ms) (low high old probed : ℕ) → IsHalved samples after low high old probed → high ≤ low → length samples + 2 ≤ 2 * 2 ^ (probed - old)
+looked-enough samples after low high old probed b done =
+    let looks : probed - old ≡ b.count = (let p = b.probes in omega (arith, p)) in
+    let none : high - low ≡ 0 = omega arith in
+    subst (λ (z : ℕ). length samples + 2 ≤ 2 * 2 ^ z) (sym looks) (subst (λ (z : ℕ). length samples + 2 ≤ (z + 2) * 2 ^ b.count) none b.told)
 
 few : (count n : ℕ) → n < 2 ^ 64 → 2 ^ count ≤ 2 * n + 1 → 65 ≤ count → ⊥
 few count n h p l = let q : 2 ^ 65 ≤ 2 ^ count = pow-le-pow_right {n = 2} (omega arith) l in omega (arith, q, h, p)

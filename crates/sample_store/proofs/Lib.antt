@@ -1,2 +1,4 @@
+pub mod Columns
 pub mod Halves
+pub mod Sameness
 pub mod Stores

@@ -1,5 +1,8 @@
 -- A store stays a store when it gains a series or a sample.
 use Rattle.std.proofs.Common.{◌≡◌, Bool, true, false, ℕ, zero, suc, ◌+◌, ◌<◌, List, [], ◌∷◌, length, Option, None, Some, get_or, unwrap_or, slice_get, slice_set, insert, refl, sym, ap, subst, ◌∙◌, arith}
+use Rattle.std.proofs.lemmas.List.Kept.{IsStrictlySortedBy-filter}
+use Rattle.std.specs.Prelude.{◌&&◌, ◌≤◌, nat_le, is_none, filter, int_lt, if◌then◌else◌, Result, Err, IsOkUnless, MatchOption}
+use Rattle.std.proofs.lemmas.Bool.Decides.{nat_tests}
 use Rattle.std.specs.List.{AllByRecursion}
 use Rattle.std.specs.List.Sorted.{IsStrictlySortedBy}
 use Rattle.std.specs.BTreeMap.{insert_entry}
@@ -9,14 +12,16 @@ use Rattle.label_set.specs.LabelOrder.{labels_cmp_total}
 use Rattle.label_set.proofs.Entries.{all_insert, sorted_insert}
 use Rattle.ticks.specs.declared.moment.Ms.{Ms}
 use Rattle.xfrac.specs.declared.value.Held.{Held}
-use Rattle.sample_store.specs.Samples.{AllSeries, IsCause, IsCauseIn, IsFoundAt, IsFree, IsOrdered, IsRising, IsRoomIn, IsStore, IsTimeAt, Names, Samples, held_in, sample_count, samples_of, time_cmp, with_sample}
+use Rattle.sample_store.specs.Samples.{AllSeries, IsFoundAt, IsOrdered, IsRising, IsRoomIn, IsStore, IsTimeAt, IsTimeGapAt, Names, Samples, held_in, is_same, later_than, limit_broken, refusal_beside, refusal_in, refusal_of, sample_count, samples_of, time_cmp, with_sample}
 use Rattle.sample_store.specs.declared.refusal.StoreRefusal.{StoreRefusal}
 use Rattle.sample_store.specs.declared.refusal.StoreRefusal.TheVariants.{Conflict, TooManySamples, TooManySeries, Memory}
+use Rattle.sample_store.proofs.Columns.{length_inserted}
 use Rattle.sample_store.proofs.Halves.{time_cmp_total}
+use Rattle.sample_store.proofs.Sameness.{held-same}
 
-pub store-empty : (series : AllSeries) → series ≡ [] → IsStore series 0
+pub store_empty : (series : AllSeries) → series ≡ [] → IsStore series 0
 unfolding IsStrictlySortedBy
-store-empty series e = subst (λ z. IsStore z 0) (sym e) (record { ordered = record { by_labels = tt; rising = tt }; counted = refl; few_series = omega arith; few_samples = omega arith })
+store_empty series e = subst (λ z. IsStore z 0) (sym e) (record { ordered = record { by_labels = tt; rising = tt }; counted = refl; few_series = omega arith; few_samples = omega arith })
 
 rising-one : (at : Ms) (held : Held) → IsRising ((at, held) ∷ [])
 unfolding IsStrictlySortedBy
@@ -28,12 +33,6 @@ count-insert [] (suc i) s = refl
 count-insert (x ∷ xs) zero s = refl
 count-insert (x ∷ xs) (suc i) s = let h = count-insert xs i s in omega (arith, h)
 
-length-inserted : {X : Type 0} (xs : List X) (i : ℕ) (x : X) → length (insert xs i x) ≡ length xs + 1
-length-inserted [] zero x = omega arith
-length-inserted [] (suc i) x = omega arith
-length-inserted (y ∷ ys) zero x = omega arith
-length-inserted (y ∷ ys) (suc i) x = let h = length-inserted ys i x in omega (arith, h)
-
 pub store-series : (series : AllSeries) (count place : ℕ) (names : Names) (at : Ms) (held : Held) → IsStore series count
     → insert_entry labels_cmp series names ((at, held) ∷ []) ≡ insert series place (names, (at, held) ∷ []) → length series < 100000 → count < 2000000
     → IsStore (insert series place (names, (at, held) ∷ [])) (count + 1)
@@ -43,7 +42,7 @@ store-series series count place names at held s e few fewer = record {
     rising = all_insert labels_cmp (λ z. IsRising z.1) names ((at, held) ∷ []) series (rising-one at held) (λ z _. rising-one at held) s.ordered.rising;
   });
   counted = let h = count-insert series place (names, (at, held) ∷ []) in let c = s.counted in omega (arith, h, c);
-  few_series = let h = length-inserted series place (names, (at, held) ∷ []) in omega (arith, h, few);
+  few_series = let h = length_inserted series place (names, (at, held) ∷ []) in omega (arith, h, few);
   few_samples = omega (arith, fewer);
 }
 
@@ -84,7 +83,7 @@ store-sample series count place i names old at held s h e fewer = record {
   };
   counted =
       let g = count-set series place names old (insert old i (at, held)) h in
-      let l = length-inserted old i (at, held) in
+      let l = length_inserted old i (at, held) in
       let c = s.counted in
       omega (arith, g, l, c);
   few_series = let l = length-set-series series place (names, insert old i (at, held)) in let f = s.few_series in omega (arith, l, f);
@@ -110,36 +109,73 @@ room-same samples at place held kept count f k h =
     let e : f.held ≡ held = sym k ∙ h in
     (f.known ∙ ap Some e, f.changed held ∙ subst (λ (z : Held). slice_set samples place (at, z) ≡ samples) e (set-same samples place (at, f.held) f.there))
 
-pub cause-conflict : (samples : Samples) (at : Ms) (place : ℕ) (held kept : Held) (count : ℕ) (f : IsTimeAt samples at place) → kept ≡ f.held → (kept ≡ held → ⊥)
-    → IsCauseIn samples at held count (Conflict kept held)
-cause-conflict samples at place held kept count f k h = (f.known ∙ ap Some (sym k), h, refl)
+-- another value than the one that stands there is refused
+pub other-refused : (samples : Samples) (at : Ms) (place : ℕ) (held kept : Held) (count : ℕ) (f : IsTimeAt samples at place) → kept ≡ f.held → is_same kept held ≡ false
+    → refusal_in samples at held count ≡ Some (Conflict kept held)
+other-refused samples at place held kept count f k h =
+    ap (λ (o : Option Held). refusal_beside o (if nat_le 2000000 count then Some TooManySamples else None) held) (f.known ∙ ap Some (sym k))
+    ∙ ap (λ (b : Bool). if b then None else Some (Conflict kept held)) h
+
+at-least : (n m : ℕ) → n ≤ m → nat_le n m ≡ true
+at-least n m h = grind (arith, nat_tests)
+
+below : (n m : ℕ) → m < n → nat_le n m ≡ false
+below n m h = grind (arith, nat_tests)
+
+-- beside nothing, a sample beyond the limit is refused
+pub full-refused : (samples : Samples) (at : Ms) (place : ℕ) (held : Held) (count : ℕ) → IsTimeGapAt samples at place → 2000000 ≤ count
+    → refusal_in samples at held count ≡ Some TooManySamples
+full-refused samples at place held count g l =
+    ap (λ (o : Option Held). refusal_beside o (if nat_le 2000000 count then Some TooManySamples else None) held) g.absent
+    ∙ ap (λ (b : Bool). if b then Some TooManySamples else None) (at-least 2000000 count l)
+
+-- where there is room, nothing is refused
+room-free : (samples : Samples) (at : Ms) (held : Held) (count : ℕ) (r : Option ℕ) → IsRoomIn samples at held count r → refusal_in samples at held count ≡ None
+room-free samples at held count None h =
+    ap (λ (o : Option Held). refusal_beside o (if nat_le 2000000 count then Some TooManySamples else None) held) h.0
+    ∙ ap (λ (b : Bool). if b then None else Some (Conflict held held)) ((held-same held held).1 refl)
+room-free samples at held count (Some i) h =
+    ap (λ (o : Option Held). refusal_beside o (if nat_le 2000000 count then Some TooManySamples else None) held) h.0.absent
+    ∙ ap (λ (b : Bool). if b then Some TooManySamples else None) (below 2000000 count h.1)
+
+-- a sample that is there already is not refused
+pub equal-taken : (series : AllSeries) (names : Names) (at : Ms) (held : Held) (e : StoreRefusal) → refusal_of series names at held ≡ Some e
+    → held_in (samples_of series names) at ≡ Some held → ⊥
+equal-taken series names at held e r h =
+    let free : refusal_of series names at held ≡ None =
+    ap (λ (o : Option Held). refusal_beside o (limit_broken series names) held) h
+    ∙ ap (λ (b : Bool). if b then None else Some (Conflict held held)) ((held-same held held).1 refl) in
+    absurd (none-some e (sym free ∙ r))
+  where
+    none-some : (e : StoreRefusal) → None ≡ Some e → ⊥
+    none-some e h = cc
+
+pub refused-as : (o : Option StoreRefusal) (r : Result (Unit {0}) StoreRefusal) (e : StoreRefusal) → o ≡ Some e → r ≡ Err e → MatchOption o (IsOkUnless r Memory) (λ (z : StoreRefusal). r ≡ Err z)
+refused-as o r e h f = rw h f
+
+pub unless-memory : (o : Option StoreRefusal) (r : Result (Unit {0}) StoreRefusal) → o ≡ None → IsOkUnless r Memory → MatchOption o (IsOkUnless r Memory) (λ (z : StoreRefusal). r ≡ Err z)
+unless-memory o r h f = rw h f
 
 module _ (series : AllSeries) (names : Names) (at : Ms) (held : Held) (place count : ℕ) (s : IsStore series count) (f : IsFoundAt series names place) where
   samples-are : samples_of series names ≡ f.samples
   samples-are = ap (λ o. unwrap_or o []) f.known
 
-  held-is : (o : Option Held) → held_in f.samples at ≡ o → held_in (samples_of series names) at ≡ o
-  held-is o h = subst (λ (z : Samples). held_in z at ≡ o) (sym samples-are) h
-
   is-held : (o : Option Held) → held_in (samples_of series names) at ≡ o → held_in f.samples at ≡ o
   is-held o h = subst (λ (z : Samples). held_in z at ≡ o) samples-are h
 
-  pub cause-in : (e : StoreRefusal) → IsCauseIn f.samples at held count e → IsCause series names at held e
-  cause-in (Conflict kept given) h = (held-is (Some kept) h.0, h.1, h.2)
-  cause-in TooManySeries h = absurd h
-  cause-in TooManySamples h = (held-is None h.0, (λ none. absurd (let k = f.known in cc)), (let c = s.counted in omega (arith, c, h.1)))
-  cause-in Memory h = tt
+  refusal-is : refusal_of series names at held ≡ refusal_in f.samples at held count
+  refusal-is =
+      ap (λ (z : Samples). refusal_beside (held_in z at) (limit_broken series names) held) samples-are
+      ∙ ap (λ (o : Option Samples).
+      refusal_beside (held_in f.samples at)
+      (if is_none o && nat_le 100000 (length series) then Some TooManySeries else if nat_le 2000000 (sample_count series) then Some TooManySamples else None) held) f.known
+      ∙ ap (λ (n : ℕ). refusal_beside (held_in f.samples at) (if nat_le 2000000 n then Some TooManySamples else None) held) (sym s.counted)
 
-  pub free-in : (r : Option ℕ) → IsRoomIn f.samples at held count r → IsFree series names at held
-  free-in r h = record { only_memory = none r h }
-    where
-      none : (r : Option ℕ) → IsRoomIn f.samples at held count r → (e : StoreRefusal) → IsCause series names at held e → e ≡ Memory
-      none None h (Conflict kept given) g = absurd (g.1 (let a = is-held (Some kept) g.0 in let b = h.0 in cc))
-      none (Some i) h (Conflict kept given) g = absurd (let a = is-held (Some kept) g.0 in let b = h.0.absent in cc)
-      none r h TooManySeries g = absurd (let a = g.0 in let b = f.known in cc)
-      none None h TooManySamples g = absurd (let a = is-held None g.0 in let b = h.0 in cc)
-      none (Some i) h TooManySamples g = absurd (let c = s.counted in omega (arith, c, g.2, h.1))
-      none r h Memory g = refl
+  pub refused-in : (e : StoreRefusal) → refusal_in f.samples at held count ≡ Some e → refusal_of series names at held ≡ Some e
+  refused-in e h = refusal-is ∙ h
+
+  pub free-in : (r : Option ℕ) → IsRoomIn f.samples at held count r → refusal_of series names at held ≡ None
+  free-in r h = refusal-is ∙ room-free f.samples at held count r h
 
   with-is : with_sample series names at held ≡ slice_set series place (names, insert_entry time_cmp f.samples at held)
   with-is = f.changed (insert_entry time_cmp (samples_of series names) at held) ∙ ap (λ (z : Samples). slice_set series place (names, insert_entry time_cmp z at held)) samples-are
@@ -159,6 +195,14 @@ module _ (series : AllSeries) (names : Names) (at : Ms) (held : Held) (place cou
   store-put i one h e = subst (λ (z : Names × Samples). IsStore (slice_set series place z) (count + 1)) (sym e)
       (store-sample series count place i names f.samples at held s f.there (h.0.added held) h.1)
 
-pub not-both : (b : Bool) → b ≡ true → b ≡ false → ⊥
-not-both true h g = absurd (cc)
-not-both false h g = absurd (cc)
+-- the samples that are later than a time rise as all do
+keys-later : (after : Ms) (samples : Samples) → keys_of (later_than after samples) ≡ filter (λ (t : Ms). int_lt after.0 t.0) (keys_of samples)
+keys-later after [] = refl
+keys-later after (s ∷ samples) =
+    elim (int_lt after.0 s.0.0) as (λ b. keys_of (if b then s ∷ later_than after samples else later_than after samples)
+    ≡ (if b then s.0 ∷ filter (λ (t : Ms). int_lt after.0 t.0) (keys_of samples) else filter (λ (t : Ms). int_lt after.0 t.0) (keys_of samples)))
+    [ true ↦ ap (λ ts. s.0 ∷ ts) (keys-later after samples) | false ↦ keys-later after samples ]
+
+pub rising-later : (after : Ms) (samples : Samples) → IsRising samples → IsRising (later_than after samples)
+rising-later after samples rising =
+    subst (IsStrictlySortedBy time_cmp) (sym (keys-later after samples)) (IsStrictlySortedBy-filter time_cmp (λ (t : Ms). int_lt after.0 t.0) (keys_of samples) rising)

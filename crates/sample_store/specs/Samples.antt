@@ -1,19 +1,23 @@
 -- What a store holds: series in the order of their labels, each with its samples in rising time (Prometheus, "Data
 -- model"). That an equal sample is taken twice and another one refused, and the limits, are this project's own.
-use Rattle.std.specs.Prelude.{Bool, ⊤, if◌then◌else◌, ◌≡◌, ◌<◌, ◌≤◌, ◌+◌, slice_get, slice_set, insert, ℕ, List, [], ◌∷◌, length, Option, None, Some, int_lt, unwrap_or, filter}
+use Rattle.std.specs.Prelude.{Bool, true, false, ◌&&◌, ◌==◌, nat_le, is_none, ⊤, if◌then◌else◌, ◌≡◌, ◌<◌, ◌≤◌, ◌+◌, slice_get, slice_set, insert, ℕ, List, [], ◌∷◌, length, Option, None, Some, int_lt, unwrap_or, filter}
 use Rattle.std.specs.BTreeMap.{insert_entry, is_at}
 use Rattle.std.specs.List.{AllByRecursion, list_all}
 use Rattle.std.specs.List.Sorted.{IsStrictlySortedBy}
 use Rattle.std.specs.Map.{keys_of, lookup}
-use Rattle.std.specs.Ordering.{int_cmp, on}
+use Rattle.std.specs.Ordering.{int_cmp, int_eq, on}
 use Rattle.std.specs.declared.cmp.Ordering.{Ordering}
 use Rattle.label_set.specs.Labels.{labels_cmp, value_of}
 use Rattle.label_set.specs.declared.rules.Rule.{Rule}
 use Rattle.match_rule.specs.Patterns.{HasItsPattern, kind_passes}
 use Rattle.sample_store.specs.declared.refusal.StoreRefusal.{StoreRefusal}
-use Rattle.sample_store.specs.declared.refusal.StoreRefusal.TheVariants.{Conflict, TooManySamples, TooManySeries, Memory}
+use Rattle.sample_store.specs.declared.refusal.StoreRefusal.TheVariants.{Conflict, TooManySamples, TooManySeries}
 use Rattle.ticks.specs.declared.moment.Ms.{Ms}
+use Rattle.xfrac.specs.Order.{rank}
 use Rattle.xfrac.specs.declared.value.Held.{Held}
+use Rattle.xfrac.specs.declared.value.Held.TheVariants.{Value, Stale}
+use Rattle.xfrac.specs.declared.value.XFrac.{XFrac}
+use Rattle.xfrac.specs.declared.value.XFrac.TheVariants.{Fin}
 
 -- the pairs that name a series, the samples of one series, and all series
 abbrev pub Names : Type 0
@@ -65,18 +69,32 @@ with_sample series names at held = insert_entry labels_cmp series names (insert_
 abbrev pub later_than : Ms → Samples → Samples
 later_than after samples = filter (λ s. int_lt after.0 s.0.0) samples
 
--- why a sample is refused: another value stands at its time; it needs a new series, and there are 100,000; there are
--- 2,000,000 samples, and it needs no series or there is room for one
-abbrev pub IsCause : AllSeries → Names → Ms → Held → StoreRefusal → Type 0
-IsCause series names at held (Conflict kept given) = (held_in (samples_of series names) at ≡ Some kept) × (kept ≡ held → ⊥) × (given ≡ held)
-IsCause series names at held TooManySeries = (lookup (is_at (labels_cmp names)) series ≡ None) × (100000 ≤ length series)
-IsCause series names at held TooManySamples =
-    (held_in (samples_of series names) at ≡ None) × (lookup (is_at (labels_cmp names)) series ≡ None → length series < 100000) × (2000000 ≤ sample_count series)
-IsCause series names at held Memory = Unit {0}
+-- two numbers are the same: one fraction in lowest terms, one infinity, or NaN and NaN
+abbrev pub is_same_number : XFrac → XFrac → Bool
+is_same_number (Fin f) (Fin g) = int_eq f.0 g.0 && f.1 == g.1
+is_same_number x y = rank x == rank y
 
--- nothing but want of memory stands against a sample
-pub record IsFree (series : AllSeries) (names : Names) (at : Ms) (held : Held) : Type 0 where
-  pub only_memory : (e : StoreRefusal) → IsCause series names at held e → e ≡ Memory
+-- two samples hold the same: equal numbers, NaN and NaN, or two markers
+abbrev pub is_same : Held → Held → Bool
+is_same (Value x) (Value y) = is_same_number x y
+is_same Stale Stale = true
+is_same a b = false
+
+-- which limit one more sample would break: a new series beyond 100,000, or a sample beyond 2,000,000
+abbrev pub limit_broken : AllSeries → Names → Option StoreRefusal
+limit_broken series names =
+    if is_none (lookup (is_at (labels_cmp names)) series) && nat_le 100000 (length series) then Some TooManySeries
+    else if nat_le 2000000 (sample_count series) then Some TooManySamples
+    else None
+
+-- why a sample is refused beside what stands at its time: another value does; where nothing does, the limit it breaks
+abbrev pub refusal_beside : Option Held → Option StoreRefusal → Held → Option StoreRefusal
+refusal_beside (Some kept) broken held = if is_same kept held then None else Some (Conflict kept held)
+refusal_beside None broken held = broken
+
+-- why a sample is refused; nothing where it is taken. Want of memory is no part of it
+abbrev pub refusal_of : AllSeries → Names → Ms → Held → Option StoreRefusal
+refusal_of series names at held = refusal_beside (held_in (samples_of series names) at) (limit_broken series names) held
 
 -- the place of the series with some labels
 pub record IsFoundAt (series : AllSeries) (names : Names) (place : ℕ) : Type 0 where
@@ -112,11 +130,8 @@ IsRoomIn samples at held count None = (held_in samples at ≡ Some held) × (ins
 IsRoomIn samples at held count (Some place) = IsTimeGapAt samples at place × (count < 2000000)
 
 -- why a sample is refused by a series that is there
-abbrev pub IsCauseIn : Samples → Ms → Held → ℕ → StoreRefusal → Type 0
-IsCauseIn samples at held count (Conflict kept given) = (held_in samples at ≡ Some kept) × (kept ≡ held → ⊥) × (given ≡ held)
-IsCauseIn samples at held count TooManySeries = ⊥
-IsCauseIn samples at held count TooManySamples = (held_in samples at ≡ None) × (2000000 ≤ count)
-IsCauseIn samples at held count Memory = ⊥
+abbrev pub refusal_in : Samples → Ms → Held → ℕ → Option StoreRefusal
+refusal_in samples at held count = refusal_beside (held_in samples at) (if nat_le 2000000 count then Some TooManySamples else None) held
 
 -- each rule has its pattern
 abbrev pub HaveTheirPatterns : List (Bool × List ℕ) → List Rule → Type 0

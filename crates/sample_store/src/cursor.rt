@@ -1,4 +1,5 @@
 ghost use Rattle.sample_store.specs.Samples.{Samples};
+ghost use Rattle.std.specs.List.{zip};
 ghost use Rattle.std.specs.Prelude.{◌≡◌, ◌+◌, [], ◌∷◌, MatchOption};
 
 use std::marker::Model;
@@ -9,22 +10,24 @@ use xfrac::Held;
 /// The samples of a series from some place on, in rising time. Contracts see the list of those that are still to come.
 #[derive(Drop)]
 pub struct Cursor<'a> {
-    rest: &'a [(Ms, Held)],
+    times: &'a [Ms],
+    values: &'a [Held],
 }
 
 impl<'a> Model for Cursor<'a> {
     ghost use Rattle.sample_store.specs.Samples.{Samples};
+    ghost use Rattle.std.specs.List.{zip};
 
     ghost Value = { Samples };
 
-    ghost view = { λ c. c.rest.now };
+    ghost view = { λ c. zip c.times.now c.values.now };
 }
 
 impl<'a> Cursor<'a> {
-    pub(crate) fn of(rest: &'a [(Ms, Held)]) -> Cursor<'a>
-        ensures { result ≡ rest.now }
+    pub(crate) fn of(times: &'a [Ms], values: &'a [Held]) -> Cursor<'a>
+        ensures { result ≡ zip times.now values.now }
     {
-        Cursor { rest }
+        Cursor { times, values }
     }
 
     /// The next sample, counted as fetched; there is none exactly where no later sample is held. It takes no memory.
@@ -34,14 +37,16 @@ impl<'a> Cursor<'a> {
         ensures probed { work.new.probed ≡ work.old.probed }
         ensures tested { work.new.tested ≡ work.old.tested }
     {
-        let rest = self.rest;
-        match rest {
-            [] => None,
-            [first, ..] => {
+        let times = self.times;
+        let values = self.values;
+        match (times.split_first(), values.split_first()) {
+            (Some((at, later_times)), Some((held, later_values))) => {
                 work.fetch();
-                self.rest = &rest[1..];
-                Some((first.0, &first.1))
+                self.times = later_times;
+                self.values = later_values;
+                Some((*at, held))
             }
+            _ => None,
         }
     }
 }

@@ -7,6 +7,7 @@ mod refusal;
 mod search;
 mod select;
 mod store;
+mod timeline;
 
 pub use cursor::Cursor;
 pub use label_set::Memory;

@@ -2,29 +2,29 @@ ghost use Rattle.sample_store.specs.Samples.{IsFoundAt, IsGapAt, IsRising, IsTim
 ghost use Rattle.label_set.specs.Labels.{labels_cmp};
 ghost use Rattle.std.specs.List.Sorted.{IsStrictlySortedBy};
 ghost use Rattle.std.specs.Map.{keys_of};
-ghost use Rattle.std.specs.Prelude.{◌≡◌, ◌≤◌, ◌+◌, length, drop, MatchResult};
+ghost use Rattle.std.specs.Prelude.{◌≡◌, ◌≤◌, ◌+◌, ◌-◌, ◌*◌, ◌^◌, length, drop, MatchResult};
 
-use holders::{Boxed, Items};
+use crate::timeline::Timeline;
+use holders::Boxed;
 use label_set::Labels;
 use std::cmp::Ordering;
 use std::sync::ledger::Ledger;
 use ticks::{Ms, Work};
-use xfrac::Held;
 
 /// The place of the sample at a time, or the place where it would stand. A time after all others is found at once.
-pub fn find_time(samples: &[(Ms, Held)], at: Ms) -> Result<usize, usize>
+pub fn find_time(samples: &Timeline, at: Ms) -> Result<usize, usize>
     requires { IsRising samples.now }
     ensures { MatchResult result (IsTimeAt samples.now at) (IsTimeGapAt samples.now at) }
 {
     let count = samples.len();
-    if count > 0 && samples[count - 1].0.0 < at.0 {
+    if count > 0 && samples.time(count - 1).0 < at.0 {
         return Err(count);
     }
     search_time(samples, at)
 }
 
 /// The same by a binary search.
-fn search_time(samples: &[(Ms, Held)], at: Ms) -> Result<usize, usize>
+fn search_time(samples: &Timeline, at: Ms) -> Result<usize, usize>
     requires { IsRising samples.now }
     ensures { MatchResult result (IsTimeAt samples.now at) (IsTimeGapAt samples.now at) }
 {
@@ -32,7 +32,7 @@ fn search_time(samples: &[(Ms, Held)], at: Ms) -> Result<usize, usize>
     let mut high = samples.len();
     while low < high {
         let middle = low + (high - low) / 2;
-        match at.0.cmp(&samples[middle].0.0) {
+        match at.0.cmp(&samples.time(middle).0) {
             Ordering::Less => high = middle,
             Ordering::Equal => return Ok(middle),
             Ordering::Greater => low = middle + 1,
@@ -42,10 +42,7 @@ fn search_time(samples: &[(Ms, Held)], at: Ms) -> Result<usize, usize>
 }
 
 /// The place of the series with these labels, or the place where it would stand.
-pub fn find_series(
-    series: &[Boxed<(Labels, Items<(Ms, Held)>)>],
-    labels: &Labels,
-) -> Result<usize, usize>
+pub fn find_series(series: &[Boxed<(Labels, Timeline)>], labels: &Labels) -> Result<usize, usize>
     requires { IsStrictlySortedBy labels_cmp (keys_of series.now) }
     ensures { MatchResult result (IsFoundAt series.now labels.now) (IsGapAt series.now labels.now) }
 {
@@ -63,12 +60,13 @@ pub fn find_series(
 }
 
 /// The place of the first sample that is later than a time, by a binary search that looks at no more than 64 times.
-pub fn first_later<W: Ledger>(samples: &[(Ms, Held)], after: Ms, work: &mut Work<W>) -> usize
+pub fn first_later<W: Ledger>(samples: &Timeline, after: Ms, work: &mut Work<W>) -> usize
     requires { IsRising samples.now }
     ensures within { result ≤ length samples.now }
     ensures later { drop result samples.now ≡ later_than after samples.now }
     ensures probed { work.new.probed ≤ work.old.probed + 64 }
     ensures more { work.old.probed ≤ work.new.probed }
+    ensures counted { length samples.now + 2 ≤ 2 * 2 ^ (work.new.probed - work.old.probed) }
     ensures fetched { work.new.fetched ≡ work.old.fetched }
     ensures tested { work.new.tested ≡ work.old.tested }
 {
@@ -77,7 +75,7 @@ pub fn first_later<W: Ledger>(samples: &[(Ms, Held)], after: Ms, work: &mut Work
     while low < high {
         let middle = low + (high - low) / 2;
         work.probe();
-        if after.0 < samples[middle].0.0 {
+        if after.0 < samples.time(middle).0 {
             high = middle;
         } else {
             low = middle + 1;

@@ -1,13 +1,13 @@
 ghost use Rattle.sample_store.specs.Samples.{AllSeries, HaveTheirPatterns, labels_pass, selected};
 ghost use Rattle.std.specs.Prelude.{◌≡◌, ◌≤◌, ◌+◌, length, IfOk};
 
+use crate::timeline::Timeline;
 use holders::{Boxed, Items};
 use label_set::{Labels, Rule};
 use match_rule::{Patterns, passes};
 use std::alloc::{AllocError, Global};
 use std::sync::ledger::Ledger;
-use ticks::{Ms, Work};
-use xfrac::Held;
+use ticks::Work;
 
 /// Whether labels pass each of some rules; a missing label is the empty text.
 pub fn labels_pass(
@@ -34,7 +34,7 @@ pub fn labels_pass(
 /// The numbers of the series whose labels pass, in their order.
 pub fn places_of<W: Ledger>(
     alloc: Global,
-    series: &[Boxed<(Labels, Items<(Ms, Held)>)>],
+    series: &[Boxed<(Labels, Timeline)>],
     rules: &[Rule],
     patterns: &mut Patterns,
     work: &mut Work<W>,
@@ -43,6 +43,8 @@ pub fn places_of<W: Ledger>(
     requires few { length series.now ≤ 100000 }
     ensures selected { IfOk result (λ places. places ≡ selected patterns.old rules.now 0 series.now) }
     ensures tested { IfOk result (λ _. work.new.tested ≡ work.old.tested + length series.now) }
+    ensures tested_more { work.old.tested ≤ work.new.tested }
+    ensures tested_most { work.new.tested ≤ work.old.tested + length series.now }
     ensures fetched { work.new.fetched ≡ work.old.fetched }
     ensures probed { work.new.probed ≡ work.old.probed }
     ensures same { patterns.new ≡ patterns.old }

@@ -1,10 +1,11 @@
-ghost use Rattle.sample_store.specs.Samples.{IsCause, IsCauseIn, IsFoundAt, HaveTheirPatterns, IsFree, IsGapAt, IsRising, IsRoomIn, Names, Samples, held_in, later_than, sample_count, samples_of, selected, with_sample};
+ghost use Rattle.sample_store.specs.Samples.{IsFoundAt, HaveTheirPatterns, IsGapAt, IsRising, IsRoomIn, Names, Samples, held_in, later_than, refusal_in, refusal_of, sample_count, samples_of, selected, with_sample};
 ghost use Rattle.std.specs.Option.{option_map};
-ghost use Rattle.std.specs.Prelude.{◌≡◌, ◌<◌, ◌≤◌, ◌+◌, Some, [], ◌∷◌, length, insert, slice_get, IfErr, IfOk, MatchResult, OnErr, OnOk};
+ghost use Rattle.std.specs.Prelude.{◌≡◌, ◌<◌, ◌≤◌, ◌+◌, ◌-◌, ◌*◌, ◌^◌, Some, [], ◌∷◌, length, insert, slice_get, IfOk, IsOk, IsOkUnless, MatchOption, MatchResult, OnErr, OnOk};
 
 use crate::held::is_same;
 use crate::search::{find_series, find_time, first_later};
 use crate::select::places_of;
+use crate::timeline::Timeline;
 use crate::{Cursor, StoreRefusal};
 use holders::{Boxed, Items};
 use label_set::{Labels, Rule};
@@ -25,7 +26,7 @@ const MOST_SERIES: usize = 100_000;
 /// samples in rising time, held markers of staleness among them. Series are numbered from 0 in that order.
 #[derive(Drop)]
 pub struct Store {
-    series: Vec<Boxed<(Labels, Items<(Ms, Held)>)>>,
+    series: Vec<Boxed<(Labels, Timeline)>>,
     samples: u32,
 }
 
@@ -41,6 +42,7 @@ impl Model for Store {
 
 impl Store {
     /// An empty store. It takes no memory.
+    #[tactic(auto, using(crate::proofs::Stores::store_empty))]
     pub fn new(alloc: Global) -> Store
         ensures { result ≡ [] }
     {
@@ -51,6 +53,7 @@ impl Store {
     }
 
     /// Takes all samples and series out.
+    #[tactic(auto, using(crate::proofs::Stores::store_empty))]
     pub fn clear(&mut self)
         ensures { self.new ≡ [] }
     {
@@ -80,13 +83,14 @@ impl Store {
         &self.series[s as usize].get().0
     }
 
-    /// Puts a sample into the series with these labels, in its place by time; an equal one that is there changes
-    /// nothing. It refuses, in this order, with Conflict another value at that time, with TooManySeries a series beyond
-    /// 100,000 and with TooManySamples a sample beyond 2,000,000. After an error the store is as it was.
+    /// Puts a sample into the series with these labels, in its place by time; where an equal one is there, nothing
+    /// changes and no memory is taken. It refuses, in this order, with Conflict another value at that time, with
+    /// TooManySeries a series beyond 100,000 and with TooManySamples a sample beyond 2,000,000; only where none of these
+    /// stands against it can memory run out. After an error the store is as it was.
     pub fn append(&mut self, labels: &Labels, at: Ms, held: &Held) -> Result<(), StoreRefusal>
+        ensures refused { MatchOption (refusal_of self.old labels.now at held.now) (IsOkUnless result StoreRefusal.Memory) (λ e. result ≡ Err e) }
+        ensures taken { held_in (samples_of self.old labels.now) at ≡ Some held.now → IsOk result }
         ensures same { held_in (samples_of self.old labels.now) at ≡ Some held.now → self.new ≡ self.old }
-        ensures free { OnOk result (IsFree self.old labels.now at held.now) }
-        ensures refused { IfErr result (IsCause self.old labels.now at held.now) }
         ensures ok { OnOk result (self.new ≡ with_sample self.old labels.now at held.now) }
         ensures err { OnErr result (self.new ≡ self.old) }
     {
@@ -105,9 +109,9 @@ impl Store {
         held: &Held,
     ) -> Result<(), StoreRefusal>
         requires found { IsFoundAt self.old labels.now place }
+        ensures refused { MatchOption (refusal_of self.old labels.now at held.now) (IsOkUnless result StoreRefusal.Memory) (λ e. result ≡ Err e) }
+        ensures taken { held_in (samples_of self.old labels.now) at ≡ Some held.now → IsOk result }
         ensures same { held_in (samples_of self.old labels.now) at ≡ Some held.now → self.new ≡ self.old }
-        ensures free { OnOk result (IsFree self.old labels.now at held.now) }
-        ensures refused { IfErr result (IsCause self.old labels.now at held.now) }
         ensures ok { OnOk result (self.new ≡ with_sample self.old labels.now at held.now) }
         ensures err { OnErr result (self.new ≡ self.old) }
     {
@@ -133,9 +137,9 @@ impl Store {
         held: &Held,
     ) -> Result<(), StoreRefusal>
         requires gap { IsGapAt self.old labels.now place }
+        ensures refused { MatchOption (refusal_of self.old labels.now at held.now) (IsOkUnless result StoreRefusal.Memory) (λ e. result ≡ Err e) }
+        ensures taken { held_in (samples_of self.old labels.now) at ≡ Some held.now → IsOk result }
         ensures same { held_in (samples_of self.old labels.now) at ≡ Some held.now → self.new ≡ self.old }
-        ensures free { OnOk result (IsFree self.old labels.now at held.now) }
-        ensures refused { IfErr result (IsCause self.old labels.now at held.now) }
         ensures ok { OnOk result (self.new ≡ with_sample self.old labels.now at held.now) }
         ensures err { OnErr result (self.new ≡ self.old) }
     {
@@ -158,7 +162,8 @@ impl Store {
     }
 
     /// The numbers of the series whose labels pass each rule, in the order of labels; each series is counted as tested.
-    /// The patterns of the rules must be of `Patterns::whole`, from these patterns. The only error is want of memory.
+    /// The patterns of the rules must be of `Patterns::whole`, from these patterns. The only error is want of memory;
+    /// then no series was counted twice.
     pub fn select<W: Ledger>(
         &self,
         rules: &Items<Rule>,
@@ -168,6 +173,8 @@ impl Store {
         requires { HaveTheirPatterns patterns.old rules.now }
         ensures selected { IfOk result (λ places. places ≡ selected patterns.old rules.now 0 self.now) }
         ensures tested { IfOk result (λ _. work.new.tested ≡ work.old.tested + length self.now) }
+        ensures tested_more { work.old.tested ≤ work.new.tested }
+        ensures tested_most { work.new.tested ≤ work.old.tested + length self.now }
         ensures fetched { work.new.fetched ≡ work.old.fetched }
         ensures probed { work.new.probed ≡ work.old.probed }
         ensures same { patterns.new ≡ patterns.old }
@@ -186,30 +193,32 @@ impl Store {
     pub fn seek<W: Ledger>(&self, s: u32, after: Ms, work: &mut Work<W>) -> Cursor<'_>
         requires { s < length self.now }
         ensures later { (one : Names × Samples) → slice_get self.now s ≡ Some one → result ≡ later_than after one.1 }
+        ensures rising { IsRising result }
         ensures probed { work.new.probed ≤ work.old.probed + 64 }
         ensures more { work.old.probed ≤ work.new.probed }
+        // Each look halves what is left at best, so fewer could not have told the samples apart.
+        ensures counted { (one : Names × Samples) → slice_get self.now s ≡ Some one → length one.1 + 2 ≤ 2 * 2 ^ (work.new.probed - work.old.probed) }
         ensures fetched { work.new.fetched ≡ work.old.fetched }
         ensures tested { work.new.tested ≡ work.old.tested }
     {
-        let samples = self.series[s as usize].get().1.as_slice();
-        let place = first_later(samples, after, work);
-        Cursor::of(samples.split_at(place).1)
+        let samples = &self.series[s as usize].get().1;
+        samples.from(first_later(samples, after, work))
     }
 }
 
 /// Where a sample goes into a series: nowhere if an equal one is there.
 fn weigh(
-    one: &(Labels, Items<(Ms, Held)>),
+    one: &(Labels, Timeline),
     at: Ms,
     held: &Held,
     count: u32,
 ) -> Result<Option<usize>, StoreRefusal>
     requires { IsRising one.now.1 }
-    ensures { MatchResult result (IsRoomIn one.now.1 at held.now count) (IsCauseIn one.now.1 at held.now count) }
+    ensures { MatchResult result (IsRoomIn one.now.1 at held.now count) (λ e. refusal_in one.now.1 at held.now count ≡ Some e) }
 {
-    match find_time(one.1.as_slice(), at) {
+    match find_time(&one.1, at) {
         Ok(i) => {
-            let kept = one.1.as_slice()[i].1;
+            let kept = *one.1.held(i);
             if is_same(&kept, held) {
                 Ok(None)
             } else {
@@ -232,26 +241,21 @@ fn series_of(
     labels: &Labels,
     at: Ms,
     held: &Held,
-) -> Result<Boxed<(Labels, Items<(Ms, Held)>)>, AllocError>
+) -> Result<Boxed<(Labels, Timeline)>, AllocError>
     ensures { IfOk result (λ one. one ≡ (labels.now, (at, held.now) ∷ [])) }
 {
-    let mut samples = Items::new(alloc);
-    samples.push((at, *held))?;
+    let mut samples = Timeline::new(alloc);
+    samples.insert(0, at, held)?;
     let labels = labels.copy()?;
     Boxed::new(alloc, (labels, samples))
 }
 
 /// Puts a sample at a place of a series.
-fn put(
-    one: &mut Boxed<(Labels, Items<(Ms, Held)>)>,
-    i: usize,
-    at: Ms,
-    held: &Held,
-) -> Result<(), AllocError>
+fn put(one: &mut Boxed<(Labels, Timeline)>, i: usize, at: Ms, held: &Held) -> Result<(), AllocError>
     requires { i ≤ length one.old.1 }
     ensures ok { OnOk result (one.new ≡ (one.old.0, insert one.old.1 i (at, held.now))) }
     ensures err { OnErr result (one.new ≡ one.old) }
 {
     let series = one.get_mut();
-    series.1.insert(i, (at, *held))
+    series.1.insert(i, at, held)
 }

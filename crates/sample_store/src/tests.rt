@@ -117,6 +117,65 @@ fn samples_stand_in_rising_time(rt: HostRuntime) -> Result<(), Fail> {
     Ok(())
 }
 
+/// What the newest of the first eight samples holds in the five minutes up to a time, their start left out.
+fn newest<W: Ledger>(store: &Store, s: u32, at: u32, work: &mut Work<W>) -> Option<Held> {
+    let mut newest = None;
+    if s < store.series() {
+        let mut cursor = store.seek(s, Ms(at as i64 - 300_000), work);
+        for _ in 0..8 {
+            match cursor.next(work) {
+                Some((time, held)) if time.0 <= at as i64 => newest = Some(*held),
+                _ => {}
+            }
+        }
+    }
+    newest
+}
+
+/// The same, with counters of their own.
+fn newest_of<W: Ledger>(blank: Blank, store: &Store, s: u32, at: u32) -> Option<Held>
+    requires name { blank.name ≡ W.name }
+    requires parts { blank.parts ≡ W.parts }
+    requires three { blank.parts ≡ 3 }
+{
+    let mut work = Work::<W>::new(blank);
+    newest(store, s, at, &mut work)
+}
+
+#[test]
+fn the_newest_sample_of_five_minutes_is_found(rt: HostRuntime) -> Result<(), Fail> {
+    let alloc = rt.alloc();
+    let mut store = Store::new(alloc);
+    let up = named(alloc, "up")?;
+    let z = named(alloc, "z")?;
+    store.append(&up, Ms(0), &number(1))?;
+    store.append(&up, Ms(600_000), &Held::Stale)?;
+    store.append(&up, Ms(900_000), &number(3))?;
+    store.append(&z, Ms(0), &number(1))?;
+    store.append(&z, Ms(60_000), &Held::Stale)?;
+    // Series 0 is `up`, and series 1 is `z`.
+    let rows = [
+        (0, 0, Some(number(1))),
+        (0, 299_000, Some(number(1))),
+        (0, 299_999, Some(number(1))),
+        (0, 300_000, None),
+        (0, 599_999, None),
+        (0, 600_000, Some(Held::Stale)),
+        (0, 899_999, Some(Held::Stale)),
+        (0, 900_000, Some(number(3))),
+        (0, 1_199_999, Some(number(3))),
+        (0, 1_200_000, None),
+        (1, 59_999, Some(number(1))),
+        (1, 60_000, Some(Held::Stale)),
+    ];
+    for (s, at, held) in rows {
+        let found = newest_of::<Brand>(Blank::new(3), &store, s, at);
+        assert_eq!(rt; found, held, "series {s} at {at}");
+    }
+    assert!(rt; newest_of::<Brand>(Blank::new(3), &store, 1, 0) != Some(Held::Value(XFrac::NaN)));
+    Ok(())
+}
+
 /// The numbers of the series that one rule selects, with counters of their own.
 fn selected_by<W: Ledger>(
     alloc: Global,
@@ -185,28 +244,72 @@ fn rules_select_series(rt: HostRuntime) -> Result<(), Fail> {
     Ok(())
 }
 
+/// Puts so many samples into a series, from 0 on.
+fn fill(store: &mut Store, labels: &Labels, samples: u32) -> Result<(), StoreRefusal> {
+    for i in 0..samples {
+        store.append(labels, Ms(i as i64), &Held::Value(whole(1)))?;
+    }
+    Ok(())
+}
+
 #[test]
-fn the_limits_are_exact(rt: HostRuntime) -> Result<(), Fail> {
-    let mut store = Store::new(rt.alloc());
-    let labels = named(rt.alloc(), "up")?;
-    for i in 0..2_000_000i64 {
-        store.append(&labels, Ms(i), &Held::Stale)?;
+fn the_limit_of_samples_is_exact(rt: HostRuntime) -> Result<(), Fail> {
+    let alloc = rt.alloc();
+    let mut store = Store::new(alloc);
+    let labels = named(alloc, "up")?;
+    fill(&mut store, &labels, 1_999_999)?;
+    let rows = [
+        ("up", 1_999_999, number(1), Ok(())),
+        (
+            "up",
+            2_000_000,
+            number(1),
+            Err(StoreRefusal::TooManySamples),
+        ),
+        ("down", 0, number(1), Err(StoreRefusal::TooManySamples)),
+        ("up", 1_999_999, number(1), Ok(())),
+        (
+            "up",
+            1_999_999,
+            Held::Value(XFrac::NaN),
+            Err(StoreRefusal::Conflict {
+                kept: number(1),
+                given: Held::Value(XFrac::NaN),
+            }),
+        ),
+    ];
+    for (name, at, held, answer) in rows {
+        assert_eq!(rt; store.append(&named(alloc, name)?, Ms(at), &held), answer);
     }
-    assert_eq!(rt;
-        store.append(&labels, Ms(2_000_000), &Held::Stale),
-        Err(StoreRefusal::TooManySamples)
-    );
-    assert_eq!(rt; store.append(&labels, Ms(1_999_999), &Held::Stale), Ok(()));
-    assert_eq!(rt; store.samples(), 2_000_000);
-    store.clear();
+    assert_eq!(rt; (store.series(), store.samples()), (1, 2_000_000));
+    Ok(())
+}
+
+#[test]
+fn the_limits_of_series_and_samples_are_reached_at_once(rt: HostRuntime) -> Result<(), Fail> {
+    let alloc = rt.alloc();
+    let mut store = Store::new(alloc);
     for i in 0..100_000u32 {
-        let name = format!(in rt.alloc(); "m{i}")?;
-        store.append(&named(rt.alloc(), name.as_str())?, Ms(0), &Held::Stale)?;
+        let name = format!(in alloc; "m{i}")?;
+        fill(&mut store, &named(alloc, name.as_str())?, 20)?;
     }
-    assert_eq!(rt;
-        store.append(&labels, Ms(0), &Held::Stale),
-        Err(StoreRefusal::TooManySeries)
-    );
-    assert_eq!(rt; store.series(), 100_000);
+    let rows = [
+        ("m100000", 0, Held::Stale, Err(StoreRefusal::TooManySeries)),
+        ("m7", 20, Held::Stale, Err(StoreRefusal::TooManySamples)),
+        (
+            "m7",
+            19,
+            Held::Value(XFrac::NaN),
+            Err(StoreRefusal::Conflict {
+                kept: number(1),
+                given: Held::Value(XFrac::NaN),
+            }),
+        ),
+        ("m7", 19, number(1), Ok(())),
+    ];
+    for (name, at, held, answer) in rows {
+        assert_eq!(rt; store.append(&named(alloc, name)?, Ms(at), &held), answer);
+    }
+    assert_eq!(rt; (store.series(), store.samples()), (100_000, 2_000_000));
     Ok(())
 }
