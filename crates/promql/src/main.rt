@@ -1,13 +1,18 @@
 //! The program: it makes the real files and the real output, runs the words that it was given, and ends with the status.
 #![tactic(auto)]
 
+ghost use Rattle.std.specs.Prelude.{◌≡◌};
+
 use edge_io::{StdLibrary, StdSink};
-use promql_tool::run_tool;
+use promql_tool::{Status, run_tool};
 use std::alloc::{AllocError, Global};
 use std::env;
 use std::io::ErrorKind;
+use std::marker::Brand;
 use std::process::ExitCode;
-use std::rt::Env;
+use std::rt::{Env, Files};
+use std::sync::ledger::{Blank, Ledger};
+use ticks::Work;
 
 /// The status where there is no memory for the words.
 const NO_MEMORY: u8 = 7;
@@ -22,13 +27,28 @@ fn read_words<R: Env + AllocGlobal>(alloc: Global, rt: &R) -> Result<Vec<String>
     }
 }
 
+/// Runs the words over the real files and the real output, with counters of its own.
+fn run_words<W: Ledger, R: Files + Print>(
+    alloc: Global,
+    rt: &R,
+    words: &[String],
+    blank: Blank,
+) -> Status
+    requires name { blank.name ≡ W.name }
+    requires parts { blank.parts ≡ W.parts }
+    requires three { blank.parts ≡ 3 }
+{
+    let mut library = StdLibrary::new(rt);
+    let mut out = StdSink::new(rt);
+    let mut work = Work::<W>::new(blank);
+    run_tool(alloc, words, &mut library, &mut out, &mut work)
+}
+
 fn main(rt: HostRuntime) -> ExitCode {
     let alloc = rt.alloc();
     let Ok(words) = read_words(alloc, &rt) else {
         return ExitCode::from(NO_MEMORY);
     };
-    let mut library = StdLibrary::new(&rt);
-    let mut out = StdSink::new(&rt);
-    let status = run_tool(alloc, &words, &mut library, &mut out);
+    let status = run_words::<Brand, _>(alloc, &rt, &words, Blank::new(3));
     ExitCode::from(status.0)
 }

@@ -27,6 +27,9 @@ module _ (sound : Type 0) (path : List ℕ) where
   whole_read told (Ok (Judged verdicts)) bytes judged tells = record { found = Some bytes; is_found = told_bytes told bytes (whole_told told bytes tells); reported = judged path }
   whole_read told (Ok (Refused refusal)) bytes judged tells = record { found = Some bytes; is_found = told_bytes told bytes (whole_told told bytes tells); reported = judged path }
 
+  past_limit : (most : ℕ) → most < length {A = ℕ} (replicate (most + 1) 0)
+  past_limit most = omega (arith, length-replicate {A = ℕ} (most + 1) 0)
+
   past_report : (bytes : List ℕ) → limit < length bytes → report_seen path (Refused TooLarge) ≡ report_found path (Some bytes)
   past_report bytes lt = sym (rw (lt-ltb limit (length bytes) lt) refl)
 
@@ -36,7 +39,7 @@ module _ (sound : Type 0) (path : List ℕ) where
 
   pub past_read : (told : Option (List ℕ → Option (List ℕ))) (into : List ℕ) → IfSome told (λ files. Tells (files path) limit (Ok PastLimit) into) → IsReading told sound path (Refused TooLarge)
   past_read None into h =
-      let long : limit < length {A = ℕ} (replicate (limit + 1) 0) = omega (arith, length-replicate {A = ℕ} (limit + 1) 0) in
+      let long : limit < length {A = ℕ} (replicate (limit + 1) 0) = past_limit limit in
       record { found = Some (replicate (limit + 1) 0); is_found = record { if_some = tt; if_sound = λ _. tt }; reported = past_report (replicate (limit + 1) 0) long }
   past_read (Some files) into h =
       let there = past_there (files path) h in

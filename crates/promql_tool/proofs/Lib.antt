@@ -3,12 +3,13 @@ pub mod Names
 pub mod Words
 pub mod Bodies
 pub mod Runs
+pub mod Loading
 pub mod Newest
-pub mod Named
-pub mod Judging
+pub mod Timely
 pub mod Founds
 pub mod Pieces
 pub mod Ending
 pub mod Refusals
 pub mod Agreements
-pub mod Digits
+pub mod Counts
+pub mod Quotes

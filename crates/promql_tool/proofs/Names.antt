@@ -1,4 +1,4 @@
--- A metric's name is ASCII, so it is a text.
+-- A metric's or a label's name is ASCII, so it is a text.
 use Rattle.std.proofs.Common.{◌≡◌, ◌<◌, ℕ, Bool, true, false, List, [], ◌∷◌, arith, refl}
 use Rattle.std.specs.Prelude.{◌&&◌}
 use Rattle.std.specs.List.{list_all}
@@ -6,7 +6,7 @@ use Rattle.std.specs.Str.{IsAscii, IsUtf8}
 use Rattle.std.proofs.lemmas.Bool.Decides.{nat_tests}
 use Rattle.std.proofs.lemmas.Str.Ascii.{IsAscii-nil, IsAscii-cons}
 use Rattle.std.proofs.lemmas.Str.{IsUtf8-from_ascii}
-use Rattle.promql_tool.specs.Tokens.{starts_name, continues_name, is_ascii, is_identifier, is_metric_name}
+use Rattle.promql_tool.specs.Tokens.{starts_name, continues_name, is_ascii, is_identifier, is_label_name, is_metric_name}
 use Rattle.std.proofs.lemmas.Bool.{ltb-true}
 use Rattle.std.proofs.Math.Dec.{ltb}
 
@@ -36,6 +36,9 @@ identifier_ascii (b ∷ text) h =
 
 pub name_is_text : (text : List ℕ) → is_metric_name text ≡ true → IsUtf8 text
 name_is_text text h = IsUtf8-from_ascii text (identifier_ascii text (and_left (is_identifier text) _ h))
+
+pub label_is_text : (text : List ℕ) → is_label_name text ≡ true → IsUtf8 text
+label_is_text text h = IsUtf8-from_ascii text (identifier_ascii text (and_left (is_identifier text) _ h))
 
 bytes_ascii : (text : List ℕ) → is_ascii text ≡ true → IsAscii text
 bytes_ascii [] h = IsAscii-nil

@@ -1,20 +1,31 @@
 -- Lines of words, by their number.
-use Rattle.std.proofs.Common.{◌≡◌, ◌≢◌, ℕ, List, [], ◌∷◌, length, map, refl, None, Err, Bor}
+use Rattle.std.proofs.Common.{◌≡◌, ◌≢◌, ◌≤◌, ℕ, List, [], ◌∷◌, length, get_or, map, refl, None, Bor, Ok, Err, arith}
+use Rattle.promql_tool.specs.Grammar.{head_worded, items_spelled, number_alone, series_worded, words_behind}
+use Rattle.promql_tool.specs.Series.{LabelList, series_at, without_comment}
+use Rattle.promql_tool.specs.Tokens.{number_spelled}
+use Rattle.promql_tool.specs.declared.script.SeriesItem.{SeriesItem}
 use Rattle.promql_tool.specs.declared.script.WordRefusal.TheVariants.{NoForm}
-use Rattle.promql_tool.specs.Grammar.{head_worded, row_worded}
+use Rattle.xfrac.specs.declared.value.XFrac.{XFrac}
 
 module _ (f : Bor (List ℕ) → List ℕ) where
-  pub row_not_two : (words : List (Bor (List ℕ))) → length words ≢ 2 → row_worded (map f words) ≡ Err NoForm
-  row_not_two [] h = refl
-  row_not_two (a ∷ []) h = refl
-  row_not_two (a ∷ b ∷ []) h = absurd (h refl)
-  row_not_two (a ∷ b ∷ c ∷ words) h = refl
+  pub head_of_none : (words : List (Bor (List ℕ))) → length words ≢ 1 → length words ≢ 2 → length words ≢ 5 → head_worded (map f words) ≡ None
+  head_of_none [] g h k = refl
+  head_of_none (a ∷ []) g h k = absurd (g refl)
+  head_of_none (a ∷ b ∷ []) g h k = absurd (h refl)
+  head_of_none (a ∷ b ∷ c ∷ []) g h k = refl
+  head_of_none (a ∷ b ∷ c ∷ d ∷ []) g h k = refl
+  head_of_none (a ∷ b ∷ c ∷ d ∷ e ∷ []) g h k = absurd (k refl)
+  head_of_none (a ∷ b ∷ c ∷ d ∷ e ∷ g' ∷ words) g h k = refl
 
-  pub head_neither : (words : List (Bor (List ℕ))) → length words ≢ 2 → length words ≢ 5 → head_worded (map f words) ≡ None
-  head_neither [] h k = refl
-  head_neither (a ∷ []) h k = refl
-  head_neither (a ∷ b ∷ []) h k = absurd (h refl)
-  head_neither (a ∷ b ∷ c ∷ []) h k = refl
-  head_neither (a ∷ b ∷ c ∷ d ∷ []) h k = refl
-  head_neither (a ∷ b ∷ c ∷ d ∷ e ∷ []) h k = absurd (k refl)
-  head_neither (a ∷ b ∷ c ∷ d ∷ e ∷ g ∷ words) h k = refl
+  -- a number is alone
+  pub number_beside : (words : List (Bor (List ℕ))) (d : Bor (List ℕ)) (value : XFrac) → 2 ≤ length words → number_spelled (f (get_or words 0 d)) ≡ Ok value → number_alone (map f words) ≡ Err NoForm
+  number_beside [] d value two is = absurd (omega arith)
+  number_beside (a ∷ []) d value two is = absurd (omega arith)
+  number_beside (a ∷ b ∷ words) d value two is = rw is refl
+
+-- a series that has labels and items
+pub series_taken : (line : ℕ) (text : List ℕ) (labels : LabelList) (behind : List ℕ) (items : List SeriesItem)
+    → series_at (without_comment text) ≡ Ok (labels, behind) → length labels ≢ 0 → items_spelled (words_behind behind) ≡ Ok items
+    → series_worded line text ≡ Ok (record { line = line; labels = labels; items = items })
+series_taken line text [] behind items at some is = absurd (some refl)
+series_taken line text (pair ∷ pairs) behind items at some is = rw (at, is) refl

@@ -19,6 +19,11 @@ report_seen path Gone = record { text = fault_text path; status = 3 }
 abbrev pub IsBytes : List ℕ → FileRead → Type 0
 IsBytes bytes read = (path : List ℕ) → report_seen path read ≡ report_found path (Some bytes)
 
+-- nothing was evaluated
+abbrev pub IsUnjudged : FileRead → Type 0
+IsUnjudged (Judged verdicts) = ⊥
+IsUnjudged _ = Unit {0}
+
 -- what bytes came to: never that there are none
 abbrev pub IsJudged : List ℕ → FileRead → Type 0
 IsJudged bytes Gone = ⊥

@@ -8,7 +8,7 @@ use Rattle.promql_tool.specs.Grammar.{reading}
 use Rattle.promql_tool.specs.Verdicts.{verdicts_of}
 use Rattle.promql_tool.specs.declared.script.Script.{Script}
 use Rattle.promql_tool.specs.declared.script.ScriptRefusal.{ScriptRefusal}
-use Rattle.promql_tool.specs.declared.script.ScriptRefusal.TheVariants.{Malformed, TooLarge, NumberRange}
+use Rattle.promql_tool.specs.declared.script.ScriptRefusal.TheVariants.{Malformed, TooLarge, NotUtf8, NumberRange, BadLabels, Conflict, TooManySamples, TooManySeries}
 use Rattle.promql_tool.specs.declared.verdict.Reason.{Reason}
 use Rattle.promql_tool.specs.declared.verdict.Reason.TheVariants.{Missing, Extra, Differs}
 use Rattle.promql_tool.specs.declared.verdict.Verdict.{Verdict}
@@ -57,14 +57,24 @@ totals_text passed failed = codes "passed " ++ (decimal passed ++ (codes " faile
 
 -- the line of a refused script, and the name of its refusal
 abbrev pub refused_line : ScriptRefusal → ℕ
-refused_line (Malformed line) = line
 refused_line TooLarge = 0
+refused_line (Malformed line) = line
+refused_line (NotUtf8 line) = line
 refused_line (NumberRange line) = line
+refused_line (BadLabels line) = line
+refused_line (Conflict line) = line
+refused_line (TooManySamples line) = line
+refused_line (TooManySeries line) = line
 
 abbrev pub refusal_name : ScriptRefusal → List ℕ
-refusal_name (Malformed line) = codes "Malformed"
 refusal_name TooLarge = codes "TooLarge"
+refusal_name (Malformed line) = codes "Malformed"
+refusal_name (NotUtf8 line) = codes "NotUtf8"
 refusal_name (NumberRange line) = codes "NumberRange"
+refusal_name (BadLabels line) = codes "BadLabels"
+refusal_name (Conflict line) = codes "Conflict"
+refusal_name (TooManySamples line) = codes "TooManySamples"
+refusal_name (TooManySeries line) = codes "TooManySeries"
 
 abbrev pub refusal_text : List ℕ → ScriptRefusal → List ℕ
 refusal_text path refusal = placed (codes "REFUSED") path (refused_line refusal) (codes " " ++ (refusal_name refusal ++ codes "\n"))

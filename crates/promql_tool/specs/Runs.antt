@@ -1,21 +1,24 @@
--- How a run goes on from command to command.
-use Rattle.std.specs.Prelude.{◌≡◌, ℕ, List, [], ◌∷◌, ◌++◌}
-use Rattle.std.specs.BTreeMap.{BTreeMap}
-use Rattle.promql_tool.specs.Samples.{Series}
-use Rattle.promql_tool.specs.LoadedSeries.{Holds}
-use Rattle.promql_tool.specs.Verdicts.{verdicts_after}
-use Rattle.promql_tool.specs.declared.samples.Loaded.{Loaded}
+-- What running a script takes for granted, and how it ends.
+use Rattle.std.specs.Prelude.{◌≡◌, List, Result, Err}
+use Rattle.std.specs.List.{AllByRecursion}
+use Rattle.promql_tool.specs.declared.fault.ReadFault.{ReadFault}
+use Rattle.promql_tool.specs.declared.fault.ReadFault.TheVariants.{Refused, Memory}
 use Rattle.promql_tool.specs.declared.script.Command.{Command}
-use Rattle.promql_tool.specs.declared.verdict.Verdict.{Verdict}
+use Rattle.promql_tool.specs.declared.script.Script.{Script}
+use Rattle.promql_tool.specs.declared.script.ScriptRefusal.{ScriptRefusal}
+use Rattle.promql_tool.specs.declared.script.What.{What}
+use Rattle.promql_tool.specs.declared.script.What.TheVariants.{Clear, Load, Eval}
+use Rattle.ticks.specs.Walks.{IsTime}
 
--- after a command, the series that stand and the verdicts so far go on to the same verdicts
-pub record Continues (command : Command) (all : List Series) (before : List Verdict) (loaded : BTreeMap (List ℕ) Loaded) (now : List Verdict) : Type 0 where
-  pub series : List Series
-  pub holds : Holds loaded series
-  pub goes : (rest : List Command) → before ++ verdicts_after all (command ∷ rest) ≡ now ++ verdicts_after series rest
+-- an evaluation is at a time that can be looked back from
+abbrev pub IsTimely : What → Type 0
+IsTimely (Eval at name expected) = IsTime at.0
+IsTimely _ = Unit {0}
 
--- a run has come so far in these commands
-pub record HasRun (commands rest : List Command) (loaded : BTreeMap (List ℕ) Loaded) (now : List Verdict) : Type 0 where
-  pub series : List Series
-  pub holds : Holds loaded series
-  pub goes : now ++ verdicts_after series rest ≡ verdicts_after [] commands
+abbrev pub AreTimely : List Command → Type 0
+AreTimely commands = AllByRecursion (λ (command : Command). IsTimely command.what) commands
+
+-- a refusal is what is said, and want of memory may always come
+abbrev pub IsRefusedFor : Result Script ScriptRefusal → ReadFault → Type 0
+IsRefusedFor said (Refused refusal) = said ≡ Err refusal
+IsRefusedFor said Memory = Unit {0}

@@ -1,51 +1,46 @@
--- The samples that a script loads, and the newest one at a time. (Prometheus querying: instant selectors and staleness.)
-use Rattle.std.specs.Prelude.{ℕ, ◌+◌, Bool, ◌&&◌, not, List, [], ◌∷◌, reverse, Option, None, Some, ℤ, pos, ◌*ℤ◌, ◌-ℤ◌, int_lt, bytes_eq, find, option_map, option_to_list}
+-- What a metric's name gives at a time. (Prometheus querying: instant selectors and staleness.)
+use Rattle.std.specs.Prelude.{ℕ, Bool, not, List, reverse, filter, Option, None, Some, ℤ, pos, ◌-ℤ◌, int_lt, bytes_eq, find, option_map, option_and_then, slice_get}
+use Rattle.std.specs.List.{filter_map}
 use Rattle.label_set.specs.Labels.{metric_name, value_of}
-use Rattle.ticks.specs.declared.Ms.{Ms}
+use Rattle.sample_store.specs.Samples.{AllSeries, Names, Samples, later_than}
+use Rattle.ticks.specs.declared.moment.Ms.{Ms}
+use Rattle.xfrac.specs.declared.value.Held.{Held}
+use Rattle.xfrac.specs.declared.value.Held.TheVariants.{Value, Stale}
 use Rattle.xfrac.specs.declared.value.XFrac.{XFrac}
-use Rattle.promql_tool.specs.Grammar.{LabelList}
-use Rattle.promql_tool.specs.declared.script.SeriesLine.{SeriesLine}
 use Rattle.promql_tool.specs.declared.script.Row.{Row}
-
--- a value and its time in milliseconds
-pub record Sample : Type 0 where
-  pub at : ℤ
-  pub value : XFrac
-
--- labels, and samples in rising time
-pub record Series : Type 0 where
-  pub labels : LabelList
-  pub samples : List Sample
-
--- value i of a load's line stands at i times the interval
-abbrev pub samples_from : ℕ → ℤ → List XFrac → List Sample
-samples_from i interval [] = []
-samples_from i interval (value ∷ values) = record { at = pos i *ℤ interval; value = value } ∷ samples_from (i + 1) interval values
-
--- the series of a load's line
-abbrev pub series_loaded : Ms → SeriesLine → Series
-series_loaded interval line = record { labels = line.labels; samples = samples_from 0 interval.0 line.values }
 
 -- five minutes, in milliseconds
 abbrev pub lookback : ℤ
 lookback = pos 300000
 
--- a sample's time is in the five minutes up to a time, the left edge excluded
-abbrev pub is_recent : ℤ → Sample → Bool
-is_recent at sample = int_lt (at -ℤ lookback) sample.at && not (int_lt at sample.at)
+-- a sample's time isn't later than a time
+abbrev pub is_until : ℤ → Ms × Held → Bool
+is_until at sample = not (int_lt at sample.0.0)
 
--- the last sample in the five minutes up to a time
-abbrev pub newest : ℤ → List Sample → Option Sample
-newest at samples = find (is_recent at) (reverse samples)
+-- the value of a sample that is no marker of staleness
+abbrev pub fresh : Held → Option XFrac
+fresh (Value value) = Some value
+fresh Stale = None
 
--- the series whose metric has a name
-abbrev pub series_named : List ℕ → List Series → Option Series
-series_named name all = find (λ (s : Series). bytes_eq (value_of s.labels metric_name) name) all
+-- the value of the last sample up to a time; there is none where that sample is a marker
+abbrev pub last_until : ℤ → Samples → Option XFrac
+last_until at samples = option_and_then (λ (sample : Ms × Held). fresh sample.1) (find (is_until at) (reverse samples))
 
-abbrev pub newest_row : ℤ → Option Series → List Row
-newest_row at None = []
-newest_row at (Some series) = option_to_list (option_map (λ (s : Sample). record { labels = series.labels; value = s.value }) (newest at series.samples))
+-- the value of the last sample in the five minutes up to a time, the left edge excluded
+abbrev pub newest : ℤ → Samples → Option XFrac
+newest at samples = last_until at (later_than (record { 0 = at -ℤ lookback }) samples)
 
--- what a metric's name gives at a time: the newest sample of its series, if there is one
-abbrev pub answer : List Series → List ℕ → Ms → List Row
-answer all name at = newest_row at.0 (series_named name all)
+-- a series' metric has this name
+abbrev pub is_named : List ℕ → Names × Samples → Bool
+is_named name series = bytes_eq (value_of series.0 metric_name) name
+
+abbrev pub newest_row : ℤ → Names × Samples → Option Row
+newest_row at series = option_map (λ value. record { labels = series.0; value = value }) (newest at series.1)
+
+-- the row of the series with a number
+abbrev pub row_numbered : ℤ → AllSeries → ℕ → Option Row
+row_numbered at all number = option_and_then (newest_row at) (slice_get all number)
+
+-- what a metric's name gives at a time: a row for each series of that name that has a newest value, in label order
+abbrev pub answer : AllSeries → List ℕ → Ms → List Row
+answer all name at = filter_map (newest_row at.0) (filter (is_named name) all)

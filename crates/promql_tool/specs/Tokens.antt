@@ -1,17 +1,18 @@
 -- What a word of a script spells. (The promqltest format and the PromQL grammar, in their part that is read so far.)
-use Rattle.std.specs.Prelude.{ℕ, ◌*◌, ◌-◌, Bool, false, if◌then◌else◌, List, [], ◌∷◌, length, take, ◌==◌, ◌||◌, ◌&&◌, nat_lt, nat_le, not, map, Option, None, Some, Result, Ok, Err, pos, codes, slice_index, bytes_eq, option_and_then}
+use Rattle.std.specs.Prelude.{ℕ, Bool, true, false, if◌then◌else◌, List, [], ◌∷◌, length, ◌==◌, ◌||◌, ◌&&◌, nat_lt, nat_le, not, map, Option, None, Some, Result, Ok, Err, ℤ, pos, int_lt, codes, bytes_eq, option_and_then}
 use Rattle.ticks.specs.declared.Ms.{Ms}
-use Rattle.std.specs.Char.{is_ascii_digit, is_ascii_alphabetic, is_ascii_alphanumeric, to_ascii_lowercase}
+use Rattle.std.specs.Char.{is_ascii_alphabetic, is_ascii_alphanumeric, to_ascii_lowercase}
 use Rattle.std.specs.List.{list_all, list_any}
-use Rattle.std.specs.Str.Parse.{digits_value}
+use Rattle.std.specs.Result.{result_ok}
 use Rattle.frac_text.specs.Readings.{script_answer}
+use Rattle.frac_text.specs.Times.{time_answer}
 use Rattle.frac_text.specs.declared.refusal.NumberRefusal.{NumberRefusal}
 use Rattle.frac_text.specs.declared.refusal.NumberRefusal.TheVariants.{BadNumber, NumberRange, LeadingZero}
 use Rattle.xfrac.specs.declared.value.XFrac.{XFrac}
 use Rattle.promql_tool.specs.declared.script.WordRefusal.{WordRefusal}
 use Rattle.promql_tool.specs.declared.script.WordRefusal.TheVariants.{NoForm, OutOfRange}
 
--- a byte above 127 stands in no number
+-- a byte above 127 stands in no number and no time
 abbrev pub is_ascii : List ℕ → Bool
 is_ascii text = list_all (λ byte. nat_lt byte 128) text
 
@@ -29,29 +30,16 @@ spelled_or_refused (Err refusal) = Err (refused_as refusal)
 abbrev pub number_spelled : List ℕ → Result XFrac WordRefusal
 number_spelled text = if is_ascii text then spelled_or_refused (script_answer text) else Err NoForm
 
--- the number of 1 to `most` decimal digits
-abbrev pub digits_within : ℕ → List ℕ → Option ℕ
-digits_within most text = if (list_all is_ascii_digit text && (nat_lt 0 (length text) && nat_le (length text) most)) then Some (digits_value 10 text) else None
+-- a time: an optional sign, and a duration or seconds
+abbrev pub time_spelled : List ℕ → Option Ms
+time_spelled text = if is_ascii text then result_ok (time_answer text) else None
 
--- the milliseconds of a unit: seconds or minutes
-abbrev pub unit_of : ℕ → Option ℕ
-unit_of byte = if byte == 115 then Some 1000 else if byte == 109 then Some 60000 else None
+abbrev pub if_positive : Ms → Option Ms
+if_positive time = if int_lt (pos 0) time.0 then Some time else None
 
-abbrev pub if_positive : ℕ → Option ℕ
-if_positive n = if nat_lt 0 n then Some n else None
-
--- a duration in milliseconds: 1 to 6 digits and a unit, and not zero
-abbrev pub duration_of : List ℕ → Option ℕ
-duration_of text = option_and_then (λ unit. option_and_then (λ count. if_positive (count * unit))
-    (digits_within 6 (take (length text - 1) text))) (unit_of (slice_index text (length text - 1)))
-
--- a time in milliseconds: zero, or a duration
-abbrev pub time_of : List ℕ → Option ℕ
-time_of text = if bytes_eq text (codes "0") then Some 0 else duration_of text
-
--- that many milliseconds
-abbrev pub milliseconds : ℕ → Ms
-milliseconds n = record { 0 = pos n }
+-- an interval: a positive time
+abbrev pub interval_spelled : List ℕ → Option Ms
+interval_spelled text = option_and_then if_positive (time_spelled text)
 
 abbrev pub starts_name : ℕ → Bool
 starts_name byte = is_ascii_alphabetic byte || (byte == 95 || byte == 58)
@@ -64,13 +52,23 @@ abbrev pub is_identifier : List ℕ → Bool
 is_identifier [] = false
 is_identifier (first ∷ rest) = starts_name first && list_all continues_name rest
 
--- the words that name no metric, in any case
+-- the words that are numbers, and those that besides name no metric, in any case
+abbrev pub number_words : List (List ℕ)
+number_words = codes "inf" ∷ codes "nan" ∷ []
+
 abbrev pub reserved_words : List (List ℕ)
 reserved_words = codes "inf" ∷ codes "nan" ∷ codes "bool" ∷ codes "on" ∷ codes "ignoring" ∷ codes "group_left" ∷ codes "group_right" ∷ codes "atan2" ∷ []
 
-abbrev pub is_reserved : List ℕ → Bool
-is_reserved text = list_any (λ word. bytes_eq (map to_ascii_lowercase text) word) reserved_words
+abbrev pub is_one_of : List (List ℕ) → List ℕ → Bool
+is_one_of words text = list_any (λ word. bytes_eq (map to_ascii_lowercase text) word) words
 
--- a metric's name, of at most 4,096 bytes
+abbrev pub is_reserved : List ℕ → Bool
+is_reserved text = is_one_of reserved_words text
+
+-- a metric's name
 abbrev pub is_metric_name : List ℕ → Bool
-is_metric_name text = is_identifier text && (nat_le (length text) 4096 && not (is_reserved text))
+is_metric_name text = is_identifier text && not (is_reserved text)
+
+-- a label's name: it has no colon, and isn't a number
+abbrev pub is_label_name : List ℕ → Bool
+is_label_name text = is_identifier text && (list_all (λ byte. not (byte == 58)) text && not (is_one_of number_words text))

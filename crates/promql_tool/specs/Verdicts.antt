@@ -2,16 +2,19 @@
 -- order are this project's own.)
 use Rattle.std.specs.Prelude.{ℕ, Bool, false, if◌then◌else◌, not, List, [], ◌∷◌, ◌++◌, map, filter, Option, None, Some, find, is_none, option_map, IsTrue, IsSome, IsSomeAnd}
 use Rattle.std.specs.List.{AllByRecursion}
+use Rattle.std.specs.Result.{result_unwrap_or}
 use Rattle.std.specs.Ordering.{is_eq, is_gt}
 use Rattle.label_set.specs.Labels.{labels_cmp}
 use Rattle.xfrac.specs.declared.value.XFrac.{XFrac}
 use Rattle.xfrac.specs.Near.{is_near}
-use Rattle.promql_tool.specs.Grammar.{LabelList}
-use Rattle.promql_tool.specs.Samples.{Series, series_loaded, answer}
+use Rattle.sample_store.specs.Samples.{AllSeries}
+use Rattle.promql_tool.specs.Loads.{left_by}
+use Rattle.promql_tool.specs.Samples.{answer}
+use Rattle.promql_tool.specs.Series.{LabelList}
 use Rattle.promql_tool.specs.declared.script.Script.{Script}
 use Rattle.promql_tool.specs.declared.script.Command.{Command}
 use Rattle.promql_tool.specs.declared.script.What.{What}
-use Rattle.promql_tool.specs.declared.script.What.TheVariants.{Load, Eval}
+use Rattle.promql_tool.specs.declared.script.What.TheVariants.{Clear, Load, Eval}
 use Rattle.promql_tool.specs.declared.script.Row.{Row}
 use Rattle.promql_tool.specs.declared.verdict.Reason.{Reason}
 use Rattle.promql_tool.specs.declared.verdict.Reason.TheVariants.{Missing, Extra, Differs}
@@ -60,16 +63,22 @@ abbrev pub judged : List Row → List Row → Option Reason
 judged expected got =
     first_reason (least (filter (is_lacking got) expected)) (least (filter (is_lacking expected) got)) (least (filter (is_differing got) expected)) got
 
--- the verdicts of a command and of those behind it, which are judged over the series that stand then
-abbrev pub verdicts_headed : List Series → ℕ → What → (List Series → List Verdict) → List Verdict
-verdicts_headed loaded line (Load interval lines) later = later (loaded ++ map (series_loaded interval) lines)
-verdicts_headed loaded line (Eval at name expected) later =
-    record { line = line; reason = judged expected (answer loaded name at) } ∷ later loaded
+-- the verdict of a command, where it is an evaluation, over the series that stand then
+abbrev pub judged_at : AllSeries → ℕ → What → List Verdict
+judged_at series line (Eval at name expected) = record { line = line; reason = judged expected (answer series name at) } ∷ []
+judged_at series line _ = []
 
--- the verdicts of commands, in order, behind loads that put these series
-abbrev pub verdicts_after : List Series → List Command → List Verdict
-verdicts_after loaded [] = []
-verdicts_after loaded (command ∷ commands) = verdicts_headed loaded command.line command.what (λ series. verdicts_after series commands)
+abbrev pub verdict_of : AllSeries → Command → List Verdict
+verdict_of series command = judged_at series command.line command.what
+
+-- the series that a command leaves; a script is run only where no load is refused
+abbrev pub left_of : Command → AllSeries → AllSeries
+left_of command series = result_unwrap_or (left_by command.what series) series
+
+-- the verdicts of commands, in order, behind commands that left these series
+abbrev pub verdicts_after : AllSeries → List Command → List Verdict
+verdicts_after series [] = []
+verdicts_after series (command ∷ commands) = verdict_of series command ++ verdicts_after (left_of command series) commands
 
 -- the verdict of each evaluation of a script, over the samples that were loaded before it
 abbrev pub verdicts_of : Script → List Verdict

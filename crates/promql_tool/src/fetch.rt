@@ -1,52 +1,81 @@
 //! Fetching a file and judging it.
 ghost use Rattle.edge_io.specs.Causes.{Rose};
-ghost use Rattle.promql_tool.specs.Found.{IsJudged, IsReading};
+ghost use Rattle.promql_tool.specs.Found.{IsJudged, IsReading, IsUnjudged};
+ghost use Rattle.promql_tool.specs.Grammar.{reading};
 ghost use Rattle.promql_tool.specs.declared.fetch.FileRead.TheVariants.{Gone};
-ghost use Rattle.std.specs.Prelude.{◌≡◌, ◌≤◌, IfOk};
+ghost use Rattle.std.specs.Prelude.{◌≡◌, ◌≤◌, Ok, IfOk};
 
-use crate::read::{LIMIT, ReadFault, read};
+use crate::fault::ReadFault;
+use crate::read::{LIMIT, read};
 use crate::run::verdicts_in;
-use crate::script::ScriptRefusal;
+use crate::script::{Script, ScriptRefusal};
 use crate::verdict::Verdict;
 use edge_io::{Fetch, Fetched, Library};
 use holders::Items;
 use std::alloc::{AllocError, Global};
+use std::sync::ledger::Ledger;
+use ticks::Work;
 
 /// What a file came to.
 #[derive(Drop)]
 pub enum FileRead {
     /// It is a script, and these are its verdicts.
     Judged(Items<Verdict>),
-    /// It is no script.
+    /// It is no script, or its loads are refused.
     Refused(ScriptRefusal),
     /// It couldn't be fetched.
     Gone,
 }
 
+/// What a script comes to whose loads were judged.
+fn judge_script<W: Ledger>(
+    alloc: Global,
+    bytes: &[u8],
+    script: &Script,
+    work: &mut Work<W>,
+) -> Result<FileRead, AllocError>
+    requires { reading bytes.now ≡ Ok script.now }
+    ensures judged { IfOk result (IsJudged bytes.now) }
+    ensures idle { IfOk result (λ read. IsUnjudged read → work.new ≡ work.old) }
+{
+    match verdicts_in(alloc, script, work) {
+        Ok(verdicts) => Ok(FileRead::Judged(verdicts)),
+        Err(ReadFault::Refused(refusal)) => Ok(FileRead::Refused(refusal)),
+        Err(ReadFault::Memory) => Err(AllocError),
+    }
+}
+
 /// What bytes come to.
-fn judge_bytes(alloc: Global, bytes: &[u8]) -> Result<FileRead, AllocError>
-    ensures { IfOk result (IsJudged bytes.now) }
+fn judge_bytes<W: Ledger>(
+    alloc: Global,
+    bytes: &[u8],
+    work: &mut Work<W>,
+) -> Result<FileRead, AllocError>
+    ensures judged { IfOk result (IsJudged bytes.now) }
+    ensures idle { IfOk result (λ read. IsUnjudged read → work.new ≡ work.old) }
 {
     match read(alloc, bytes) {
-        Ok(script) => Ok(FileRead::Judged(verdicts_in(alloc, &script)?)),
+        Ok(script) => judge_script(alloc, bytes, &script, work),
         Err(ReadFault::Refused(refusal)) => Ok(FileRead::Refused(refusal)),
         Err(ReadFault::Memory) => Err(AllocError),
     }
 }
 
 /// Fetches a file and judges it. The only error is want of memory.
-pub fn read_file<L: Library>(
+pub fn read_file<L: Library, W: Ledger>(
     alloc: Global,
     path: &str,
     library: &mut L,
+    work: &mut Work<W>,
 ) -> Result<FileRead, AllocError>
     ensures told { L.told library.new ≡ L.told library.old }
     ensures gone { IfOk result (λ read. read ≡ Gone → Rose (L.faults library.old) (L.faults library.new)) }
     ensures read { IfOk result (IsReading (L.told library.old) (L.sound library.old) path.now) }
+    ensures idle { IfOk result (λ read. IsUnjudged read → work.new ≡ work.old) }
 {
     let mut bytes = Vec::new(alloc);
     match library.fetch(path, LIMIT, &mut bytes) {
-        Ok(Fetched::Whole) => judge_bytes(alloc, &bytes),
+        Ok(Fetched::Whole) => judge_bytes(alloc, &bytes, work),
         Ok(Fetched::PastLimit) => Ok(FileRead::Refused(ScriptRefusal::TooLarge)),
         Err(Fetch::Failed) => Ok(FileRead::Gone),
         Err(Fetch::Memory) => Err(AllocError),

@@ -1,14 +1,18 @@
 //! The runner for promqltest scripts, as one call over words, files and a sink.
 #![tactic(auto)]
 
+mod fault;
 mod fetch;
+mod item;
 mod law;
 mod line;
+mod load;
 mod print;
 mod read;
 mod run;
 mod samples;
 mod script;
+mod series;
 mod text;
 mod token;
 mod tool;
@@ -16,9 +20,11 @@ mod verdict;
 
 pub use law::passes_exactly_where_rows_agree;
 pub use print::Status;
-pub use script::{Command, Row, Script, ScriptRefusal, SeriesLine, What};
+pub use script::{Command, Row, Script, ScriptRefusal, SeriesItem, SeriesLine, What};
 pub use tool::run_tool;
 pub use verdict::{Reason, Verdict};
 
+#[cfg(test)]
+mod notation_tests;
 #[cfg(test)]
 mod tests;

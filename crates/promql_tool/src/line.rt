@@ -1,12 +1,15 @@
 //! The lines of a script, and the words of a line.
-ghost use Rattle.promql_tool.specs.Lines.{is_blank, is_edge, is_line_feed, from_text, lines_of, trimmed, words_of};
+ghost use Rattle.promql_tool.specs.Grammar.{words_behind};
+ghost use Rattle.promql_tool.specs.Lines.{broken_line, from_blank, from_text, is_blank, is_comment, is_edge, is_line_feed, lines_of, said_by, trimmed, words_of};
 ghost use Rattle.promql_tool.specs.Views.{numbered};
 ghost use Rattle.std.specs.List.{slice_split};
-ghost use Rattle.std.specs.Prelude.{◌≡◌, [], ◌∷◌, MatchOption, ◌≤◌, ◌<◌, ◌-◌, ◌^◌, length, map, position, reverse, IfOk, IfSome};
+ghost use Rattle.std.specs.Prelude.{◌≡◌, [], ◌∷◌, MatchOption, ◌≤◌, ◌<◌, ◌-◌, ◌^◌, length, map, position, reverse, count_by, IfOk, IfSome};
 
 use std::alloc::{AllocError, Global};
+use std::str;
 
-/// A line of a file: its number, counted from 1, and its text without blanks and carriage returns at the ends.
+/// A line of a file: its number, counted from 1, and what it says, without blanks and carriage returns at the ends. A
+/// comment says nothing.
 #[derive(Clone, Copy)]
 pub struct Line<'a> {
     pub number: u32,
@@ -25,7 +28,21 @@ const fn is_edge(byte: u8) -> bool
     is_blank(byte) || byte == b'\r'
 }
 
-fn trim_front(text: &[u8]) -> &[u8]
+/// The text from its first byte on that is no blank.
+pub fn skip_blanks(text: &[u8]) -> &[u8]
+    ensures { result.now ≡ from_blank text.now }
+{
+    let mut left = text;
+    while let [first, rest @ ..] = left
+        && is_blank(*first)
+    {
+        left = rest;
+    }
+    left
+}
+
+/// The text from its first byte on that is no blank and no carriage return.
+pub fn trim_front(text: &[u8]) -> &[u8]
     ensures { result.now ≡ from_text text.now }
 {
     let mut left = text;
@@ -49,10 +66,28 @@ fn trim_back(text: &[u8]) -> &[u8]
     left
 }
 
-fn trim(text: &[u8]) -> &[u8]
+/// The text without the blanks and carriage returns at both ends.
+pub fn trim(text: &[u8]) -> &[u8]
     ensures { result.now ≡ trimmed text.now }
 {
     trim_back(trim_front(text))
+}
+
+fn is_comment(text: &[u8]) -> bool
+    ensures { result ≡ is_comment text.now }
+{
+    match text {
+        [] => false,
+        [first, ..] => *first == b'#',
+    }
+}
+
+/// What a line says: nothing, where it is a comment.
+fn said_by(text: &[u8]) -> &[u8]
+    ensures { result.now ≡ said_by text.now }
+{
+    let said = trim(text);
+    if is_comment(said) { &[] } else { said }
 }
 
 fn line_end(text: &[u8]) -> Option<usize>
@@ -87,7 +122,7 @@ pub fn lines_in<'a>(alloc: Global, bytes: &'a [u8]) -> Result<Vec<Line<'a>>, All
         let (line, rest) = cut_line(text);
         lines.push(Line {
             number,
-            text: trim(line),
+            text: said_by(line),
         })?;
         left = rest;
         number += 1;
@@ -102,4 +137,40 @@ pub fn words_in<'a>(alloc: Global, text: &'a [u8]) -> Result<Vec<&'a [u8]>, Allo
     text.split(|byte| is_blank(*byte))
         .filter(|word| !word.is_empty())
         .collect(alloc)
+}
+
+/// The words behind a series: a blank parts them from it, and else there are none.
+pub fn words_behind<'a>(alloc: Global, text: &'a [u8]) -> Result<Vec<&'a [u8]>, AllocError>
+    ensures { IfOk result (λ words. map (λ word. word.now) words.items ≡ words_behind text.now) }
+{
+    match text {
+        [] => Ok(Vec::new(alloc)),
+        [first, rest @ ..] => {
+            if is_blank(*first) {
+                words_in(alloc, rest)
+            } else {
+                Ok(Vec::new(alloc))
+            }
+        }
+    }
+}
+
+/// The line with the first byte that breaks the encoding UTF-8, counted from 1, if there is one.
+pub fn broken_line(bytes: &[u8]) -> Option<u32>
+    requires { length bytes.now < 2 ^ 31 }
+    ensures { result ≡ broken_line bytes.now }
+{
+    match str::from_utf8(bytes) {
+        Ok(_) => None,
+        Err(fault) => Some(feeds_in(bytes.split_at(fault.valid_up_to()).0) + 1),
+    }
+}
+
+/// How many line feeds a text has.
+fn feeds_in(text: &[u8]) -> u32
+    requires { length text.now < 2 ^ 31 }
+    ensures count { result ≡ count_by is_line_feed text.now }
+    ensures few { result ≤ length text.now }
+{
+    text.iter().filter(|byte| **byte == b'\n').count() as u32
 }

@@ -1,66 +1,37 @@
 //! Reading a script from the bytes of a file.
-ghost use Rattle.promql_tool.specs.Grammar.{body_after, command_headed, asks_instant, commands_of, eval_worded, head_worded, load_worded, labels_named, LabelList, eval_of, has_no_text, load_of, limit, line_refusal, reading, row_of, row_worded, rows, script_of, series_lines, series_of, series_worded, values_spelled};
-ghost use Rattle.promql_tool.specs.Lines.{Numbered, words_of};
-ghost use Rattle.std.specs.List.{slice_split};
-ghost use Rattle.promql_tool.specs.declared.script.ScriptRefusal.{ScriptRefusal};
-ghost use Rattle.promql_tool.specs.Readings.{Gives, head_seen, run_of};
-ghost use Rattle.promql_tool.specs.Tokens.{is_metric_name};
+ghost use Rattle.promql_tool.specs.Grammar.{asks_instant, clear_worded, command_headed, commands_in, commands_of, eval_of, eval_worded, has_no_text, head_worded, is_clear, items_spelled, limit, line_refusal, line_with, load_of, load_worded, number_alone, reading, row_of, row_worded, rows, script_of, series_lines, series_of, series_worded, text_read, words_behind};
+ghost use Rattle.promql_tool.specs.Items.{item_spelled};
+ghost use Rattle.promql_tool.specs.Lines.{broken_line, words_of};
+ghost use Rattle.promql_tool.specs.Outcomes.{each_of, in_front};
+ghost use Rattle.promql_tool.specs.Readings.{Adds, Gives, head_seen, run_of};
 ghost use Rattle.promql_tool.specs.Views.{numbered};
-ghost use Rattle.std.specs.Prelude.{◌≡◌, ◌≤◌, ◌<◌, ◌^◌, [], Err, Ok, false, true, length, map, option_map, IfOk, List, MatchOption, MatchResult, Result};
+ghost use Rattle.std.specs.List.{slice_split};
+ghost use Rattle.std.specs.Prelude.{◌≡◌, ◌<◌, ◌^◌, None, Err, Ok, length, map, option_map, IfOk, MatchResult};
 
-use crate::line::{Line, lines_in, words_in};
-use crate::script::{Command, Row, Script, ScriptRefusal, SeriesLine, What, WordRefusal};
-use crate::token::{is_metric_name, read_duration, read_number, read_time};
+use crate::fault::ReadFault;
+use crate::item::read_item;
+use crate::line::{Line, broken_line, lines_in, words_behind, words_in};
+use crate::load::judge_loads;
+use crate::script::{
+    Command, Row, Script, ScriptRefusal, SeriesItem, SeriesLine, What, WordRefusal,
+};
+use crate::series::{read_series, without_comment};
+use crate::token::{metric_name, read_interval, read_number, read_time};
 use holders::{Items, Text};
-use label_set::{Labels, METRIC_NAME};
-use std::alloc::{AllocError, AllocFailed, Global};
+use std::alloc::{AllocError, Global};
 use std::collections::BTreeSet;
-use std::str;
-use thiserror::Error;
 use ticks::Ms;
 use xfrac::XFrac;
 
 /// The most bytes of a file.
-pub const LIMIT: usize = 65536;
+pub const LIMIT: usize = 4_194_304;
 
-/// The most items of a series.
-const MOST_ITEMS: usize = 1000;
+/// What a word, a line's words or a line's text says, or why it isn't taken.
+type Said<T> = Result<T, WordRefusal>;
 
-/// Why there is no script.
-#[derive(Clone, Copy, Debug, PartialEq, Eq, Error)]
-pub enum ReadFault {
-    /// The file isn't a script; this is its first refused line.
-    #[error("the script is refused")]
-    Refused(ScriptRefusal),
-    /// There is no memory left.
-    #[error("out of memory")]
-    Memory,
-}
-
-impl From<AllocError> for ReadFault {
-    ghost use Rattle.promql_tool.specs.declared.read.ReadFault.TheVariants.{Memory};
-    ghost use Rattle.std.specs.Prelude.{◌≡◌};
-
-    ghost from_gives = { λ _ e. e ≡ Memory };
-
-    fn from(_: AllocError) -> ReadFault {
-        ReadFault::Memory
-    }
-}
-
-impl<T: Drop> From<AllocFailed<T>> for ReadFault {
-    ghost use Rattle.promql_tool.specs.declared.read.ReadFault.TheVariants.{Memory};
-    ghost use Rattle.std.specs.Prelude.{◌≡◌};
-
-    ghost from_gives = { λ _ e. e ≡ Memory };
-
-    fn from(_: AllocFailed<T>) -> ReadFault {
-        ReadFault::Memory
-    }
-}
-
-/// What the first line of a block asks for.
+/// What a command's line asks for.
 enum Head<'a> {
+    Clears,
     Loads(Ms),
     Evaluates(Ms, &'a str),
 }
@@ -72,6 +43,7 @@ fn refused<T>(line: u32, refusal: WordRefusal) -> Result<T, ReadFault>
     match refusal {
         WordRefusal::NoForm => Err(ReadFault::Refused(ScriptRefusal::Malformed(line))),
         WordRefusal::OutOfRange => Err(ReadFault::Refused(ScriptRefusal::NumberRange(line))),
+        WordRefusal::LabelsRefused => Err(ReadFault::Refused(ScriptRefusal::BadLabels(line))),
     }
 }
 
@@ -81,156 +53,146 @@ fn malformed<T>(line: Line<'_>) -> Result<T, ReadFault>
     Err(ReadFault::Refused(ScriptRefusal::Malformed(line.number)))
 }
 
-/// The word as a text, if it names a metric.
-fn metric_name(word: &[u8]) -> Option<&str>
-    ensures { MatchOption result (is_metric_name word.now ≡ false)
-        (λ name. (name.now ≡ word.now) × (is_metric_name name.now ≡ true)) }
-{
-    if !is_metric_name(word) {
-        return None;
-    }
-    match str::from_utf8(word) {
-        Ok(name) => Some(name),
-        Err(_) => None,
-    }
-}
+// ---- the lines behind `load`
 
-/// The labels of a bare metric name. The only error is want of memory.
-fn labels_named(alloc: Global, name: &str) -> Result<Labels, AllocError>
-    requires { is_metric_name name.now ≡ true }
-    ensures { IfOk result (λ labels. labels ≡ labels_named name.now) }
+/// Adds the items of words, or says why the first of them that is refused isn't taken.
+fn add_items(words: &[&[u8]], items: &mut Items<SeriesItem>) -> Result<Said<()>, AllocError>
+    ensures { IfOk result (λ said. MatchResult said
+        (λ _. in_front items.old (each_of item_spelled (map (λ word. word.now) words.now)) ≡ Ok items.new)
+        (λ refusal. each_of item_spelled (map (λ word. word.now) words.now) ≡ Err refusal)) }
 {
-    let mut labels = Labels::empty(alloc);
-    match labels.put(METRIC_NAME, name) {
-        Ok(()) => Ok(labels),
-        Err(_) => Err(AllocError),
-    }
-}
-
-/// The values of items, or why the first of them that is refused isn't taken.
-type Values = Result<Items<XFrac>, WordRefusal>;
-
-fn read_values(alloc: Global, words: &[&[u8]]) -> Result<Values, AllocError>
-    ensures { IfOk result (λ values. values ≡ values_spelled (map (λ word. word.now) words.now)) }
-{
-    if words.is_empty() || words.len() > MOST_ITEMS {
-        return Ok(Err(WordRefusal::NoForm));
-    }
-    let mut values = Items::new(alloc);
+    // The toolchain's borrow checker is told of the numbers in items where their type is named.
+    let _none: Option<XFrac> = None;
     for word in words {
-        match read_number(word) {
-            Ok(value) => values.push(value)?,
+        match read_item(word) {
+            Ok(item) => items.push(item)?,
             Err(refusal) => return Ok(Err(refusal)),
         }
     }
-    Ok(Ok(values))
+    Ok(Ok(()))
 }
 
-fn series_in(
-    alloc: Global,
-    line: u32,
-    words: &[&[u8]],
-) -> Result<Result<SeriesLine, WordRefusal>, AllocError>
-    ensures { IfOk result (λ series. series ≡ series_worded line (map (λ word. word.now) words.now)) }
+/// The items of words, or why the first of them that is refused isn't taken. There is one item or more.
+fn read_items(alloc: Global, words: &[&[u8]]) -> Result<Said<Items<SeriesItem>>, AllocError>
+    ensures { IfOk result (λ items. items ≡ items_spelled (map (λ word. word.now) words.now)) }
 {
-    let [name, items @ ..] = words else {
+    if words.is_empty() {
         return Ok(Err(WordRefusal::NoForm));
+    }
+    let mut items = Items::new(alloc);
+    match add_items(words, &mut items)? {
+        Ok(()) => Ok(Ok(items)),
+        Err(refusal) => Ok(Err(refusal)),
+    }
+}
+
+fn series_in(alloc: Global, line: u32, text: &[u8]) -> Result<Said<SeriesLine>, AllocError>
+    ensures { IfOk result (λ series. series ≡ series_worded line text.now) }
+{
+    let series = match read_series(alloc, without_comment(text))? {
+        Ok(series) => series,
+        Err(refusal) => return Ok(Err(refusal)),
     };
-    let Some(name) = metric_name(name) else {
+    if series.labels.len() == 0 {
         return Ok(Err(WordRefusal::NoForm));
-    };
-    match read_values(alloc, items)? {
-        Ok(values) => Ok(Ok(SeriesLine {
+    }
+    let words = words_behind(alloc, series.behind)?;
+    match read_items(alloc, &words)? {
+        Ok(items) => Ok(Ok(SeriesLine {
             line,
-            labels: labels_named(alloc, name)?,
-            values,
+            labels: series.labels,
+            items,
         })),
         Err(refusal) => Ok(Err(refusal)),
     }
 }
 
-fn row_in(alloc: Global, words: &[&[u8]]) -> Result<Result<Row, WordRefusal>, AllocError>
-    ensures { IfOk result (λ row. row ≡ row_worded (map (λ word. word.now) words.now)) }
+fn series_of(alloc: Global, line: Line<'_>) -> Result<SeriesLine, ReadFault>
+    ensures { Gives result (series_of (numbered line.entry)) }
 {
-    if words.len() != 2 {
-        return Ok(Err(WordRefusal::NoForm));
+    match series_in(alloc, line.number, line.text)? {
+        Ok(series) => Ok(series),
+        Err(refusal) => refused(line.number, refusal),
     }
-    let Some(name) = metric_name(words[0]) else {
-        return Ok(Err(WordRefusal::NoForm));
+}
+
+fn series_lines(alloc: Global, body: &[Line<'_>]) -> Result<Items<SeriesLine>, ReadFault>
+    ensures { Gives result (series_lines (map numbered body.now)) }
+{
+    let mut lines = Items::new(alloc);
+    for line in body {
+        lines.push(series_of(alloc, *line)?)?;
+    }
+    Ok(lines)
+}
+
+// ---- the lines behind `eval`
+
+/// The number that words are: one, and no more.
+fn number_alone(words: &[&[u8]]) -> Said<XFrac>
+    ensures { result ≡ number_alone (map (λ word. word.now) words.now) }
+{
+    match words {
+        [] => Err(WordRefusal::NoForm),
+        [word] => read_number(word),
+        [word, _, ..] => match read_number(word) {
+            Ok(_) => Err(WordRefusal::NoForm),
+            Err(refusal) => Err(refusal),
+        },
+    }
+}
+
+fn row_in(alloc: Global, text: &[u8]) -> Result<Said<Row>, AllocError>
+    ensures { IfOk result (λ row. row ≡ row_worded text.now) }
+{
+    let series = match read_series(alloc, text)? {
+        Ok(series) => series,
+        Err(refusal) => return Ok(Err(refusal)),
     };
-    match read_number(words[1]) {
+    let words = words_behind(alloc, series.behind)?;
+    match number_alone(&words) {
         Ok(value) => Ok(Ok(Row {
-            labels: labels_named(alloc, name)?,
+            labels: series.labels,
             value,
         })),
         Err(refusal) => Ok(Err(refusal)),
     }
 }
 
-/// What a line of a block's body says, behind its first line.
-trait BodyLine: Drop {
-    /// The labels that may stand once in a body.
-    ghost labels_of: { Self → LabelList };
-
-    /// What a line says, or its refusal.
-    ghost said: { Numbered → Result Self ScriptRefusal };
-
-    fn read(alloc: Global, line: Line<'_>) -> Result<Self, ReadFault>
-        ensures { Gives result (said (numbered line.entry)) };
-
-    fn labels(&self) -> &Labels
-        ensures { result.now ≡ labels_of self.now };
-}
-
-impl BodyLine for SeriesLine {
-    ghost labels_of = { λ series. series.labels };
-
-    ghost said = { series_of };
-
-    fn read(alloc: Global, line: Line<'_>) -> Result<SeriesLine, ReadFault> {
-        let words = words_in(alloc, line.text)?;
-        match series_in(alloc, line.number, &words)? {
-            Ok(series) => Ok(series),
-            Err(refusal) => refused(line.number, refusal),
-        }
-    }
-
-    fn labels(&self) -> &Labels {
-        &self.labels
+fn row_of(alloc: Global, line: Line<'_>) -> Result<Row, ReadFault>
+    ensures { Gives result (row_of (numbered line.entry)) }
+{
+    match row_in(alloc, line.text)? {
+        Ok(row) => Ok(row),
+        Err(refusal) => refused(line.number, refusal),
     }
 }
 
-impl BodyLine for Row {
-    ghost labels_of = { λ row. row.labels };
-
-    ghost said = { row_of };
-
-    fn read(alloc: Global, line: Line<'_>) -> Result<Row, ReadFault> {
-        let words = words_in(alloc, line.text)?;
-        match row_in(alloc, &words)? {
-            Ok(row) => Ok(row),
-            Err(refusal) => refused(line.number, refusal),
-        }
-    }
-
-    fn labels(&self) -> &Labels {
-        &self.labels
-    }
-}
-
-fn read_body<X: BodyLine>(alloc: Global, body: &[Line<'_>]) -> Result<Items<X>, ReadFault>
-    ensures { Gives result (body_after X.said X.labels_of [] (map numbered body.now)) }
+fn read_rows(alloc: Global, body: &[Line<'_>]) -> Result<Items<Row>, ReadFault>
+    ensures { Gives result (rows (map numbered body.now)) }
 {
     let mut seen = BTreeSet::new(alloc);
-    let mut items = Items::new(alloc);
+    let mut rows = Items::new(alloc);
     for line in body {
-        let item = X::read(alloc, *line)?;
-        if !seen.insert(item.labels().copy()?)? {
+        let row = row_of(alloc, *line)?;
+        if !seen.insert(row.labels.copy()?)? {
             return malformed(*line);
         }
-        items.push(item)?;
+        rows.push(row)?;
     }
-    Ok(items)
+    Ok(rows)
+}
+
+// ---- commands
+
+fn clear_in<'a>(word: &[u8]) -> Option<Head<'a>>
+    ensures { option_map head_seen result ≡ clear_worded word.now }
+{
+    if word == b"clear".as_slice() {
+        Some(Head::Clears)
+    } else {
+        None
+    }
 }
 
 /// What `load <duration>` asks for.
@@ -240,7 +202,7 @@ fn load_in<'a>(word: &[u8], duration: &[u8]) -> Option<Head<'a>>
     if word != b"load".as_slice() {
         return None;
     }
-    match read_duration(duration) {
+    match read_interval(duration) {
         Some(interval) => Some(Head::Loads(interval)),
         None => None,
     }
@@ -278,6 +240,7 @@ fn head_in<'a>(words: &[&'a [u8]]) -> Option<Head<'a>>
     ensures { option_map head_seen result ≡ head_worded (map (λ word. word.now) words.now) }
 {
     match words.len() {
+        1 => clear_in(words[0]),
         2 => load_in(words[0], words[1]),
         5 => eval_in(words[0], words[1], words[2], words[3], words[4]),
         _ => None,
@@ -292,7 +255,7 @@ fn read_load(
 ) -> Result<Command, ReadFault>
     ensures { Gives result (load_of line interval (map numbered body.now)) }
 {
-    let lines: Items<SeriesLine> = read_body(alloc, body)?;
+    let lines = series_lines(alloc, body)?;
     Ok(Command {
         line,
         what: What::Load { interval, lines },
@@ -308,7 +271,7 @@ fn read_eval(
 ) -> Result<Command, ReadFault>
     ensures { Gives result (eval_of line at name.now (map numbered body.now)) }
 {
-    let expected: Items<Row> = read_body(alloc, body)?;
+    let expected = read_rows(alloc, body)?;
     let name = Text::of(alloc, name)?;
     Ok(Command {
         line,
@@ -316,27 +279,48 @@ fn read_eval(
     })
 }
 
-/// The command of a block, by its first line and the others. A load is taken only in the first block.
-fn read_block(
-    alloc: Global,
-    first: bool,
-    line: Line<'_>,
-    body: &[Line<'_>],
-) -> Result<Command, ReadFault>
-    ensures { Gives result (command_headed first line.entry.number (head_worded (words_of line.entry.text.now)) (map numbered body.now)) }
+/// The command of a line, with the lines behind it.
+fn command_of(alloc: Global, line: Line<'_>, body: &[Line<'_>]) -> Result<Command, ReadFault>
+    ensures { Gives result (command_headed line.entry.number (head_worded (words_of line.entry.text.now)) (map numbered body.now)) }
 {
     let words = words_in(alloc, line.text)?;
     match head_in(&words) {
-        Some(Head::Loads(interval)) => {
-            if first {
-                read_load(alloc, line.number, interval, body)
-            } else {
-                malformed(line)
-            }
-        }
+        Some(Head::Clears) => Ok(Command {
+            line: line.number,
+            what: What::Clear,
+        }),
+        Some(Head::Loads(interval)) => read_load(alloc, line.number, interval, body),
         Some(Head::Evaluates(at, name)) => read_eval(alloc, line.number, at, name, body),
         None => malformed(line),
     }
+}
+
+fn is_clear(what: &What) -> bool
+    ensures { result ≡ is_clear what.now }
+{
+    match what {
+        What::Clear => true,
+        What::Load { .. } => false,
+        What::Eval { .. } => false,
+    }
+}
+
+/// Adds the commands of the lines between two empty ones. The lines behind a `clear` say commands; those behind another
+/// command are its own.
+fn read_run(alloc: Global, run: &[Line<'_>], commands: &mut Items<Command>) -> Result<(), ReadFault>
+    ensures { Adds result commands.old commands.new (commands_in (map numbered run.now)) }
+{
+    let mut rest = run;
+    while let [line, body @ ..] = rest {
+        let command = command_of(alloc, *line, body)?;
+        let goes_on = is_clear(&command.what);
+        commands.push(command)?;
+        if !goes_on {
+            return Ok(());
+        }
+        rest = body;
+    }
+    Ok(())
 }
 
 /// The runs of lines between empty ones.
@@ -352,22 +336,34 @@ fn read_lines(alloc: Global, lines: &[Line<'_>]) -> Result<Script, ReadFault>
     let runs = runs_in(alloc, lines)?;
     let mut commands = Items::new(alloc);
     for run in &runs {
-        if let [head, body @ ..] = run {
-            let first = commands.as_slice().is_empty();
-            commands.push(read_block(alloc, first, *head, body)?)?;
-        }
+        read_run(alloc, run, &mut commands)?;
     }
     Ok(Script { commands })
 }
 
-/// The script that a file holds. `Refused` comes exactly where the file isn't a script, with its first refused line;
-/// the only other error is want of memory.
+// ---- files
+
+/// The script of a file of text. Its loads are judged once each line is read.
+fn read_text(alloc: Global, bytes: &[u8]) -> Result<Script, ReadFault>
+    requires { length bytes.now < 2 ^ 31 }
+    ensures { Gives result (text_read None bytes.now) }
+{
+    let lines = lines_in(alloc, bytes)?;
+    let script = read_lines(alloc, &lines)?;
+    judge_loads(alloc, &script)?;
+    Ok(script)
+}
+
+/// The script that a file holds. `Refused` comes exactly where the file isn't a script or its loads are refused, with the
+/// first refusal; the only other error is want of memory.
 pub fn read(alloc: Global, bytes: &[u8]) -> Result<Script, ReadFault>
     ensures { Gives result (reading bytes.now) }
 {
     if bytes.len() > LIMIT {
         return Err(ReadFault::Refused(ScriptRefusal::TooLarge));
     }
-    let lines = lines_in(alloc, bytes)?;
-    read_lines(alloc, &lines)
+    match broken_line(bytes) {
+        Some(line) => Err(ReadFault::Refused(ScriptRefusal::NotUtf8(line))),
+        None => read_text(alloc, bytes),
+    }
 }

@@ -1,46 +1,79 @@
 //! Running a script: each evaluation is judged over the samples that were loaded before it.
-ghost use Rattle.promql_tool.specs.LoadedSeries.{Holds};
-ghost use Rattle.promql_tool.specs.Runs.{Continues};
-ghost use Rattle.promql_tool.specs.Samples.{Series};
-ghost use Rattle.promql_tool.specs.Verdicts.{verdicts_of};
-ghost use Rattle.std.specs.Prelude.{◌≡◌, List, IfOk, OnOk};
+ghost use Rattle.promql_tool.specs.Loads.{left_by, loads_judged};
+ghost use Rattle.promql_tool.specs.Readings.{Leaves};
+ghost use Rattle.promql_tool.specs.Runs.{AreTimely, IsRefusedFor, IsTimely};
+ghost use Rattle.promql_tool.specs.Samples.{answer};
+ghost use Rattle.promql_tool.specs.Verdicts.{judged, verdict_of, verdicts_of};
+ghost use Rattle.std.specs.Prelude.{◌≡◌, ◌++◌, IfErr, IfOk, OnOk};
+ghost use Rattle.ticks.specs.Walks.{IsTime};
 
-use crate::samples::{Loaded, add_series, answer};
-use crate::script::{Command, Script, What};
-use crate::verdict::{Verdict, judge};
+use crate::fault::ReadFault;
+use crate::load::change_store;
+use crate::samples::answer;
+use crate::script::{Command, Row, Script, What};
+use crate::verdict::{Reason, Verdict, judge};
 use holders::{Items, Text};
+use sample_store::Store;
 use std::alloc::{AllocError, Global};
-use std::collections::BTreeMap;
+use std::sync::ledger::Ledger;
+use ticks::{Ms, Work};
 
-fn run_command<'a>(
+/// Why what a metric's name gives at a time isn't as expected. The only error is want of memory.
+fn judge_at<W: Ledger>(
     alloc: Global,
-    command: &'a Command,
-    loaded: &mut BTreeMap<Text, Loaded<'a>>,
+    store: &Store,
+    at: Ms,
+    name: &Text,
+    expected: &[Row],
+    work: &mut Work<W>,
+) -> Result<Option<Reason>, AllocError>
+    requires { IsTime at.0 }
+    ensures { IfOk result (λ reason. reason ≡ judged expected.now (answer store.now name.now at)) }
+{
+    let got = answer(alloc, store, name, at, work)?;
+    judge(alloc, expected, got.as_slice())
+}
+
+fn run_command<W: Ledger>(
+    alloc: Global,
+    command: &Command,
+    store: &mut Store,
     verdicts: &mut Items<Verdict>,
-) -> Result<(), AllocError>
-    ensures { (all : List Series) → Holds loaded.old all → OnOk result (Continues command.now all verdicts.old loaded.new verdicts.new) }
+    work: &mut Work<W>,
+) -> Result<(), ReadFault>
+    requires { IsTimely command.now.what }
+    ensures left { Leaves result store.new (left_by command.now.what store.old) }
+    ensures verdict { OnOk result (verdicts.new ≡ verdicts.old ++ verdict_of store.old command.now) }
 {
     match &command.what {
-        What::Load { interval, lines } => add_series(alloc, loaded, *interval, lines.as_slice()),
         What::Eval { at, name, expected } => {
-            let got = answer(alloc, loaded, name, *at)?;
-            let reason = judge(expected.as_slice(), got.as_slice())?;
+            let reason = judge_at(alloc, store, *at, name, expected.as_slice(), work)?;
             verdicts.push(Verdict {
                 line: command.line,
                 reason,
-            })
+            })?;
+            Ok(())
         }
+        What::Clear => change_store(store, &command.what),
+        What::Load { .. } => change_store(store, &command.what),
     }
 }
 
-/// The verdicts of a script's evaluations, in order. The only error is want of memory.
-pub fn verdicts_in(alloc: Global, script: &Script) -> Result<Items<Verdict>, AllocError>
-    ensures { IfOk result (λ verdicts. verdicts ≡ verdicts_of script.now) }
+/// The verdicts of a script's evaluations, in order. `Refused` comes only where a load is refused, which was judged
+/// before; the only other error is want of memory.
+pub fn verdicts_in<W: Ledger>(
+    alloc: Global,
+    script: &Script,
+    work: &mut Work<W>,
+) -> Result<Items<Verdict>, ReadFault>
+    requires { AreTimely script.now.commands }
+    ensures verdicts { IfOk result (λ verdicts. verdicts ≡ verdicts_of script.now) }
+    ensures refused { IfErr result (IsRefusedFor (loads_judged script.now)) }
 {
-    let mut loaded = BTreeMap::new(alloc);
+    let mut store = Store::new(alloc);
     let mut verdicts = Items::new(alloc);
     for command in script.commands.as_slice() {
-        run_command(alloc, command, &mut loaded, &mut verdicts)?;
+        run_command(alloc, command, &mut store, &mut verdicts, work)?;
     }
     Ok(verdicts)
 }

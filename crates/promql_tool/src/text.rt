@@ -54,9 +54,14 @@ fn refused_line(refusal: ScriptRefusal) -> u32
     ensures { result ≡ refused_line refusal }
 {
     match refusal {
-        ScriptRefusal::Malformed(line) => line,
         ScriptRefusal::TooLarge => 0,
+        ScriptRefusal::Malformed(line) => line,
+        ScriptRefusal::NotUtf8(line) => line,
         ScriptRefusal::NumberRange(line) => line,
+        ScriptRefusal::BadLabels(line) => line,
+        ScriptRefusal::Conflict(line) => line,
+        ScriptRefusal::TooManySamples(line) => line,
+        ScriptRefusal::TooManySeries(line) => line,
     }
 }
 
@@ -64,9 +69,14 @@ fn refusal_name(refusal: ScriptRefusal) -> &'static str
     ensures { result.now ≡ refusal_name refusal }
 {
     match refusal {
-        ScriptRefusal::Malformed(_) => "Malformed",
         ScriptRefusal::TooLarge => "TooLarge",
+        ScriptRefusal::Malformed(_) => "Malformed",
+        ScriptRefusal::NotUtf8(_) => "NotUtf8",
         ScriptRefusal::NumberRange(_) => "NumberRange",
+        ScriptRefusal::BadLabels(_) => "BadLabels",
+        ScriptRefusal::Conflict(_) => "Conflict",
+        ScriptRefusal::TooManySamples(_) => "TooManySamples",
+        ScriptRefusal::TooManySeries(_) => "TooManySeries",
     }
 }
 

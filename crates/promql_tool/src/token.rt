@@ -1,17 +1,14 @@
 //! What a word of a script spells.
-ghost use Rattle.promql_tool.specs.Tokens.{continues_name, digits_within, duration_of, is_ascii, is_identifier, is_metric_name, is_reserved, milliseconds, number_spelled, starts_name, time_of, unit_of};
+ghost use Rattle.promql_tool.specs.Tokens.{continues_name, interval_spelled, is_ascii, is_identifier, is_label_name, is_metric_name, is_one_of, is_reserved, number_spelled, number_words, starts_name, time_spelled};
 ghost use Rattle.std.specs.Char.{to_ascii_lowercase};
-ghost use Rattle.std.specs.List.{list_all};
-ghost use Rattle.std.specs.Prelude.{◌≡◌, ◌<◌, ◌≤◌, ◌^◌, false, true, map, option_map, bytes_eq, IfSome, MatchOption};
+ghost use Rattle.std.specs.List.{list_all, prefix_len};
+ghost use Rattle.std.specs.Prelude.{◌≡◌, ◌≤◌, ◌==◌, false, true, not, drop, length, map, take_while, bytes_eq, MatchOption};
 
 use crate::script::WordRefusal;
 use frac_text::{NumberRefusal, read_script_number};
 use std::str;
 use ticks::Ms;
 use xfrac::XFrac;
-
-/// The longest metric name, in bytes.
-const LONGEST_NAME: usize = 4096;
 
 fn is_ascii(word: &[u8]) -> bool
     ensures { result ≡ is_ascii word.now }
@@ -48,71 +45,27 @@ pub fn read_number(word: &[u8]) -> Result<XFrac, WordRefusal>
     }
 }
 
-fn digits(text: &[u8], most: usize) -> Option<u64>
-    requires { most ≤ 18 }
-    ensures value { result ≡ digits_within most text.now }
-    ensures bound { IfSome result (λ n. n < 10 ^ most) }
+/// A time: an optional sign, and a duration or a number of seconds.
+pub fn read_time(word: &[u8]) -> Option<Ms>
+    ensures { result ≡ time_spelled word.now }
 {
-    if text.is_empty() || text.len() > most {
+    let Some(text) = ascii_text(word) else {
         return None;
-    }
-    let mut value = 0u64;
-    for digit in text {
-        if !digit.is_ascii_digit() {
-            return None;
-        }
-        value = value * 10 + u64::from(*digit - b'0');
-    }
-    Some(value)
-}
-
-fn unit(byte: u8) -> Option<u64>
-    ensures value { result ≡ unit_of byte }
-    ensures bound { IfSome result (λ ms. ms ≤ 60000) }
-{
-    match byte {
-        b's' => Some(1000),
-        b'm' => Some(60000),
-        _ => None,
-    }
-}
-
-fn duration_millis(text: &[u8]) -> Option<u64>
-    ensures value { result ≡ duration_of text.now }
-    ensures bound { IfSome result (λ ms. ms < 60000000000) }
-{
-    if text.is_empty() {
-        return None;
-    }
-    let end = text.len() - 1;
-    let unit = match unit(text[end]) {
-        Some(unit) => unit,
-        None => return None,
     };
-    match digits(text.split_at(end).0, 6) {
-        Some(count) if count > 0 => Some(count * unit),
-        _ => None,
+    match frac_text::read_time(text) {
+        Ok(time) => Some(time),
+        Err(_) => None,
     }
 }
 
-/// A positive duration: 1 to 6 digits and `s` or `m`.
-pub fn read_duration(text: &[u8]) -> Option<Ms>
-    ensures { result ≡ option_map milliseconds (duration_of text.now) }
+/// A positive time.
+pub fn read_interval(word: &[u8]) -> Option<Ms>
+    ensures { result ≡ interval_spelled word.now }
 {
-    match duration_millis(text) {
-        Some(ms) => Some(Ms(ms as i64)),
+    match read_time(word) {
+        Some(time) => { if time.0 > 0 { Some(time) } else { None } }
         None => None,
     }
-}
-
-/// A time: `0` or a duration.
-pub fn read_time(text: &[u8]) -> Option<Ms>
-    ensures { result ≡ option_map milliseconds (time_of text.now) }
-{
-    if text == b"0".as_slice() {
-        return Some(Ms(0));
-    }
-    read_duration(text)
 }
 
 fn is_identifier(text: &[u8]) -> bool
@@ -165,5 +118,68 @@ fn is_reserved(text: &[u8]) -> bool
 pub fn is_metric_name(text: &[u8]) -> bool
     ensures { result ≡ is_metric_name text.now }
 {
-    is_identifier(text) && text.len() <= LONGEST_NAME && !is_reserved(text)
+    is_identifier(text) && !is_reserved(text)
+}
+
+/// The word as a text, if it names a metric.
+pub fn metric_name(word: &[u8]) -> Option<&str>
+    ensures { MatchOption result (is_metric_name word.now ≡ false)
+        (λ name. (name.now ≡ word.now) × (is_metric_name name.now ≡ true)) }
+{
+    if !is_metric_name(word) {
+        return None;
+    }
+    match str::from_utf8(word) {
+        Ok(name) => Some(name),
+        Err(_) => None,
+    }
+}
+
+fn is_number_word(text: &[u8]) -> bool
+    ensures { result ≡ is_one_of number_words text.now }
+{
+    is_word(text, b"inf") || is_word(text, b"nan")
+}
+
+fn has_no_colon(text: &[u8]) -> bool
+    ensures { result ≡ list_all (λ byte. not (byte == 58)) text.now }
+{
+    text.iter().all(|byte| *byte != b':')
+}
+
+fn is_label_name(text: &[u8]) -> bool
+    ensures { result ≡ is_label_name text.now }
+{
+    is_identifier(text) && has_no_colon(text) && !is_number_word(text)
+}
+
+/// The word as a text, if it names a label.
+pub fn label_name(word: &[u8]) -> Option<&str>
+    ensures { MatchOption result (is_label_name word.now ≡ false)
+        (λ name. (name.now ≡ word.now) × (is_label_name name.now ≡ true)) }
+{
+    if !is_label_name(word) {
+        return None;
+    }
+    match str::from_utf8(word) {
+        Ok(name) => Some(name),
+        Err(_) => None,
+    }
+}
+
+/// The bytes of a name at the front of a text, and what stands behind them.
+pub fn split_name(text: &[u8]) -> (&[u8], &[u8])
+    ensures name { result.0.now ≡ take_while continues_name text.now }
+    ensures behind { result.1.now ≡ drop (prefix_len continues_name text.now) text.now }
+{
+    text.split_at(name_len(text))
+}
+
+fn name_len(text: &[u8]) -> usize
+    ensures len { result ≡ prefix_len continues_name text.now }
+    ensures within { result ≤ length text.now }
+{
+    text.iter()
+        .take_while(|byte| continues_name(**byte))
+        .count()
 }

@@ -11,6 +11,8 @@ use crate::fetch::read_file;
 use crate::print::{Status, print_read};
 use edge_io::{Library, Sink, SinkFail, write_all};
 use std::alloc::Global;
+use std::sync::ledger::Ledger;
+use ticks::Work;
 
 /// What is printed for words that are no command.
 const USAGE: &str = "usage: promqltest [options] FILE.. or query [options] FILE EXPR\n";
@@ -60,12 +62,19 @@ fn print_usage<S: Sink>(out: &mut S) -> Status
     }
 }
 
-fn run_path<L: Library, S: Sink>(alloc: Global, path: &str, library: &mut L, out: &mut S) -> Status
-    ensures { RunsPath (record { told = L.told library.old; faults_before = L.faults library.old; faults_now = L.faults library.new; sound = L.sound library.old })
+fn run_path<L: Library, S: Sink, W: Ledger>(
+    alloc: Global,
+    path: &str,
+    library: &mut L,
+    out: &mut S,
+    work: &mut Work<W>,
+) -> Status
+    ensures idle { IsOneOf (3 ∷ 6 ∷ []) result.0 → work.new ≡ work.old }
+    ensures runs { RunsPath (record { told = L.told library.old; faults_before = L.faults library.old; faults_now = L.faults library.new; sound = L.sound library.old })
         (record { before = S.written out.old; now = S.written out.new; faults_before = S.faults out.old; faults_now = S.faults out.new; sound = S.sound out.old })
         result.0 path.now }
 {
-    let read = match read_file(alloc, path, library) {
+    let read = match read_file(alloc, path, library, work) {
         Ok(read) => read,
         Err(_) => return Status(7),
     };
@@ -75,31 +84,35 @@ fn run_path<L: Library, S: Sink>(alloc: Global, path: &str, library: &mut L, out
     }
 }
 
-fn run_words<L: Library, S: Sink>(
+fn run_words<L: Library, S: Sink, W: Ledger>(
     alloc: Global,
     words: &[String],
     library: &mut L,
     out: &mut S,
+    work: &mut Work<W>,
 ) -> Status
-    ensures { RunsWords (map string_bytes words.now)
+    ensures idle { IsOneOf (2 ∷ 3 ∷ 6 ∷ []) result.0 → work.new ≡ work.old }
+    ensures runs { RunsWords (map string_bytes words.now)
         (record { told = L.told library.old; faults_before = L.faults library.old; faults_now = L.faults library.new; sound = L.sound library.old })
         (record { before = S.written out.old; now = S.written out.new; faults_before = S.faults out.old; faults_now = S.faults out.new; sound = S.sound out.old })
         result.0 }
 {
     match path_in(words) {
-        Some(path) => run_path(alloc, path, library, out),
+        Some(path) => run_path(alloc, path, library, out, work),
         None => print_usage(out),
     }
 }
 
 /// Runs `promqltest FILE`: fetches the file, judges each evaluation of its script over the samples that it loads, and
-/// prints a line for each and the totals. Status 0: all pass. 1: some don't. 2: the words are no command. 3: the file
-/// can't be fetched. 4: a write failed. 6: the file is no script. 7: memory ran out.
-pub fn run_tool<L: Library, S: Sink>(
+/// prints a line for each and the totals. Samples are read by counted calls, in `work`. Status 0: all pass. 1: some
+/// don't. 2: the words are no command. 3: the file can't be fetched. 4: a write failed. 6: the file is no script, or a
+/// load is refused. 7: memory ran out.
+pub fn run_tool<L: Library, S: Sink, W: Ledger>(
     alloc: Global,
     words: &[String],
     library: &mut L,
     out: &mut S,
+    work: &mut Work<W>,
 ) -> Status
     ensures statuses { IsOneOf (0 ∷ 1 ∷ 2 ∷ 3 ∷ 4 ∷ 6 ∷ 7 ∷ []) result.0 }
 
@@ -121,6 +134,9 @@ pub fn run_tool<L: Library, S: Sink>(
     ensures outside { IfSome (path_of (map string_bytes words.now)) (λ path. IfSome (L.told library.old) (λ files. IfSome (files path) (λ bytes.
         IsErr (reading bytes) → IsOneOf (3 ∷ 4 ∷ 6 ∷ 7 ∷ []) result.0))) }
 
+    // Where the words are no command, the file isn't there or is refused, nothing was evaluated.
+    ensures idle { IsOneOf (2 ∷ 3 ∷ 6 ∷ []) result.0 → work.new ≡ work.old }
+
     // 3: a fetch failed, of the file of the words. Over a sound library that tells, exactly where it isn't there.
     ensures fetch { result.0 ≡ 3 → Rose (L.faults library.old) (L.faults library.new) }
     ensures fault_line { result.0 ≡ 3 → IsSomeAnd (path_of (map string_bytes words.now)) (λ path. S.written out.new ≡ appended (S.written out.old) (fault_text path)) }
@@ -133,5 +149,5 @@ pub fn run_tool<L: Library, S: Sink>(
     ensures cut { IsOneOf (4 ∷ 7 ∷ []) result.0 →
         IsCut (map string_bytes words.now) (L.told library.old) (L.sound library.old) (S.written out.old) (S.written out.new) }
 {
-    run_words(alloc, words, library, out)
+    run_words(alloc, words, library, out, work)
 }

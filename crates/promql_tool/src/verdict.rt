@@ -1,13 +1,14 @@
 //! Whether a result is as expected.
-ghost use Rattle.label_set.specs.Labels.{labels_cmp};
-ghost use Rattle.promql_tool.specs.Verdicts.{is_differing, is_lacking, judged, least, lesser, value_under};
-ghost use Rattle.std.specs.Prelude.{◌≡◌, filter, option_map, IfOk};
-ghost use Rattle.std.specs.Ordering.{is_eq};
+ghost use Rattle.promql_tool.specs.Lookups.{HasValues};
+ghost use Rattle.promql_tool.specs.Verdicts.{is_differing, is_lacking, judged, least, lesser};
+ghost use Rattle.promql_tool.specs.declared.script.Row.{Row};
+ghost use Rattle.std.specs.Prelude.{◌≡◌, filter, option_map, IfOk, List};
 
 use crate::script::Row;
 use label_set::Labels;
-use std::alloc::AllocError;
+use std::alloc::{AllocError, Global};
 use std::cmp::Ordering;
+use std::collections::BTreeMap;
 use xfrac::{XFrac, near};
 
 /// Why a result isn't as expected.
@@ -32,35 +33,35 @@ pub struct Verdict {
     pub reason: Option<Reason>,
 }
 
-fn have_same_labels(a: &Labels, b: &Labels) -> bool
-    ensures { result ≡ is_eq (labels_cmp a.now b.now) }
-{
-    a.cmp(b) == Ordering::Equal
-}
+/// Rows by their labels.
+type Values = BTreeMap<Labels, XFrac>;
 
-/// The value that rows have under labels.
-fn value_under(labels: &Labels, rows: &[Row]) -> Option<XFrac>
-    ensures { result ≡ value_under labels.now rows.now }
+/// The values of rows by their labels. It goes from the last row to the first, so that of equal labels the first stays. The
+/// only error is want of memory.
+fn values_of(alloc: Global, rows: &[Row]) -> Result<Values, AllocError>
+    ensures { IfOk result (λ values. HasValues values rows.now) }
 {
-    for row in rows {
-        if have_same_labels(&row.labels, labels) {
-            return Some(row.value);
-        }
+    let mut values = BTreeMap::new(alloc);
+    let mut place = rows.len();
+    while place > 0 {
+        place -= 1;
+        let row = &rows[place];
+        values.insert(row.labels.copy()?, row.value)?;
     }
-    None
+    Ok(values)
 }
 
-fn is_lacking(rows: &[Row], row: &Row) -> bool
-    ensures { result ≡ is_lacking rows.now row.now }
+fn is_lacking(values: &Values, row: &Row) -> bool
+    ensures { (rows : List Row) → HasValues values.now rows → result ≡ is_lacking rows row.now }
 {
-    value_under(&row.labels, rows).is_none()
+    values.get(&row.labels).is_none()
 }
 
-fn is_differing(rows: &[Row], row: &Row) -> bool
-    ensures { result ≡ is_differing rows.now row.now }
+fn is_differing(values: &Values, row: &Row) -> bool
+    ensures { (rows : List Row) → HasValues values.now rows → result ≡ is_differing rows row.now }
 {
-    match value_under(&row.labels, rows) {
-        Some(value) => !near(&row.value, &value),
+    match values.get(&row.labels) {
+        Some(value) => !near(&row.value, value),
         None => false,
     }
 }
@@ -81,10 +82,9 @@ fn lesser<'a>(row: &'a Row, least: Option<&'a Row>) -> &'a Row
     }
 }
 
-/// The row with the least labels among those that other rows lack. The others are searched for each row: a result has
-/// at most one row so far.
-fn least_lacking<'a>(rows: &'a [Row], others: &[Row]) -> Option<&'a Row>
-    ensures { option_map (λ r. r.now) result ≡ least (filter (is_lacking others.now) rows.now) }
+/// The row with the least labels among those that other rows lack.
+fn least_lacking<'a>(rows: &'a [Row], others: &Values) -> Option<&'a Row>
+    ensures { (all : List Row) → HasValues others.now all → option_map (λ r. r.now) result ≡ least (filter (is_lacking all) rows.now) }
 {
     let mut found = None;
     let mut place = rows.len();
@@ -99,8 +99,8 @@ fn least_lacking<'a>(rows: &'a [Row], others: &[Row]) -> Option<&'a Row>
 }
 
 /// The row with the least labels among those for which other rows have another value.
-fn least_differing<'a>(rows: &'a [Row], others: &[Row]) -> Option<&'a Row>
-    ensures { option_map (λ r. r.now) result ≡ least (filter (is_differing others.now) rows.now) }
+fn least_differing<'a>(rows: &'a [Row], others: &Values) -> Option<&'a Row>
+    ensures { (all : List Row) → HasValues others.now all → option_map (λ r. r.now) result ≡ least (filter (is_differing all) rows.now) }
 {
     let mut found = None;
     let mut place = rows.len();
@@ -115,23 +115,25 @@ fn least_differing<'a>(rows: &'a [Row], others: &[Row]) -> Option<&'a Row>
 }
 
 /// The first reason why rows aren't those that are expected, if there is one. The only error is want of memory.
-pub fn judge(expected: &[Row], got: &[Row]) -> Result<Option<Reason>, AllocError>
+pub fn judge(alloc: Global, expected: &[Row], got: &[Row]) -> Result<Option<Reason>, AllocError>
     ensures { IfOk result (λ reason. reason ≡ judged expected.now got.now) }
 {
-    if let Some(row) = least_lacking(expected, got) {
+    let wanted = values_of(alloc, expected)?;
+    let values = values_of(alloc, got)?;
+    if let Some(row) = least_lacking(expected, &values) {
         return Ok(Some(Reason::Missing(row.labels.copy()?)));
     }
-    if let Some(row) = least_lacking(got, expected) {
+    if let Some(row) = least_lacking(got, &wanted) {
         return Ok(Some(Reason::Extra(row.labels.copy()?)));
     }
-    let Some(row) = least_differing(expected, got) else {
+    let Some(row) = least_differing(expected, &values) else {
         return Ok(None);
     };
-    match value_under(&row.labels, got) {
+    match values.get(&row.labels) {
         Some(value) => Ok(Some(Reason::Differs {
             labels: row.labels.copy()?,
             wanted: row.value,
-            got: value,
+            got: *value,
         })),
         None => Ok(None),
     }

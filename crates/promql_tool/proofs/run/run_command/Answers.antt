@@ -1,10 +1,13 @@
-use Rattle.std.proofs.Common.{◌∙◌, ap}
-use Rattle.promql_tool.proofs.Judging.{on_ok_then, evaluated}
+use Rattle.std.proofs.Common.{List, Option, [], ◌∷◌, ◌++◌, ap, ◌∙◌}
+use Rattle.promql_tool.specs.Samples.{answer}
 use Rattle.promql_tool.specs.Verdicts.{judged}
+use Rattle.promql_tool.specs.declared.script.Row.{Row}
+use Rattle.promql_tool.specs.declared.verdict.Reason.{Reason}
+use Rattle.promql_tool.specs.declared.verdict.Verdict.{Verdict}
 use Rattle.promql_tool.proofs.run.run_command.Goals as goal
 
-pub returns-in_ok-reason-in-Eval : goal.returns-in_ok-reason-in-Eval
-returns-in_ok-reason-in-Eval c = λ all h.
-    on_ok_then c.push.result _ _ c.push.ensures.ok
-    (evaluated c.args.command.now all c.args.verdicts.now c.push.new.self c.args.loaded.now c.in-Eval.at c.in-Eval.name c.in-Eval.expected c.in_ok-got-in-Eval.got c.as_slice-in-Eval-2.result.now c.in_ok-reason-in-Eval.reason
-    h c.in-Eval.is (c.in_ok-got-in-Eval.ensures all h) c.as_slice-in-Eval-2.ensures (c.in_ok-reason-in-Eval.ensures ∙ ap (λ e. judged e c.as_slice-in-Eval-2.result.now) c.as_slice-in-Eval.ensures))
+pub returns-in_ok-push-in-Eval-clause-verdict : goal.returns-in_ok-push-in-Eval-clause-verdict
+returns-in_ok-push-in-Eval-clause-verdict g c =
+    let made : Option Reason → List Verdict = λ reason. c.args.verdicts.now ++ record { line = c.args.command.now.line; reason = reason } ∷ [] in
+    let got = answer c.args.store.now c.in-Eval.name c.in-Eval.at in
+    rw c.in-Eval.is (c.in_ok-push-in-Eval.ensures.ok ∙ ap made (c.in_ok-reason-in-Eval.ensures ∙ ap (λ (rows : List Row). judged rows got) c.as_slice.ensures))

@@ -1,6 +1,12 @@
-use Rattle.std.proofs.Common.{drop}
-use Rattle.promql_tool.specs.Runs.{HasRun}
+use Rattle.std.proofs.Common.{◌≡◌, ◌++◌, [], drop}
+use Rattle.promql_tool.specs.Loads.{left_by_all}
+use Rattle.promql_tool.specs.Runs.{AreTimely}
+use Rattle.promql_tool.specs.Verdicts.{verdicts_after}
 use Rattle.promql_tool.proofs.run.verdicts_in.Given as goal
 
 abbrev pub invariant-loop-command : goal.invariant-loop-command
-invariant-loop-command l = HasRun l.command-items (drop l.command-index l.command-items) l.loaded l.verdicts
+invariant-loop-command g l = record {
+  judged : l.verdicts ++ verdicts_after l.store (drop l.command-index l.command-items) ≡ verdicts_after [] l.command-items;
+  left : left_by_all (drop l.command-index l.command-items) l.store ≡ left_by_all l.command-items [];
+  timely : AreTimely (drop l.command-index l.command-items);
+}

@@ -5,8 +5,8 @@ use Rattle.promql_tool.proofs.Ending.{any_found}
 use Rattle.promql_tool.proofs.Pieces.{front_none}
 use Rattle.promql_tool.proofs.tool.run_path.Goals as goal
 
-pub returns-in-Err : goal.returns-in-Err
-returns-in-Err g c =
+pub returns-in-Err-clause-runs : goal.returns-in-Err-clause-runs
+returns-in-Err-clause-runs g c =
     let any = any_found (g.L.Library.told c.args.library.now) (g.L.Library.sound c.args.library.now) c.args.path.now in
     record {
       found = any.0;

@@ -4,4 +4,4 @@ use Rattle.promql_tool.proofs.Refusals.{words_refused}
 use Rattle.promql_tool.proofs.tool.run_tool.Goals as goal
 
 pub returns-clause-refused : goal.returns-clause-refused
-returns-clause-refused g c = words_refused (path_of (map string_bytes c.args.words.now)) _ _ c.run_words.result.0 c.run_words.ensures
+returns-clause-refused g c = words_refused (path_of (map string_bytes c.args.words.now)) _ _ c.run_words.result.0 c.run_words.ensures.runs
