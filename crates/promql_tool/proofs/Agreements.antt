@@ -1,13 +1,12 @@
 -- When there is no reason against a result.
-use Rattle.std.proofs.Common.{◌≡◌, ◌↔◌, Bool, true, false, cond, List, [], ◌∷◌, filter, not, Option, None, Some, refl, sym, ap, ◌∙◌, subst, IsTrue}
-use Rattle.std.specs.Prelude.{is_none, is_some, IsSome, IsSomeAnd}
+use Rattle.std.proofs.Common.{◌≡◌, Bool, true, false, cond, List, [], ◌∷◌, filter, not, Option, None, Some, refl, ap, ◌∙◌, subst, IsTrue}
+use Rattle.std.specs.Prelude.{is_none, IsSome, IsSomeAnd}
 use Rattle.std.specs.List.{AllByRecursion}
 use Rattle.std.specs.Ordering.{is_gt}
 use Rattle.label_set.specs.Labels.{labels_cmp}
 use Rattle.xfrac.specs.declared.value.XFrac.{XFrac}
 use Rattle.xfrac.specs.Near.{is_near}
 use Rattle.promql_tool.specs.declared.script.Row.{Row}
-use Rattle.promql_tool.specs.declared.verdict.Reason.{Reason}
 use Rattle.promql_tool.specs.Verdicts.{value_under, is_lacking, is_apart, is_differing, lesser, least, differs, first_reason, judged, IsMet, Agrees}
 
 module _ {X : Type 0} where

@@ -6,6 +6,7 @@ pub mod Runs
 pub mod Loading
 pub mod Newest
 pub mod Timely
+pub mod Standing
 pub mod Founds
 pub mod Pieces
 pub mod Ending

@@ -1,6 +1,6 @@
 -- The newest sample, as it is found from the front on, and the series of a name, as they are found by their numbers.
-use Rattle.std.proofs.Common.{◌≡◌, ℕ, zero, suc, ◌+◌, ◌<◌, ◌≤◌, Bool, true, false, List, [], ◌∷◌, ◌++◌, length, reverse, filter, Option, None, Some, refl, sym, ap, subst, ◌∙◌, arith, append_assoc}
-use Rattle.std.specs.Prelude.{ℤ, ◌<ℤ◌, int_lt, not, find, option_and_then, option_map, slice_get, bytes_eq, if◌then◌else◌, ◌&&◌}
+use Rattle.std.proofs.Common.{◌≡◌, ℕ, ◌+◌, ◌<◌, Bool, true, false, List, [], ◌∷◌, ◌++◌, length, reverse, filter, Option, None, Some, refl, sym, ap, subst, ◌∙◌, arith, append_assoc}
+use Rattle.std.specs.Prelude.{ℤ, ◌<ℤ◌, int_lt, not, find, option_and_then, slice_get, bytes_eq, if◌then◌else◌, ◌&&◌}
 use Rattle.std.specs.List.{AllByRecursion, cons_option, filter_map}
 use Rattle.std.specs.Option.{option_or}
 use Rattle.std.specs.Ordering.{int_cmp}
@@ -13,12 +13,11 @@ use Rattle.std.specs.List.Sorted.{IsStrictlySortedBy}
 use Rattle.label_set.specs.Labels.{metric_name, value_of}
 use Rattle.label_set.specs.declared.rules.Rule.{Rule}
 use Rattle.label_set.specs.declared.rules.RuleKind.TheVariants.{Eq}
-use Rattle.sample_store.specs.Samples.{AllSeries, Names, Samples, IsRising, labels_pass, selected, time_cmp}
+use Rattle.sample_store.specs.Samples.{AllSeries, Names, Samples, IsRising, labels_pass, selected}
 use Rattle.ticks.specs.declared.moment.Ms.{Ms}
 use Rattle.xfrac.specs.declared.value.Held.{Held}
 use Rattle.xfrac.specs.declared.value.XFrac.{XFrac}
 use Rattle.promql_tool.specs.Samples.{answer, fresh, is_named, is_until, last_until, newest_row, row_numbered}
-use Rattle.promql_tool.specs.declared.script.Row.{Row}
 
 -- ---- the last sample up to a time
 

@@ -1,6 +1,6 @@
 -- The evaluations of a script are at times that can be looked back from, and its loads aren't refused.
-use Rattle.std.proofs.Common.{◌≡◌, ℕ, ◌≤◌, ◌<◌, ◌^◌, Bool, true, false, List, [], ◌∷◌, ◌++◌, length, Option, None, Some, IfSome, Result, Ok, Err, IfOk, refl, arith}
-use Rattle.std.specs.Prelude.{ℤ, pos, nat_lt, ◌&&◌, option_map, if◌then◌else◌}
+use Rattle.std.proofs.Common.{◌≡◌, ℕ, ◌≤◌, ◌^◌, Bool, true, false, List, [], ◌∷◌, ◌++◌, length, Option, None, Some, IfSome, Result, Ok, Err, IfOk, refl, arith}
+use Rattle.std.specs.Prelude.{nat_lt, ◌&&◌, option_map, if◌then◌else◌}
 use Rattle.std.specs.Result.{result_ok}
 use Rattle.std.specs.List.{slice_split}
 use Rattle.std.proofs.lemmas.Bool.Decides.{nat_tests}
@@ -15,9 +15,8 @@ use Rattle.sample_store.specs.Samples.{AllSeries}
 use Rattle.ticks.specs.Durations.{duration_in, hundred_years}
 use Rattle.ticks.specs.Walks.{IsTime}
 use Rattle.ticks.specs.declared.moment.Ms.{Ms}
-use Rattle.xfrac.specs.Fractions.{with_sign}
 use Rattle.xfrac.specs.declared.value.XFrac.{XFrac}
-use Rattle.promql_tool.specs.Grammar.{Heading, Clearing, Loading, Evaluating, asks_instant, clear_worded, command_headed, commands_in, commands_of, eval_worded, followed, has_no_text, head_worded, is_clear, limit, load_worded, reading, rows, script_of, series_lines, text_read}
+use Rattle.promql_tool.specs.Grammar.{Heading, Clearing, Loading, Evaluating, asks_instant, command_headed, commands_in, commands_of, followed, has_no_text, head_worded, is_clear, limit, reading, rows, script_of, series_lines, text_read}
 use Rattle.promql_tool.specs.Lines.{Numbered, broken_line, lines_of, words_of}
 use Rattle.promql_tool.specs.Loads.{left_by_all, loads_judged}
 use Rattle.promql_tool.specs.Outcomes.{in_front, joined, then_give, then_try}
@@ -29,7 +28,7 @@ use Rattle.promql_tool.specs.declared.script.Script.{Script}
 use Rattle.promql_tool.specs.declared.script.ScriptRefusal.{ScriptRefusal}
 use Rattle.promql_tool.specs.declared.script.ScriptRefusal.TheVariants.{TooLarge}
 use Rattle.promql_tool.specs.declared.script.SeriesLine.{SeriesLine}
-use Rattle.promql_tool.specs.declared.script.What.TheVariants.{Clear, Load, Eval}
+use Rattle.promql_tool.specs.declared.script.What.TheVariants.{Load, Eval}
 
 -- ---- times
 

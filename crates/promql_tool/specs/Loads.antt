@@ -4,9 +4,9 @@
 -- Commands are judged in order, their lines in order, and the items of a line from left to right. A sample is refused
 -- for its value or its time, for another value at its time, for a series too many and for a sample too many, in this
 -- order.
-use Rattle.std.specs.Prelude.{ℕ, zero, suc, ◌+◌, ◌^◌, Bool, if◌then◌else◌, List, [], ◌∷◌, nat_lt, Option, None, Some, Result, Ok, Err, ℤ, pos, ◌*ℤ◌, unsigned_abs, replicate}
+use Rattle.std.specs.Prelude.{◌≡◌, slice_get, ℕ, zero, suc, ◌+◌, ◌^◌, Bool, if◌then◌else◌, List, [], ◌∷◌, nat_lt, Option, None, Some, Result, Ok, Err, ℤ, pos, ◌*ℤ◌, unsigned_abs, replicate}
 use Rattle.std.specs.List.{flat_map}
-use Rattle.sample_store.specs.Samples.{AllSeries, refusal_of, with_sample}
+use Rattle.sample_store.specs.Samples.{AllSeries, held_in, refusal_of, samples_of, with_sample}
 use Rattle.sample_store.specs.declared.refusal.StoreRefusal.{StoreRefusal}
 use Rattle.sample_store.specs.declared.refusal.StoreRefusal.TheVariants.{Conflict as Differing, TooManySeries as SeriesFull}
 use Rattle.ticks.specs.declared.moment.Ms.{Ms}
@@ -89,6 +89,17 @@ line_put interval line series = slots_put line.line line.labels interval 0 (line
 abbrev pub lines_put : Ms → List SeriesLine → AllSeries → Result AllSeries ScriptRefusal
 lines_put interval [] series = Ok series
 lines_put interval (line ∷ lines) series = then_try (line_put interval line series) (lines_put interval lines)
+
+-- a sample stands in the store
+abbrev pub Stands : AllSeries → LabelList → Ms → Held → Type 0
+Stands series labels at held = held_in (samples_of series labels) at ≡ Some held
+
+-- a line says that a sample stands at a time: at one of its places, which has that time
+pub record IsSaid (interval : Ms) (line : SeriesLine) (labels : LabelList) (at : Ms) (held : Held) : Type 0 where
+  pub labels_are : labels ≡ line.labels
+  pub place : ℕ
+  pub filled : slice_get (line_slots line.items) place ≡ Some (Filled held)
+  pub time : at.0 ≡ pos place *ℤ interval.0
 
 -- what a command leaves in the store
 abbrev pub left_by : What → AllSeries → Result AllSeries ScriptRefusal

@@ -1,5 +1,5 @@
 -- Which rows a map by labels stands for.
-use Rattle.std.specs.Prelude.{◌≡◌, ℕ, List}
+use Rattle.std.specs.Prelude.{◌≡◌, List}
 use Rattle.std.specs.BTreeMap.{BTreeMap, get}
 use Rattle.label_set.specs.Labels.{labels_cmp}
 use Rattle.promql_tool.specs.Series.{LabelList}

@@ -7,7 +7,7 @@ use Rattle.promql_tool.specs.declared.script.Command.{Command}
 use Rattle.promql_tool.specs.declared.script.Script.{Script}
 use Rattle.promql_tool.specs.declared.script.ScriptRefusal.{ScriptRefusal}
 use Rattle.promql_tool.specs.declared.script.What.{What}
-use Rattle.promql_tool.specs.declared.script.What.TheVariants.{Clear, Load, Eval}
+use Rattle.promql_tool.specs.declared.script.What.TheVariants.{Eval}
 use Rattle.ticks.specs.Walks.{IsTime}
 
 -- an evaluation is at a time that can be looked back from

@@ -1,5 +1,5 @@
 -- What a word of a script spells. (The promqltest format and the PromQL grammar, in their part that is read so far.)
-use Rattle.std.specs.Prelude.{ℕ, Bool, true, false, if◌then◌else◌, List, [], ◌∷◌, length, ◌==◌, ◌||◌, ◌&&◌, nat_lt, nat_le, not, map, Option, None, Some, Result, Ok, Err, ℤ, pos, int_lt, codes, bytes_eq, option_and_then}
+use Rattle.std.specs.Prelude.{ℕ, Bool, false, if◌then◌else◌, List, [], ◌∷◌, ◌==◌, ◌||◌, ◌&&◌, nat_lt, not, map, Option, None, Some, Result, Ok, Err, pos, int_lt, codes, bytes_eq, option_and_then}
 use Rattle.ticks.specs.declared.Ms.{Ms}
 use Rattle.std.specs.Char.{is_ascii_alphabetic, is_ascii_alphanumeric, to_ascii_lowercase}
 use Rattle.std.specs.List.{list_all, list_any}

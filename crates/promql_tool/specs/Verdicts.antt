@@ -1,6 +1,6 @@
 -- Whether a result is as expected, and the first reason why it isn't. (The rules of promqltest; the reasons and their
 -- order are this project's own.)
-use Rattle.std.specs.Prelude.{ℕ, Bool, false, if◌then◌else◌, not, List, [], ◌∷◌, ◌++◌, map, filter, Option, None, Some, find, is_none, option_map, IsTrue, IsSome, IsSomeAnd}
+use Rattle.std.specs.Prelude.{ℕ, Bool, false, if◌then◌else◌, not, List, [], ◌∷◌, ◌++◌, filter, Option, None, Some, find, is_none, option_map, IsTrue, IsSome, IsSomeAnd}
 use Rattle.std.specs.List.{AllByRecursion}
 use Rattle.std.specs.Result.{result_unwrap_or}
 use Rattle.std.specs.Ordering.{is_eq, is_gt}
@@ -14,7 +14,7 @@ use Rattle.promql_tool.specs.Series.{LabelList}
 use Rattle.promql_tool.specs.declared.script.Script.{Script}
 use Rattle.promql_tool.specs.declared.script.Command.{Command}
 use Rattle.promql_tool.specs.declared.script.What.{What}
-use Rattle.promql_tool.specs.declared.script.What.TheVariants.{Clear, Load, Eval}
+use Rattle.promql_tool.specs.declared.script.What.TheVariants.{Eval}
 use Rattle.promql_tool.specs.declared.script.Row.{Row}
 use Rattle.promql_tool.specs.declared.verdict.Reason.{Reason}
 use Rattle.promql_tool.specs.declared.verdict.Reason.TheVariants.{Missing, Extra, Differs}

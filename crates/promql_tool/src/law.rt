@@ -1,10 +1,22 @@
 //! Laws of the verdict that users rely on. The functions do nothing: each stands for what its contract says.
 ghost use Rattle.promql_tool.specs.Verdicts.{Agrees, judged};
 ghost use Rattle.promql_tool.specs.declared.script.Row.{Row};
-ghost use Rattle.std.specs.Prelude.{◌≡◌, ◌↔◌, List, None};
+ghost use Rattle.promql_tool.specs.Loads.{IsSaid, Stands, line_put};
+ghost use Rattle.promql_tool.specs.Series.{LabelList};
+ghost use Rattle.promql_tool.specs.declared.script.SeriesLine.{SeriesLine};
+ghost use Rattle.sample_store.specs.Samples.{AllSeries};
+ghost use Rattle.std.specs.Prelude.{◌≡◌, ◌↔◌, ◌⊎◌, List, None, Ok};
+ghost use Rattle.ticks.specs.declared.moment.Ms.{Ms};
+ghost use Rattle.xfrac.specs.declared.value.Held.{Held};
 
 /// An evaluation passes exactly where its rows are as expected: each expected row is there with a near value, and no row
 /// is there that isn't expected.
 pub fn passes_exactly_where_rows_agree()
     ensures { (expected got : List Row) → (judged expected got ≡ None) ↔ Agrees expected got }
+{}
+
+/// Where a line of a load is taken, those samples stand that stood before and those that the line says, and no others.
+pub fn loads_put_their_samples()
+    ensures { (interval : Ms) (line : SeriesLine) (before now : AllSeries) → line_put interval line before ≡ Ok now → (labels : LabelList) (at : Ms) (held : Held) →
+        Stands now labels at held ↔ (Stands before labels at held ⊎ IsSaid interval line labels at held) }
 {}

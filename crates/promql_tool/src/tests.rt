@@ -1,6 +1,6 @@
 ghost use Rattle.std.specs.Prelude.{◌≡◌, [], Some};
 
-use crate::{Status, run_tool};
+use crate::{Status, loads_put_their_samples, passes_exactly_where_rows_agree, run_tool};
 use edge_io::{Library, MemLibrary, MemSink, Sink, SinkFail};
 use holders::{Items, Text};
 use std::alloc::{AllocError, Global};
@@ -275,6 +275,8 @@ impl Sink for SlowSink {
 
 #[test]
 fn reports(rt: HostRuntime) -> Result<(), Fail> {
+    passes_exactly_where_rows_agree();
+    loads_put_their_samples();
     let alloc = rt.alloc();
     let mut rows = 0u32;
     for row in REPORTS.lines().chain(LOADS.lines()) {

@@ -1,4 +1,4 @@
-use Rattle.std.proofs.Common.{◌≡◌, eqb, length, true, sym, refl, eq-eqb}
+use Rattle.std.proofs.Common.{◌≡◌, eqb, length, true, refl, eq-eqb}
 use Rattle.std.proofs.lemmas.Str.{utf8_valid_len-IsUtf8}
 use Rattle.std.specs.Str.Lossy.{utf8_valid_len}
 use Rattle.promql_tool.proofs.line.broken_line.Goals as goal

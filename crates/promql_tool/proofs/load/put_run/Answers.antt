@@ -1,4 +1,4 @@
-use Rattle.std.proofs.Common.{◌≡◌, ℕ, zero, ◌+◌, ◌-◌, suc, ◌∙◌, ap, sym, refl, arith, ◌++◌}
+use Rattle.std.proofs.Common.{◌≡◌, ℕ, ◌+◌, ◌-◌, suc, ◌∙◌, ap, arith, ◌++◌}
 use Rattle.std.proofs.lemmas.Result.{err_from_is_err_and}
 use Rattle.promql_tool.specs.Loads.{run_slots, slots_put}
 use Rattle.promql_tool.proofs.Loading.{run_last, run_more, run_overflows, run_refused, stops}

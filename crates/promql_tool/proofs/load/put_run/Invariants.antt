@@ -1,4 +1,4 @@
-use Rattle.std.proofs.Common.{◌≡◌, ℕ, ◌+◌, ◌-◌, List, ◌++◌}
+use Rattle.std.proofs.Common.{◌≡◌, ◌+◌, ◌-◌, List, ◌++◌}
 use Rattle.promql_tool.specs.Loads.{Slot, run_slots, slots_put}
 use Rattle.promql_tool.proofs.load.put_run.Given as goal
 

@@ -5,7 +5,6 @@ use Rattle.promql_tool.specs.Grammar.{rows_after, stands_in}
 use Rattle.promql_tool.specs.Outcomes.{in_front}
 use Rattle.promql_tool.specs.Series.{LabelList}
 use Rattle.promql_tool.specs.Views.{numbered}
-use Rattle.promql_tool.proofs.Bodies.{labels}
 use Rattle.promql_tool.proofs.read.read_rows.Given as goal
 
 abbrev pub invariant-loop-line : goal.invariant-loop-line

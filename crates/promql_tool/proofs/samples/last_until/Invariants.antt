@@ -1,5 +1,4 @@
 use Rattle.std.proofs.Common.{◌≡◌, None, length}
-use Rattle.sample_store.specs.Samples.{IsRising}
 use Rattle.promql_tool.proofs.Newest.{last_of}
 use Rattle.promql_tool.proofs.samples.last_until.Given as goal
 

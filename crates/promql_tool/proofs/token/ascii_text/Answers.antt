@@ -1,4 +1,4 @@
-use Rattle.std.proofs.Common.{◌≡◌, sym, ◌∙◌}
+use Rattle.std.proofs.Common.{sym, ◌∙◌}
 use Rattle.promql_tool.proofs.Names.{ascii_is_text}
 use Rattle.promql_tool.proofs.token.ascii_text.Goals as goal
 
