@@ -37,6 +37,11 @@ impl<T> Boxed<T> {
         &mut self.inner
     }
 
+    /// The allocator that the box was made with.
+    pub fn allocator(&self) -> Global {
+        *Box::allocator(&self.inner)
+    }
+
     /// The value, taken out of the box. It takes no memory.
     pub fn into_inner(self) -> T
         ensures { result ≡ self }
@@ -63,9 +68,16 @@ impl<T: Clone + Drop> Boxed<T> {
         requires { (x y : T) → T.is_clone x y → y ≡ x }
         ensures { IfOk result (λ b. b ≡ self.now) }
     {
-        let alloc = *Box::allocator(&self.inner);
+        self.clone()
+    }
+}
+
+impl<T: Clone + Drop> Clone for Boxed<T> {
+    ghost is_clone = { T.is_clone };
+
+    fn clone(&self) -> Result<Boxed<T>, AllocError> {
         let value = self.get().clone()?;
-        Boxed::new(alloc, value)
+        Boxed::new(self.allocator(), value)
     }
 }
 

@@ -32,6 +32,18 @@ impl<T> Items<T> {
         }
     }
 
+    /// The items of std's list, in order. It takes no memory.
+    pub fn from_vec(items: Vec<T>) -> Items<T>
+        ensures { result ≡ items.items }
+    {
+        Items { items }
+    }
+
+    /// The allocator that the list was made with.
+    pub fn allocator(&self) -> Global {
+        *self.items.allocator()
+    }
+
     /// The items in order.
     pub fn as_slice(&self) -> &[T]
         ensures { result.now ≡ self.now }
@@ -102,7 +114,31 @@ impl<T: Clone + Drop> Items<T> {
         ensures { IfOk result (λ it. it ≡ self.now) }
     {
         Ok(Items {
-            items: Vec::from_clones(*self.items.allocator(), self.items.as_slice())?,
+            items: Vec::from_clones(self.allocator(), self.items.as_slice())?,
+        })
+    }
+
+    /// Puts copies of the items at the end, where clones equal what they copy. The only error is want of memory; then
+    /// the list is as it was.
+    pub fn extend_from_slice(&mut self, more: &[T]) -> Result<(), AllocError>
+        requires { (x y : T) → T.is_clone x y → y ≡ x }
+        ensures ok { OnOk result (self.new ≡ self.old ++ more.now) }
+        ensures err { OnErr result (self.new ≡ self.old) }
+    {
+        self.items.extend_from_slice(more)
+    }
+}
+
+/// A list's clone has a clone of each item, in order.
+impl<T: Clone + Drop> Clone for Items<T> {
+    ghost use Rattle.std.specs.List.{AllZip};
+    ghost use Rattle.std.specs.Prelude.{◌≡◌, length};
+
+    ghost is_clone = { λ s t. AllZip T.is_clone s t × (length t ≡ length s) };
+
+    fn clone(&self) -> Result<Items<T>, AllocError> {
+        Ok(Items {
+            items: self.items.clone()?,
         })
     }
 }

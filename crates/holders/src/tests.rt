@@ -3,31 +3,35 @@ use std::cmp::Ordering;
 use std::test::Fail;
 
 #[test]
-fn texts_keep_their_bytes(rt: HostRuntime) -> Result<(), Fail> {
-    let text = Text::of(rt.alloc(), "up")?;
-    assert_eq!(rt; text.as_str(), "up");
-    assert!(rt; text.copy()? == text);
-    assert_eq!(rt; text.cmp(&Text::of(rt.alloc(), "upper")?), Ordering::Less);
+fn lists_of_lists_are_copied(rt: HostRuntime) -> Result<(), Fail> {
+    let mut words = Items::new(rt.alloc());
+    words.push(Text::of(rt.alloc(), "up")?)?;
+    words.push(Text::of(rt.alloc(), "upper")?)?;
+    let mut lines = Items::new(rt.alloc());
+    lines.push(words.copy()?)?;
+    lines.push(Items::new(rt.alloc()))?;
+    lines.push(words)?;
+    let copy = lines.copy()?;
+    assert!(rt; copy == lines);
+    assert!(rt; lines.pop() == copy.into_vec().pop());
+    let boxed = Boxed::new(rt.alloc(), lines)?;
+    assert!(rt; boxed.copy()? == boxed);
+    assert!(rt; boxed.clone()? == boxed);
     Ok(())
 }
 
 #[test]
-fn lists_change_at_one_place(rt: HostRuntime) -> Result<(), Fail> {
+fn lists_and_boxes_change(rt: HostRuntime) -> Result<(), Fail> {
     let mut items: Items<u8> = Items::new(rt.alloc());
     items.push(1)?;
-    items.push(3)?;
-    items.insert(1, 2)?;
-    assert_eq!(rt; items.as_slice(), [1, 2, 3].as_slice());
-    assert!(rt; items.copy()? == items);
-    assert_eq!(rt; items.as_slice().len(), 3);
-    Ok(())
-}
-
-#[test]
-fn boxes_hold_a_value(rt: HostRuntime) -> Result<(), Fail> {
-    let mut boxed = Boxed::new(rt.alloc(), 4u8)?;
+    items.insert(0, 2)?;
+    items.extend_from_slice([3, 4, 5].as_slice())?;
+    assert_eq!(rt; items.as_slice(), [2, 1, 3, 4, 5].as_slice());
+    assert_eq!(rt; items.pop(), Some(5));
+    let mut boxed = Boxed::new(items.allocator(), 4u8)?;
     *boxed.get_mut() = 5;
-    assert!(rt; boxed.copy()? == boxed);
     assert_eq!(rt; boxed.into_inner(), 5);
+    let up = Text::of(rt.alloc(), "up")?;
+    assert_eq!(rt; up.cmp(&Text::of(rt.alloc(), "upper")?), Ordering::Less);
     Ok(())
 }
