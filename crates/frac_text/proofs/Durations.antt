@@ -7,7 +7,7 @@ use Rattle.ticks.specs.declared.Ms.{Ms}
 use Rattle.ticks.specs.declared.unit.Unit.{Unit}
 use Rattle.ticks.specs.Durations.{AreFalling, IsDuration, hundred_years, text_of}
 use Rattle.ticks.specs.Spellings.{spelling}
-use Rattle.ticks.proofs.Written.{IsDuration-spelling}
+use Rattle.ticks.specs.Written.{IsDuration-spelling}
 use Rattle.xfrac.specs.Fractions.{with_sign}
 use Rattle.frac_text.specs.Times.{IsTaken, amount_of, is_negative, time_answer}
 use Rattle.frac_text.proofs.Numbers.{digit_range}

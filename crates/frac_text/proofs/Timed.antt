@@ -8,7 +8,7 @@ use Rattle.ticks.specs.declared.Ms.{Ms}
 use Rattle.ticks.specs.declared.TickRefusal.{TickRefusal}
 use Rattle.ticks.specs.declared.TickRefusal.TheVariants.{BadDuration as NoDuration, OutOfRange as TooLong}
 use Rattle.ticks.specs.Durations.{IsDuration, duration_answer, duration_in, hundred_years, within_years}
-use Rattle.ticks.proofs.Summed.{duration_in-IsDuration, duration_in-none, IsDuration-duration_in}
+use Rattle.ticks.specs.Summed.{duration_in-IsDuration, duration_in-none, IsDuration-duration_in}
 use Rattle.xfrac.specs.Fractions.{with_sign}
 use Rattle.xfrac.specs.declared.value.XFrac.{XFrac}
 use Rattle.xfrac.specs.declared.value.XFrac.TheVariants.{Fin, PosInf, NegInf, NaN}

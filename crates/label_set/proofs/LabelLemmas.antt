@@ -12,7 +12,7 @@ use Rattle.std.proofs.lemmas.List.Kept.{IsStrictlySortedBy-filter}
 use Rattle.std.proofs.lemmas.Cmp.{tied_itself}
 use Rattle.std.proofs.lemmas.Slice.Eq.{bytes_eq-Decides}
 use Rattle.label_set.specs.Labels.{IsLabelSet, byte_cmp, is_named, value_at, with_pair, with_value, without}
-use Rattle.label_set.proofs.Entries.{all_insert, at_above_earlier, at_below_later, filter_takes_out, insert_at_place, keys_filter, recursion_filter, sorted_insert}
+use Rattle.label_set.specs.Entries.{all_insert, at_above_earlier, at_below_later, filter_takes_out, insert_at_place, keys_filter, recursion_filter, sorted_insert}
 
 pub IsLabelSet-nil : (ps : List (List ℕ × List ℕ)) → ps ≡ [] → IsLabelSet ps
 unfolding IsStrictlySortedBy

@@ -1,3 +1,4 @@
-pub mod Entries
 pub mod LabelLemmas
 pub mod Texts
+pub mod Sameness
+pub mod Found

@@ -2,3 +2,4 @@ pub mod LabelEquality
 pub mod LabelOrder
 pub mod LabelText
 pub mod Labels
+pub mod Entries

@@ -126,12 +126,7 @@ fn is_name(colon: bool, text: &str) -> bool
 fn all_name_bytes(colon: bool, bytes: &[u8]) -> bool
     ensures { result ≡ list_all (is_name_byte colon) bytes.now }
 {
-    for byte in bytes {
-        if !is_name_byte(colon, *byte) {
-            return false;
-        }
-    }
-    true
+    bytes.iter().all(|byte| is_name_byte(colon, *byte))
 }
 
 fn is_name_byte(colon: bool, byte: u8) -> bool

@@ -318,17 +318,7 @@ fn find(pairs: &Vec<(Text, Text)>, name: &str) -> Result<usize, usize>
         (λ i. (i ≤ length pairs.now.items) × (value_at pairs.now.items name.now ≡ None)
         × ((v : List ℕ) → insert_entry byte_cmp pairs.now.items name.now v ≡ insert pairs.now.items i (name.now, v))) }
 {
-    let mut low = 0;
-    let mut high = pairs.len();
-    while low < high {
-        let middle = low + (high - low) / 2;
-        match name.cmp(pairs[middle].0.as_str()) {
-            Ordering::Less => high = middle,
-            Ordering::Equal => return Ok(middle),
-            Ordering::Greater => low = middle + 1,
-        }
-    }
-    Err(low)
+    pairs.binary_search_by(|pair| pair.0.as_str().cmp(name))
 }
 
 impl Clone for Labels {

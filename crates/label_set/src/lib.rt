@@ -7,7 +7,7 @@ mod labels;
 mod rules;
 
 pub use holders::{Boxed, Items, Memory, Text};
-pub use labels::{LabelRefusal, Labels, METRIC_NAME};
+pub use labels::{LabelRefusal, Labels, METRIC_NAME, order_is_total};
 pub use rules::{Card, Grouping, Pairing, PatternId, Relabel, Rule, RuleKind};
 
 #[cfg(test)]

@@ -1,4 +1,4 @@
-ghost use Rattle.std.specs.Prelude.{◌≡◌, IfOk};
+ghost use Rattle.std.specs.Prelude.{◌≡◌, ◌↔◌, IfOk, IsTrue};
 
 use holders::{Items, Text};
 use std::alloc::AllocError;
@@ -21,6 +21,13 @@ pub enum RuleKind {
 }
 
 impl RuleKind {
+    /// Whether the two are the same test.
+    pub fn is_same(&self, other: &RuleKind) -> bool
+        ensures { IsTrue result ↔ (self.now ≡ other.now) }
+    {
+        self == other
+    }
+
     /// An equal value, on the allocators of this one. The only error is want of memory.
     pub fn copy(&self) -> Result<RuleKind, AllocError>
         ensures { IfOk result (λ r. r ≡ self.now) }
@@ -50,6 +57,13 @@ pub struct Rule {
 }
 
 impl Rule {
+    /// Whether the two are the same test of the same label.
+    pub fn is_same(&self, other: &Rule) -> bool
+        ensures { IsTrue result ↔ (self.now ≡ other.now) }
+    {
+        self == other
+    }
+
     /// An equal value, on the allocators of this one. The only error is want of memory.
     pub fn copy(&self) -> Result<Rule, AllocError>
         ensures { IfOk result (λ r. r ≡ self.now) }
@@ -77,6 +91,13 @@ pub struct Grouping {
 }
 
 impl Grouping {
+    /// Whether the two are the same grouping: the names are listed alike.
+    pub fn is_same(&self, other: &Grouping) -> bool
+        ensures { IsTrue result ↔ (self.now ≡ other.now) }
+    {
+        self == other
+    }
+
     /// An equal value, on the allocators of this one. The only error is want of memory.
     pub fn copy(&self) -> Result<Grouping, AllocError>
         ensures { IfOk result (λ g. g ≡ self.now) }
@@ -104,6 +125,15 @@ pub enum Card {
     GroupRight,
 }
 
+impl Card {
+    /// Whether the two are the same.
+    pub fn is_same(self, other: Card) -> bool
+        ensures { IsTrue result ↔ (self ≡ other) }
+    {
+        self == other
+    }
+}
+
 /// How two vectors are matched: `on` the names or ignoring them, and which labels of the one side are taken over.
 #[derive(Debug, Drop, PartialEq, Eq)]
 pub struct Pairing {
@@ -114,6 +144,13 @@ pub struct Pairing {
 }
 
 impl Pairing {
+    /// Whether the two are the same matching: the names are listed alike.
+    pub fn is_same(&self, other: &Pairing) -> bool
+        ensures { IsTrue result ↔ (self.now ≡ other.now) }
+    {
+        self == other
+    }
+
     /// An equal value, on the allocators of this one. The only error is want of memory.
     pub fn copy(&self) -> Result<Pairing, AllocError>
         ensures { IfOk result (λ p. p ≡ self.now) }

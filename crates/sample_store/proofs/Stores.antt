@@ -9,7 +9,7 @@ use Rattle.std.specs.BTreeMap.{insert_entry}
 use Rattle.std.specs.Map.{keys_of}
 use Rattle.label_set.specs.Labels.{labels_cmp}
 use Rattle.label_set.specs.LabelOrder.{labels_cmp_total}
-use Rattle.label_set.proofs.Entries.{all_insert, sorted_insert}
+use Rattle.label_set.specs.Entries.{all_insert, sorted_insert}
 use Rattle.ticks.specs.declared.moment.Ms.{Ms}
 use Rattle.xfrac.specs.declared.value.Held.{Held}
 use Rattle.sample_store.specs.Samples.{AllSeries, IsFoundAt, IsOrdered, IsRising, IsRoomIn, IsStore, IsTimeAt, IsTimeGapAt, Names, Samples, held_in, is_same, later_than, limit_broken, refusal_beside, refusal_in, refusal_of, sample_count, samples_of, time_cmp, with_sample}

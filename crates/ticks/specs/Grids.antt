@@ -1,5 +1,5 @@
 -- Grids of instants, as a range query of Prometheus' HTTP API asks for them. The limits are this project's own.
-use Rattle.std.specs.Prelude.{ℕ, ℤ, pos, neg_ℤ, ◌-ℤ◌, ◌≤ℤ◌, ◌+◌, ◌/◌, ◌^◌, unsigned_abs}
+use Rattle.std.specs.Prelude.{ℕ, ℤ, pos, neg_ℤ, ◌-ℤ◌, ◌≡◌, ◌≤ℤ◌, ◌<◌, ◌+◌, ◌+ℤ◌, ◌*ℤ◌, ◌/◌, ◌^◌, unsigned_abs}
 use Rattle.ticks.specs.Steps.{IsMultiple}
 
 -- the start is not after the end, neither is further from 0 than 10^14 ms, and the step is at least a millisecond
@@ -18,3 +18,7 @@ pub record IsOnGrid (start end step t : ℤ) : Type 0 where
   pub from_start : start ≤ℤ t
   pub to_end : t ≤ℤ end
   pub on_step : IsMultiple step (t -ℤ start)
+
+-- the start and `k` steps, for some `k` below the number of instants
+abbrev pub IsNumbered : ℤ → ℤ → ℤ → ℤ → Type 0
+IsNumbered start end step t = (k : ℕ) × (k < step_count start end step) × (t ≡ start +ℤ pos k *ℤ step)

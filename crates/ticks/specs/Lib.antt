@@ -1,8 +1,11 @@
 pub mod Durations
 pub mod Grids
+pub mod Pairs
 pub mod Runs
 pub mod Spellings
 pub mod Steps
+pub mod Summed
 pub mod Units
 pub mod Walks
 pub mod Works
+pub mod Written

@@ -1,5 +1,6 @@
-ghost use Rattle.std.specs.Prelude.{◌≡◌, ℕ, pos, ◌<◌, ◌^◌, ◌↔◌, List, Some};
+ghost use Rattle.std.specs.Prelude.{◌≡◌, ℕ, ℤ, pos, ◌<◌, ◌^◌, ◌↔◌, List, Some};
 ghost use Rattle.ticks.specs.Durations.{IsDuration, duration_in};
+ghost use Rattle.ticks.specs.Grids.{IsInRange, IsNumbered, IsOnGrid};
 ghost use Rattle.ticks.specs.Spellings.{spelling};
 
 /// A law, with nothing to run: the spelling of a duration that isn't negative is read as that duration.
@@ -10,4 +11,9 @@ pub fn spellings_are_durations()
 /// A law, with nothing to run: `duration_in` finds exactly the milliseconds of the duration that a text spells.
 pub fn durations_are_found()
     ensures { (text : List ℕ) (n : ℕ) → (duration_in text ≡ Some n) ↔ IsDuration text n }
+{}
+
+/// A law, with nothing to run: the instants of a grid are its start and `k` steps, for each `k` below their number.
+pub fn instants_are_numbered()
+    ensures { (start end step : ℤ) → IsInRange start end step → (t : ℤ) → IsOnGrid start end step t ↔ IsNumbered start end step t }
 {}

@@ -127,7 +127,7 @@ fn walks_are_copied_whole(rt: HostRuntime) -> Result<(), Fail> {
         range: Ms(30),
         step: Ms(10),
     };
-    assert!(rt; walk.copy(rt.alloc())? == walk);
+    assert!(rt; walk.copy()? == walk);
     Ok(())
 }
 

@@ -4,7 +4,7 @@ ghost use Rattle.ticks.specs.Walks.{HasTimes, IsBarren, IsFirstInWindow, IsInsta
 use crate::step::step_after;
 use crate::{Grid, Ms};
 use holders::Boxed;
-use std::alloc::{AllocError, Global};
+use std::alloc::AllocError;
 
 /// The moment that a subquery's points are taken from: the instant itself or a fixed one, less the offset.
 #[derive(Clone, Copy, Debug, PartialEq, Eq)]
@@ -94,8 +94,8 @@ impl Walk {
         }
     }
 
-    /// An equal walk. The only error is want of memory.
-    pub fn copy(&self, alloc: Global) -> Result<Walk, AllocError>
+    /// An equal walk, on the allocator of this one. The only error is want of memory.
+    pub fn copy(&self) -> Result<Walk, AllocError>
         ensures { IfOk result (λ walk. walk ≡ self.now) }
     {
         match self {
@@ -107,8 +107,8 @@ impl Walk {
                 range,
                 step,
             } => {
-                let outer = outer.get().copy(alloc)?;
-                let outer = Boxed::new(alloc, outer)?;
+                let alloc = outer.allocator();
+                let outer = Boxed::new(alloc, outer.get().copy()?)?;
                 Ok(Walk::Multiples {
                     outer,
                     moment: *moment,

@@ -5,7 +5,7 @@ use Rattle.std.proofs.lemmas.Option.{slice_get_read}
 use Rattle.std.proofs.lemmas.Map.Entries.{lookup_at_gap}
 use Rattle.label_set.specs.Labels.{labels_cmp}
 use Rattle.label_set.specs.LabelOrder.{labels_cmp_total, labels_cmp_ties}
-use Rattle.label_set.proofs.Entries.{insert_at_gap, insert_at_place, lookup_at_place, lower_half, upper_half, at_above_earlier}
+use Rattle.label_set.specs.Entries.{insert_at_gap, insert_at_place, lookup_at_place, lower_half, upper_half, at_above_earlier}
 use Rattle.sample_store.specs.Samples.{Names, Samples}
 use Rattle.sample_store.proofs.search.find_series.Goals as goal
 

@@ -1,6 +1,6 @@
 use Rattle.std.proofs.Common.{◌-◌}
 use Rattle.label_set.specs.Labels.{labels_cmp}
-use Rattle.label_set.proofs.Entries.{IsBetween}
+use Rattle.label_set.specs.Entries.{IsBetween}
 use Rattle.sample_store.proofs.search.find_series.Given as goal
 
 abbrev pub invariant-loop-low : goal.invariant-loop-low

@@ -1,4 +1,4 @@
-use Rattle.ticks.proofs.Summed.{duration_in-IsDuration, IsDuration-duration_in}
+use Rattle.ticks.specs.Summed.{duration_in-IsDuration, IsDuration-duration_in}
 use Rattle.ticks.proofs.law.durations_are_found.Goals as goal
 
 pub returns : goal.returns

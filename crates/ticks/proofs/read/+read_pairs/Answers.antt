@@ -1,7 +1,7 @@
 use Rattle.std.proofs.Common.{rules, ◌≡◌, ◌*◌, ◌+◌, ℕ, length, arith, sym, subst, ◌∙◌}
 use Rattle.ticks.specs.Durations.{AreDigits, IsCapped, Spells, number}
 use Rattle.ticks.specs.Units.{milliseconds_in}
-use Rattle.ticks.proofs.Pairs.{AreDigits-digits_of, no_digits, no_unit, not_shorter, Spells-split, Spells-joined, Spells-nil, IsCapped-counted, IsCapped-text}
+use Rattle.ticks.specs.Pairs.{AreDigits-digits_of, no_digits, no_unit, not_shorter, Spells-split, Spells-joined, Spells-nil, IsCapped-counted, IsCapped-text}
 use Rattle.ticks.proofs.read.+read_pairs.Goals as goal
 
 pub number_of-requires : goal.number_of-requires

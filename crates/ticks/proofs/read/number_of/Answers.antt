@@ -1,5 +1,5 @@
 use Rattle.std.proofs.Common.{◌+◌, ◌-◌, ◌^◌, ◌∙◌, ap, min, arith, get_or}
-use Rattle.ticks.proofs.Pairs.{IsCapped-digit, digit-at}
+use Rattle.ticks.specs.Pairs.{IsCapped-digit, digit-at}
 use Rattle.ticks.proofs.read.number_of.Goals as goal
 
 pub overflow_sub-digit : goal.overflow_sub-digit

@@ -1,8 +1,8 @@
 use Rattle.std.proofs.Common.{rules, ◌≡◌, ◌+◌, ◌≤◌, ℕ, arith, ap, sym}
 use Rattle.std.proofs.lemmas.Int.{ints}
 use Rattle.ticks.specs.Durations.{hundred_years, IsCapped}
-use Rattle.ticks.proofs.Pairs.{Spells-moved}
-use Rattle.ticks.proofs.Summed.{answer-bad, answer-long, answer-taken, capped-long, capped-small}
+use Rattle.ticks.specs.Pairs.{Spells-moved}
+use Rattle.ticks.specs.Summed.{answer-bad, answer-long, answer-taken, capped-long, capped-small}
 use Rattle.ticks.proofs.read.read_duration.Goals as goal
 
 pub returns-in-None-clause-read : goal.returns-in-None-clause-read

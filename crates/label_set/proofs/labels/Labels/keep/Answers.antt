@@ -1,7 +1,7 @@
 use Rattle.std.proofs.Common.{◌≡◌, ◌<◌, ℕ, List, true, false, length, sym, subst, rules, arith, ◌∙◌}
 use Rattle.std.proofs.lemmas.Grind.{common_steps}
 use Rattle.label_set.specs.Labels.{IsLabelSet, is_named, keep}
-use Rattle.label_set.proofs.Entries.{filter_step_in, filter_step_out}
+use Rattle.label_set.specs.Entries.{filter_step_in, filter_step_out}
 use Rattle.label_set.proofs.LabelLemmas.{IsLabelSet-filter}
 use Rattle.label_set.proofs.labels.Labels.keep.Goals as goal
 use Rattle.label_set.proofs.labels.Labels.keep.Goals.{then-is_listed+in_ok-copy_pair+in_ok-push, else-is_listed}

@@ -1,7 +1,7 @@
 use Rattle.std.proofs.Common.{◌≡◌, ◌<◌, ℕ, List, true, false, not, length, sym, subst, rules, arith, ap, ◌∙◌}
 use Rattle.std.proofs.lemmas.Grind.{common_steps}
 use Rattle.label_set.specs.Labels.{IsLabelSet, is_named, without}
-use Rattle.label_set.proofs.Entries.{filter_step_in, filter_step_out}
+use Rattle.label_set.specs.Entries.{filter_step_in, filter_step_out}
 use Rattle.label_set.proofs.LabelLemmas.{IsLabelSet-filter}
 use Rattle.label_set.proofs.labels.Labels.without.Goals as goal
 use Rattle.label_set.proofs.labels.Labels.without.Goals.{then-not-is_listed+in_ok-copy_pair+in_ok-push, else-not-is_listed}

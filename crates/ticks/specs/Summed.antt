@@ -10,8 +10,8 @@ use Rattle.ticks.specs.declared.unit.Unit.TheVariants.{Year, Week, Day, Hour, Mi
 use Rattle.ticks.specs.Durations.{begins_with, duration_answer, duration_in, hundred_years, IsCapped, IsDuration, number, Spells, sum_by, within_years}
 use Rattle.ticks.specs.Runs.{digits_of, after_digits, name_at, after_name}
 use Rattle.ticks.specs.Units.{milliseconds_in, name_of, units}
-use Rattle.ticks.proofs.Pairs.{find-name, find-passes, Spells-from_step, Spells-nil, Step, step-from_Spells}
-use Rattle.ticks.proofs.Written.{AreFalling-longer, Descend, units-descend}
+use Rattle.ticks.specs.Pairs.{find-name, find-passes, Spells-from_step, Spells-nil, Step, step-from_Spells}
+use Rattle.ticks.specs.Written.{AreFalling-longer, Descend, units-descend}
 
 Spells-longer : (length longest : ℕ) (text : List ℕ) (n : ℕ) → length < longest → Spells length text n → Spells longest text n
 Spells-longer length longest text n less spells = record {
