@@ -1,5 +1,5 @@
 -- Labels stay labels, and a search among them tells where a name is.
-use Rattle.std.proofs.Common.{◌≡◌, ◌≢◌, ◌<◌, ℕ, Bool, true, false, List, [], ◌∷◌, filter, length, refl, sym, subst, ap, ◌∙◌, ◌||◌, Option, None, Some, slice_get, slice_set, remove, not, ◌+◌, suc, take, drop, arith, length-append, length-drop, length-take}
+use Rattle.std.proofs.Common.{◌≡◌, ◌≢◌, ◌<◌, ◌≤◌, ℕ, Bool, true, false, cond, List, [], ◌∷◌, filter, length, refl, sym, subst, ap, ◌∙◌, ◌||◌, Option, None, Some, slice_get, slice_set, remove, not, ◌+◌, suc, take, drop, arith, length-append, length-drop, length-take}
 use Rattle.std.specs.Prelude.{bytes_eq}
 use Rattle.std.specs.BTreeMap.{insert_entry, is_at}
 use Rattle.std.specs.Map.{keys_of}
@@ -8,6 +8,7 @@ use Rattle.std.specs.List.Sorted.{IsStrictlySortedBy}
 use Rattle.std.specs.Ordering.{is_eq}
 use Rattle.std.specs.declared.cmp.Ordering.TheVariants.{Equal}
 use Rattle.std.specs.Cmp.Lexicographic.{nat_list_cmp_total, texts_ties}
+use Rattle.std.proofs.lemmas.List.{length-set}
 use Rattle.std.proofs.lemmas.List.Kept.{IsStrictlySortedBy-filter}
 use Rattle.std.proofs.lemmas.Cmp.{tied_itself}
 use Rattle.std.proofs.lemmas.Slice.Eq.{bytes_eq-Decides}
@@ -16,18 +17,27 @@ use Rattle.label_set.specs.Entries.{all_insert, at_above_earlier, at_below_later
 
 pub IsLabelSet-nil : (ps : List (List ℕ × List ℕ)) → ps ≡ [] → IsLabelSet ps
 unfolding IsStrictlySortedBy
-IsLabelSet-nil ps e = rw e (record { ordered = tt; filled = tt })
+IsLabelSet-nil ps e = rw e (record { ordered = tt; filled = tt; few = omega arith })
 
-pub IsLabelSet-insert : (ps : List (List ℕ × List ℕ)) (name value : List ℕ) → IsLabelSet ps → value ≢ [] → IsLabelSet (insert_entry byte_cmp ps name value)
-IsLabelSet-insert ps name value h n = record {
+pub IsLabelSet-insert : (ps : List (List ℕ × List ℕ)) (name value : List ℕ) → IsLabelSet ps → value ≢ [] → length (insert_entry byte_cmp ps name value) ≤ 64
+    → IsLabelSet (insert_entry byte_cmp ps name value)
+IsLabelSet-insert ps name value h n few = record {
   ordered = sorted_insert byte_cmp nat_list_cmp_total name value ps h.ordered;
   filled = all_insert byte_cmp (λ p. p.1 ≢ []) name value ps n (λ e _. n) h.filled;
+  few = few;
 }
+
+length-filter_le : {X : Type 0} (test : X → Bool) (xs : List X) → length (filter test xs) ≤ length xs
+length-filter_le test [] = omega arith
+length-filter_le test (x ∷ xs) =
+    let l = length-filter_le test xs in
+    elim (test x) as (λ b. length (cond b (x ∷ filter test xs) (filter test xs)) ≤ length (x ∷ xs)) [ true ↦ omega (arith, l) | false ↦ omega (arith, l) ]
 
 pub IsLabelSet-filter : (test : List ℕ → Bool) (ps : List (List ℕ × List ℕ)) → IsLabelSet ps → IsLabelSet (filter (λ p. test p.0) ps)
 IsLabelSet-filter test ps h = record {
   ordered = rw (keys_filter test ps) (IsStrictlySortedBy-filter byte_cmp test (keys_of ps) h.ordered);
   filled = recursion_filter (λ p. p.1 ≢ []) (λ p. test p.0) ps h.filled;
+  few = let l = length-filter_le (λ (p : List ℕ × List ℕ). test p.0) ps in let few : length ps ≤ 64 = h.few in omega (arith, l);
 }
 
 pub byte_cmp_equal : (x y : List ℕ) → byte_cmp x y ≡ Equal → y ≡ x
@@ -88,7 +98,10 @@ module _ (ps : List (List ℕ × List ℕ)) (h : IsLabelSet ps) (i : ℕ) (w : i
   IsLabelSet-remove = subst IsLabelSet (without_at ps a.0 h i w key_at) (IsLabelSet-filter (λ n. not (is_named (a.0 ∷ []) n)) ps h)
 
   pub IsLabelSet-set : (v : List ℕ) → v ≢ [] → IsLabelSet (slice_set ps i (a.0, v))
-  IsLabelSet-set v n = subst IsLabelSet (insert_at ps a.0 h i w v key_at) (IsLabelSet-insert ps a.0 v h n)
+  IsLabelSet-set v n =
+      let e = insert_at ps a.0 h i w v key_at in
+      let few : length (insert_entry byte_cmp ps a.0 v) ≤ 64 = rw (e, length-set ps i (a.0, v)) h.few in
+      subst IsLabelSet e (IsLabelSet-insert ps a.0 v h n few)
 
   -- the same name at that place
   pub name_at : (name : List ℕ) → option_map (λ p. p.0) (slice_get ps i) ≡ Some name → a.0 ≡ name

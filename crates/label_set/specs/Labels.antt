@@ -1,7 +1,7 @@
 -- Labels: pairs of a name and a value, each a list of bytes, in byte order of the names.
 -- Prometheus, "Data model": a series is named by its labels, and a label with an empty value counts as one that is not there.
 -- The limits and the order of the refusals are this project's own.
-use Rattle.std.specs.Prelude.{◌≡◌, ◌≢◌, ℕ, Bool, List, [], ◌∷◌, length, unwrap_or, bytes_eq, filter, codes, is_some, nat_lt, not, if◌then◌else◌, ◌&&◌, Option, None, Some}
+use Rattle.std.specs.Prelude.{◌≡◌, ◌≢◌, ◌≤◌, ◌++◌, slice_get, slice_index_or, ℕ, Bool, false, List, [], ◌∷◌, length, unwrap_or, bytes_eq, filter, codes, is_some, nat_lt, not, if◌then◌else◌, ◌&&◌, Option, None, Some}
 use Rattle.std.specs.List.{AllByRecursion, list_any}
 use Rattle.std.specs.List.Sorted.{IsStrictlySortedBy}
 use Rattle.std.specs.Map.{keys_of, lookup}
@@ -17,10 +17,11 @@ use Rattle.label_set.specs.declared.labels.LabelRefusal.TheVariants.{EmptyName, 
 abbrev pub byte_cmp : List ℕ → List ℕ → Ordering
 byte_cmp = slice_cmp nat_cmp
 
--- distinct names in byte order, and no empty value
+-- distinct names in byte order, no empty value, and at most 64 pairs
 pub record IsLabelSet (ps : List (List ℕ × List ℕ)) : Type 0 where
   pub ordered : IsStrictlySortedBy byte_cmp (keys_of ps)
   pub filled : AllByRecursion (λ p. p.1 ≢ []) ps
+  pub few : length ps ≤ 64
 
 -- the value under a name, if it is there
 abbrev pub value_at : List (List ℕ × List ℕ) → List ℕ → Option (List ℕ)
@@ -83,6 +84,18 @@ metric_name = codes "__name__"
 -- what two series are matched or grouped by: the listed labels, or all but those and the metric's name
 abbrev pub signature : Bool → List (List ℕ) → List (List ℕ × List ℕ) → List (List ℕ × List ℕ)
 signature on names ps = if on then keep names ps else without (metric_name ∷ names) ps
+
+-- the names, with the metric's before them where that is asked
+abbrev pub with_metric : Bool → List (List ℕ) → List (List ℕ)
+with_metric metric names = (if metric then metric_name ∷ [] else []) ++ names
+
+-- whether a name is chosen: it is among the names, or it is not
+abbrev pub is_chosen : Bool → List (List ℕ) → List ℕ → Bool
+is_chosen listed names name = if listed then is_named names name else not (is_named names name)
+
+-- each pair has at its place a mark of whether its name is among the names
+pub record IsMarked (names : List (List ℕ)) (ps : List (List ℕ × List ℕ)) (marks : List Bool) : Type 0 where
+  pub at : (j : ℕ) (p : List ℕ × List ℕ) → slice_get ps j ≡ Some p → slice_index_or marks j false ≡ is_named names p.0
 
 -- the order of pairs: by name, then by value
 abbrev pub pair_cmp : List ℕ × List ℕ → List ℕ × List ℕ → Ordering

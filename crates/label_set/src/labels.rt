@@ -1,10 +1,10 @@
 ghost use Rattle.label_set.specs.LabelText.{labels_text};
-ghost use Rattle.label_set.specs.Labels.{IsLabelSet, byte_cmp, is_named, keep, labels_cmp, metric_name, put_refusal, set_refusal, signature, value_at, value_of, with_pair, with_value, without};
+ghost use Rattle.label_set.specs.Labels.{IsLabelSet, IsMarked, byte_cmp, is_chosen, is_named, keep, labels_cmp, metric_name, put_refusal, set_refusal, signature, value_at, value_of, with_metric, with_pair, with_value, without};
 ghost use Rattle.std.specs.BTreeMap.{insert_entry};
 ghost use Rattle.std.specs.Cmp.{IsTotalOrder};
 ghost use Rattle.std.specs.Option.{option_map};
 ghost use Rattle.std.specs.declared.cmp.Ordering.TheVariants.{Equal};
-ghost use Rattle.std.specs.Prelude.{◌≡◌, ◌<◌, ◌≤◌, ℕ, List, [], Err, None, Some, ◌∷◌, ◌++◌, ◌↔◌, length, insert, slice_get, IsTrue, IfOk, OnOk, OnErr, IsOkUnless, MatchOption, MatchResult};
+ghost use Rattle.std.specs.Prelude.{◌≡◌, ◌<◌, ◌≤◌, ℕ, List, [], Err, None, Some, ◌∷◌, ◌++◌, ◌↔◌, filter, length, insert, slice_get, IsTrue, IfOk, OnOk, OnErr, IsOkUnless, MatchOption, MatchResult};
 
 use crate::label_text::{push_braced, push_named};
 use holders::{Items, Text};
@@ -193,26 +193,14 @@ impl Labels {
     pub fn keep(&self, names: &Items<Text>) -> Result<Labels, AllocError>
         ensures { IfOk result (λ l. l ≡ keep names.now self.now) }
     {
-        let mut pairs = Vec::new(*self.pairs.allocator());
-        for pair in self.pairs.as_slice() {
-            if is_listed(names, &pair.0) {
-                pairs.push(copy_pair(pair)?)?;
-            }
-        }
-        Ok(Labels { pairs })
+        self.chosen(true, false, names)
     }
 
     /// The labels whose names are not listed, on the allocator of these. The only error is want of memory.
     pub fn without(&self, names: &Items<Text>) -> Result<Labels, AllocError>
         ensures { IfOk result (λ l. l ≡ without names.now self.now) }
     {
-        let mut pairs = Vec::new(*self.pairs.allocator());
-        for pair in self.pairs.as_slice() {
-            if !is_listed(names, &pair.0) {
-                pairs.push(copy_pair(pair)?)?;
-            }
-        }
-        Ok(Labels { pairs })
+        self.chosen(false, false, names)
     }
 
     /// The labels that series are matched or grouped by, on the allocator of these: `on` the listed names, or all but
@@ -221,19 +209,22 @@ impl Labels {
         ensures { IfOk result (λ l. l ≡ signature on names.now self.now) }
     {
         if on {
-            self.keep(names)
+            self.chosen(true, false, names)
         } else {
-            self.ignoring(names)
+            self.chosen(false, true, names)
         }
     }
 
-    /// The labels whose names are neither listed nor the metric's.
-    fn ignoring(&self, names: &Items<Text>) -> Result<Labels, AllocError>
-        ensures { IfOk result (λ l. l ≡ without (metric_name ∷ names.now) self.now) }
+    /// The labels whose names are listed, or those whose names aren't. Where `metric` says so, the metric's name counts
+    /// as listed.
+    fn chosen(&self, listed: bool, metric: bool, names: &Items<Text>) -> Result<Labels, AllocError>
+        ensures { IfOk result (λ l. l ≡ filter (λ p. is_chosen listed (with_metric metric names.now) p.0) self.now) }
     {
+        let marks = marks_of(&self.pairs, metric, names);
         let mut pairs = Vec::new(*self.pairs.allocator());
-        for pair in self.pairs.as_slice() {
-            if !is_ignored(names, &pair.0) {
+        for (place, pair) in self.pairs.as_slice().iter().enumerate() {
+            let marked = marks[place];
+            if marked == listed {
                 pairs.push(copy_pair(pair)?)?;
             }
         }
@@ -289,17 +280,30 @@ fn copy_pair(pair: &(Text, Text)) -> Result<(Text, Text), AllocError>
     Ok((pair.0.copy()?, pair.1.copy()?))
 }
 
-/// Whether a name is the metric's, or among the names.
-fn is_ignored(names: &Items<Text>, name: &Text) -> bool
-    ensures { result ≡ is_named (metric_name ∷ names.now) name.now }
+/// Marks the pairs whose names are listed, each by a search for a name. Where `metric` says so, the metric's name counts
+/// as listed.
+fn marks_of(pairs: &Vec<(Text, Text)>, metric: bool, names: &Items<Text>) -> [bool; MOST_PAIRS]
+    requires { IsLabelSet pairs.now.items }
+    ensures { IsMarked (with_metric metric names.now) pairs.now.items result }
 {
-    is_metric(name) || is_listed(names, name)
+    let mut marks = [false; MOST_PAIRS];
+    if metric {
+        mark(&mut marks, pairs, METRIC_NAME);
+    }
+    for name in names.as_slice() {
+        mark(&mut marks, pairs, name.as_str());
+    }
+    marks
 }
 
-fn is_listed(names: &Items<Text>, name: &Text) -> bool
-    ensures { result ≡ is_named names.now name.now }
+/// Marks the pair with one more name, if there is one.
+fn mark(marks: &mut [bool; MOST_PAIRS], pairs: &Vec<(Text, Text)>, name: &str)
+    requires { IsLabelSet pairs.now.items }
+    ensures { (names : List (List ℕ)) → IsMarked names pairs.now.items marks.old → IsMarked (names ++ name.now ∷ []) pairs.now.items marks.new }
 {
-    names.as_slice().contains(name)
+    if let Ok(place) = find(pairs, name) {
+        marks[place] = true;
+    }
 }
 
 /// Whether a name is the one that names the metric.

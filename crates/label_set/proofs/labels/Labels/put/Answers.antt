@@ -1,4 +1,4 @@
-use Rattle.std.proofs.Common.{◌≡◌, ◌≢◌, [], sym, subst, arith}
+use Rattle.std.proofs.Common.{◌≡◌, ◌≢◌, ◌≤◌, [], length, sym, subst, arith}
 use Rattle.std.proofs.lemmas.Grind.{common_steps}
 use Rattle.std.specs.BTreeMap.{insert_entry}
 use Rattle.label_set.specs.Labels.{IsLabelSet, byte_cmp}
@@ -9,4 +9,5 @@ pub invariant_of-self-2 : goal.invariant_of-self-2
 invariant_of-self-2 c =
     let e : c.insert.new.self.items ≡ insert_entry byte_cmp c.self.inside.pairs.items c.args.name.now c.args.value.now = grind (arith, common_steps) in
     let filled : c.args.value.now ≢ [] = grind (arith, common_steps) in
-    subst IsLabelSet (sym e) (IsLabelSet-insert _ _ _ c.self.invariant filled)
+    let few : length c.insert.new.self.items ≤ 64 = grind (arith, common_steps) in
+    subst IsLabelSet (sym e) (IsLabelSet-insert _ _ _ c.self.invariant filled (subst (λ ps. length ps ≤ 64) e few))
