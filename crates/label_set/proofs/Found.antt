@@ -1,9 +1,8 @@
 -- What a search by halves for a name says of the pairs.
-use Rattle.std.proofs.Common.{◌≡◌, ◌<◌, ◌≤◌, ℕ, List, [], Result, Ok, Err, None, Some, ap, subst, sym, refl, ◌∙◌, inl, inr, eq-or-lt_of_le, length, slice_get, insert, get_or, arith}
+use Rattle.std.proofs.Common.{◌≡◌, ◌<◌, ◌≤◌, ℕ, List, [], Result, Ok, Err, None, Some, ap, subst, refl, ◌∙◌, inl, inr, eq-or-lt_of_le, length, slice_get, insert, get_or, arith}
 use Rattle.std.specs.Prelude.{MatchResult}
 use Rattle.std.specs.Option.{option_map}
 use Rattle.std.specs.BTreeMap.{insert_entry}
-use Rattle.std.specs.Cmp.{IsTotalOrder}
 use Rattle.std.specs.Cmp.Lexicographic.{nat_list_cmp_total}
 use Rattle.std.specs.List.Sorted.{IsBinarySearchResult, IsNonDecreasingBy, IsPartitionPoint, IsSearchInRange}
 use Rattle.std.specs.Ordering.{ordering_index, ordering_reverse}
@@ -46,13 +45,13 @@ module _ (ps : List (List ℕ × List ℕ)) (name : List ℕ) (h : IsLabelSet ps
       → (i ≤ length ps) × (value_at ps name ≡ None) × ((v : List ℕ) → insert_entry byte_cmp ps name v ≡ insert ps i (name, v))
   at_gap i w parted =
       let before : (j : ℕ) (e : List ℕ × List ℕ) → j < i → slice_get ps j ≡ Some e → byte_cmp name e.0 ≡ Greater = λ j e l g.
-          let k : byte_cmp (get_or ps j nothing).0 name ≡ Less = parted.0 j nothing (omega arith) l in
-          let same : get_or ps j nothing ≡ e = get_or_from_slice_get ps j e nothing g in
-          nat_list_cmp_total.antisymm name e.0 ∙ ap ordering_reverse (subst (λ (p : List ℕ × List ℕ). byte_cmp p.0 name ≡ Less) same k) in
+      let k : byte_cmp (get_or ps j nothing).0 name ≡ Less = parted.0 j nothing (omega arith) l in
+      let same : get_or ps j nothing ≡ e = get_or_from_slice_get ps j e nothing g in
+      nat_list_cmp_total.antisymm name e.0 ∙ ap ordering_reverse (subst (λ (p : List ℕ × List ℕ). byte_cmp p.0 name ≡ Less) same k) in
       let below : (e : List ℕ × List ℕ) → slice_get ps i ≡ Some e → byte_cmp name e.0 ≡ Less = λ e g.
-          let k : byte_cmp (get_or ps i nothing).0 name ≡ Greater = parted.1 i nothing (omega arith) (slice_get_within ps i e g) in
-          let same : get_or ps i nothing ≡ e = get_or_from_slice_get ps i e nothing g in
-          nat_list_cmp_total.antisymm name e.0 ∙ ap ordering_reverse (subst (λ (p : List ℕ × List ℕ). byte_cmp p.0 name ≡ Greater) same k) in
+      let k : byte_cmp (get_or ps i nothing).0 name ≡ Greater = parted.1 i nothing (omega arith) (slice_get_within ps i e g) in
+      let same : get_or ps i nothing ≡ e = get_or_from_slice_get ps i e nothing g in
+      nat_list_cmp_total.antisymm name e.0 ∙ ap ordering_reverse (subst (λ (p : List ℕ × List ℕ). byte_cmp p.0 name ≡ Greater) same k) in
       (w, lookup_at_gap nat_list_cmp_total name ps i h.ordered before below, λ v. insert_at_gap byte_cmp name v ps i w before below)
 
   at_place : (i : ℕ) → i < length ps → (a : List ℕ × List ℕ) → slice_get ps i ≡ Some a → byte_cmp name a.0 ≡ Equal

@@ -13,7 +13,7 @@ use Rattle.std.proofs.lemmas.Cmp.{tied_itself}
 use Rattle.std.proofs.lemmas.Option.{slice_get_within}
 use Rattle.std.proofs.lemmas.List.{get_or-replicate, get_or-set_same, get_or-set_other}
 use Rattle.std.proofs.lemmas.List.Folds.{list_any-append}
-use Rattle.label_set.specs.Labels.{IsLabelSet, IsMarked, byte_cmp, is_chosen, is_named, value_at}
+use Rattle.label_set.specs.Labels.{IsLabelSet, IsMarked, byte_cmp, is_named, value_at}
 use Rattle.label_set.specs.Entries.{later_key}
 use Rattle.label_set.proofs.LabelLemmas.{byte_cmp_equal, is_named_one}
 
@@ -63,16 +63,16 @@ absent (q ∷ qs) name (suc j) p none g = absent qs name j p (missing_rest q qs 
 lt_or_le : (j i : ℕ) → (j < i) ⊎ (i ≤ j)
 lt_or_le j zero = inr (omega arith)
 lt_or_le zero (suc i) = inl (omega arith)
-lt_or_le (suc j) (suc i) = elim (lt_or_le j i) [ | inl less ↦ inl (omega arith) | inr from ↦ inr (omega arith) ]
+lt_or_le (suc j) (suc i) = elim (lt_or_le j i) [ inl less ↦ inl (omega arith) | inr from ↦ inr (omega arith) ]
 
 -- two places have two names
 apart : (ps : List (List ℕ × List ℕ)) → IsLabelSet ps → (i j : ℕ) (a p : List ℕ × List ℕ) → (j ≡ i → ⊥) → slice_get ps i ≡ Some a → slice_get ps j ≡ Some p → p.0 ≡ a.0 → ⊥
 apart ps h i j a p other at g same = elim (lt_or_le j i) [
   | inl before ↦ less_apart p.0 a.0 (later_key byte_cmp ps j i p a h.ordered before g at) (sym same)
   | inr from ↦ elim (eq-or-lt_of_le from) [
-      | inl equal ↦ other (sym equal)
-      | inr after ↦ less_apart a.0 p.0 (later_key byte_cmp ps i j a p h.ordered after at g) same
-    ]
+    | inl equal ↦ other (sym equal)
+    | inr after ↦ less_apart a.0 p.0 (later_key byte_cmp ps i j a p h.ordered after at g) same
+  ]
 ]
 
 -- at first nothing is marked

@@ -130,7 +130,7 @@ impl Card {
     pub fn is_same(self, other: Card) -> bool
         ensures { IsTrue result ↔ (self ≡ other) }
     {
-        self == other
+        other == self
     }
 }
 

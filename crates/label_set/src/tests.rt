@@ -1,211 +1,125 @@
 use crate::*;
 use std::alloc::Global;
-use std::cmp::Ordering;
 use std::test::Fail;
 
-fn labels_of(alloc: Global, pairs: &[(&str, &str)]) -> Result<Labels, LabelRefusal> {
+// Labels, and how Prometheus prints them.
+const PRINTED: &str = "a=;b=>{}
+__name__=up>up
+job=api;__name__=up;env=prod>up{env=\"prod\",job=\"api\"}
+job=api>{job=\"api\"}
+__name__=job:up:sum;b:c=1>job:up:sum{\"b:c\"=\"1\"}
+__name__=2xx>{\"2xx\"}
+__name__=a.b;_c9=d;9c=d>{\"a.b\",\"9c\"=\"d\",_c9=\"d\"}
+a=\\;b=say \"hi\">{a=\"\\\\\",b=\"say \\\"hi\\\"\"}
+é=Größe;__name__=übel;Z=\t>{\"übel\",Z=\"\t\",\"é\"=\"Größe\"}";
+
+// Labels, names, the labels with those names, the others, and the others without the metric's name.
+const CHOSEN: &str = "__name__=up;env=prod;job=api>env;zone>env=prod>__name__=up;job=api>job=api
+__name__=up;a=1;b=2;c=3>c;a;c;zz>a=1;c=3>__name__=up;b=2>b=2
+__name__=up;a=1>__name__>__name__=up>a=1>a=1
+__name__=up;a=1>>>__name__=up;a=1>a=1
+b=1;bb=2;c=3>c;bb;b>b=1;bb=2;c=3>>
+>a>>>";
+
+/// The labels of `name=value` pairs.
+fn labels_of(alloc: Global, pairs: Option<&str>) -> Result<Labels, LabelRefusal> {
     let mut labels = Labels::empty(alloc);
-    for pair in pairs {
-        labels.put(pair.0, pair.1)?;
+    for pair in pairs.unwrap_or("").split(';') {
+        if let Some((name, value)) = pair.split_once('=') {
+            labels.put(name, value)?;
+        }
     }
     Ok(labels)
 }
 
-fn long_text(alloc: Global, bytes: usize) -> Result<String, Memory> {
-    let mut text = String::new(alloc);
-    for _ in 0..bytes {
-        text.push('a')?;
-    }
-    Ok(text)
-}
-
-fn name_at(labels: &Labels, place: usize) -> &str {
-    if place < labels.len() {
-        labels.pair(place).0
-    } else {
-        ""
-    }
-}
-
-#[test]
-fn pairs_are_refused_in_order(rt: HostRuntime) -> Result<(), Fail> {
-    let longest = long_text(rt.alloc(), 4096)?;
-    let too_long = long_text(rt.alloc(), 4097)?;
-    let mut labels = labels_of(rt.alloc(), &[("job", "api")])?;
-    for (name, value, put, set) in [
-        (
-            "",
-            too_long.as_str(),
-            Err(LabelRefusal::EmptyName),
-            Err(LabelRefusal::EmptyName),
-        ),
-        (
-            too_long.as_str(),
-            "x",
-            Err(LabelRefusal::TooLong),
-            Err(LabelRefusal::TooLong),
-        ),
-        (
-            "job",
-            too_long.as_str(),
-            Err(LabelRefusal::TooLong),
-            Err(LabelRefusal::TooLong),
-        ),
-        ("job", "web", Err(LabelRefusal::Duplicate), Ok(())),
-        ("env", "", Ok(()), Ok(())),
-        (longest.as_str(), longest.as_str(), Ok(()), Ok(())),
-    ] {
-        assert_eq!(rt; labels.put(name, value), put);
-        assert_eq!(rt; labels.set(name, value), set);
-    }
-    assert_eq!(rt; labels.len(), 2);
-    assert_eq!(rt; labels.get("job"), "web");
-    assert_eq!(rt; labels.get(longest.as_str()), longest.as_str());
-    assert_eq!(rt; labels.get("env"), "");
-    Ok(())
-}
-
-#[test]
-fn there_are_64_pairs(rt: HostRuntime) -> Result<(), Fail> {
-    let mut labels = Labels::empty(rt.alloc());
-    for i in 0..64u32 {
-        labels.put(format!(in rt.alloc(); "l{i}")?.as_str(), "x")?;
-    }
-    assert_eq!(rt; labels.len(), 64);
-    assert_eq!(rt; labels.put("a", "x"), Err(LabelRefusal::TooMany));
-    assert_eq!(rt; labels.set("a", "x"), Err(LabelRefusal::TooMany));
-    assert_eq!(rt; labels.set("a", ""), Ok(()));
-    assert_eq!(rt; labels.set("l9", "y"), Ok(()));
-    assert_eq!(rt; labels.set("l10", ""), Ok(()));
-    assert_eq!(rt; labels.put("a", "x"), Ok(()));
-    for (place, name) in [(0, "a"), (2, "l1"), (3, "l11"), (63, "l9")] {
-        assert_eq!(rt; name_at(&labels, place), name);
-    }
-    assert_eq!(rt; labels.get("l9"), "y");
-    Ok(())
-}
-
-#[test]
-fn labels_are_printed(rt: HostRuntime) -> Result<(), Fail> {
-    for (pairs, text) in [
-        ([("a", ""), ("b", ""), ("c", "")], "{}"),
-        ([("__name__", "up"), ("b", ""), ("c", "")], "up"),
-        (
-            [("job", "api"), ("__name__", "up"), ("env", "prod")],
-            "up{env=\"prod\",job=\"api\"}",
-        ),
-        ([("job", "api"), ("b", ""), ("c", "")], "{job=\"api\"}"),
-        (
-            [("__name__", "job:up:sum"), ("b:c", "1"), ("c", "")],
-            "job:up:sum{\"b:c\"=\"1\"}",
-        ),
-        ([("__name__", "2xx"), ("b", ""), ("c", "")], "{\"2xx\"}"),
-        (
-            [("__name__", "a.b"), ("_c9", "d"), ("9c", "d")],
-            "{\"a.b\",\"9c\"=\"d\",_c9=\"d\"}",
-        ),
-        (
-            [("a", "\\"), ("b", "say \"hi\""), ("c", "1\n2")],
-            "{a=\"\\\\\",b=\"say \\\"hi\\\"\",c=\"1\\n2\"}",
-        ),
-        (
-            [("é", "Größe"), ("__name__", "übel"), ("Z", "\t")],
-            "{\"übel\",Z=\"\t\",\"é\"=\"Größe\"}",
-        ),
-    ] {
-        let labels = labels_of(rt.alloc(), pairs.as_slice())?;
-        let mut out = Vec::new(rt.alloc());
-        labels.write(&mut out)?;
-        assert_eq!(rt; out.as_slice(), text.as_bytes());
-    }
-    Ok(())
-}
-
-#[test]
-fn labels_are_chosen_and_compared(rt: HostRuntime) -> Result<(), Fail> {
-    let labels = labels_of(
-        rt.alloc(),
-        &[("__name__", "up"), ("env", "prod"), ("job", "api")],
-    )?;
-    let mut names = Items::new(rt.alloc());
-    names.push(Text::of(rt.alloc(), "env")?)?;
-    names.push(Text::of(rt.alloc(), "zone")?)?;
-    let env = labels_of(rt.alloc(), &[("env", "prod")])?;
-    assert!(rt; labels.keep(&names)? == env);
-    assert!(rt; labels.signature(true, &names)?.is_same(&env));
-    let rest = labels_of(rt.alloc(), &[("__name__", "up"), ("job", "api")])?;
-    assert!(rt; labels.without(&names)? == rest);
-    let job = labels_of(rt.alloc(), &[("job", "api")])?;
-    assert!(rt; labels.signature(false, &names)? == job);
-    assert!(rt; labels.copy()? == labels);
-    let longer = labels_of(rt.alloc(), &[("env", "prod"), ("job", "api")])?;
-    assert_eq!(rt; env.cmp(&longer), Ordering::Less);
-    assert_eq!(rt; job.cmp(&longer), Ordering::Greater);
-    assert_eq!(rt; labels.cmp(&labels.clone()?), Ordering::Equal);
-    Ok(())
-}
-
-fn names_of(alloc: Global, name: &str) -> Result<Items<Text>, Memory> {
+fn names_of(alloc: Global, words: Option<&str>) -> Result<Items<Text>, Memory> {
     let mut names = Items::new(alloc);
-    names.push(Text::of(alloc, name)?)?;
+    for word in words.unwrap_or("").split(';') {
+        names.push(Text::of(alloc, word)?)?;
+    }
     Ok(names)
 }
 
-fn rule(alloc: Global, label: &str, kind: RuleKind) -> Result<Rule, Memory> {
-    Ok(Rule {
-        label: Text::of(alloc, label)?,
-        kind,
-    })
-}
-
-fn rules_of(alloc: Global) -> Result<Items<Rule>, Memory> {
-    let mut rules = Items::new(alloc);
-    rules.push(rule(alloc, "job", RuleKind::Eq(Text::of(alloc, "api")?))?)?;
-    rules.push(rule(alloc, "job", RuleKind::Ne(Text::of(alloc, "")?))?)?;
-    rules.push(rule(alloc, "env", RuleKind::Re(PatternId(0)))?)?;
-    rules.push(rule(alloc, "env", RuleKind::Nre(PatternId(1)))?)?;
-    Ok(rules)
-}
-
-fn replacing(alloc: Global) -> Result<Relabel, Memory> {
-    Ok(Relabel::Replace {
-        target: Text::of(alloc, "a")?,
-        template: Text::of(alloc, "$1")?,
-        source: Text::of(alloc, "b")?,
-        pattern: PatternId(2),
-    })
-}
-
-fn joining(alloc: Global) -> Result<Relabel, Memory> {
-    Ok(Relabel::Join {
-        target: Text::of(alloc, "a")?,
-        separator: Text::of(alloc, "-")?,
-        sources: names_of(alloc, "b")?,
-    })
+#[test]
+fn labels_are_printed_and_chosen(rt: HostRuntime) -> Result<(), Fail> {
+    for line in PRINTED.split('\n') {
+        let mut parts = line.split('>');
+        let labels = labels_of(rt.alloc(), parts.next())?;
+        let mut out = Vec::new(rt.alloc());
+        labels.write(&mut out)?;
+        assert_eq!(rt;
+            out.as_slice(),
+            parts.next().unwrap_or("").as_bytes(),
+            "{line}"
+        );
+    }
+    for line in CHOSEN.split('\n') {
+        let mut parts = line.split('>');
+        let labels = labels_of(rt.alloc(), parts.next())?;
+        let names = names_of(rt.alloc(), parts.next())?;
+        let kept = labels_of(rt.alloc(), parts.next())?;
+        assert!(rt; labels.keep(&names)?.is_same(&kept), "{line}");
+        assert!(rt; labels.signature(true, &names)? == kept, "{line}");
+        let others = labels_of(rt.alloc(), parts.next())?;
+        assert!(rt; labels.without(&names)? == others, "{line}");
+        let signature = labels_of(rt.alloc(), parts.next())?;
+        assert!(rt; labels.signature(false, &names)? == signature, "{line}");
+        assert!(rt; labels.copy()? == labels, "{line}");
+    }
+    Ok(())
 }
 
 #[test]
-fn copies_are_equal(rt: HostRuntime) -> Result<(), Fail> {
+fn pairs_are_refused(rt: HostRuntime) -> Result<(), Fail> {
+    let mut labels = labels_of(rt.alloc(), Some("job=api;b="))?;
+    let mut long = String::new(rt.alloc());
+    for i in 0..63u32 {
+        labels.put(format!(in rt.alloc(); "l{i}")?.as_str(), "1\n2")?;
+    }
+    for _ in 0..4096u32 {
+        long.push('a')?;
+    }
+    assert_eq!(rt; labels.set("job", long.as_str()), Ok(()));
+    assert_eq!(rt; labels.put(long.as_str(), "x"), Err(LabelRefusal::TooMany));
+    long.push('a')?;
+    assert_eq!(rt; labels.put("", long.as_str()), Err(LabelRefusal::EmptyName));
+    assert_eq!(rt;
+        labels.set("job", long.as_str()),
+        Err(LabelRefusal::TooLong)
+    );
+    assert_eq!(rt; labels.put("job", "x"), Err(LabelRefusal::Duplicate));
+    assert_eq!(rt; labels.set("l9", ""), Ok(()));
+    assert_eq!(rt; labels.put("a", "x"), Ok(()));
+    assert_eq!(rt; labels.len(), 64);
+    assert_eq!(rt; labels.get("a").len() + labels.get("job").len(), 4097);
+    Ok(())
+}
+
+#[test]
+fn rules_are_copied(rt: HostRuntime) -> Result<(), Fail> {
+    let rule = Rule {
+        label: Text::of(rt.alloc(), "job")?,
+        kind: RuleKind::Re(PatternId(0)),
+    };
+    assert!(rt; rule.copy()?.is_same(&rule));
+    assert!(rt; !rule.kind.is_same(&RuleKind::Nre(PatternId(0))));
     let grouping = Grouping {
         without: true,
-        names: names_of(rt.alloc(), "env")?,
+        names: names_of(rt.alloc(), Some("env;zone"))?,
     };
-    assert!(rt; grouping.copy()? == grouping);
+    assert!(rt; grouping.copy()?.is_same(&grouping));
     let pairing = Pairing {
         on: true,
-        names: names_of(rt.alloc(), "env")?,
+        names: grouping.names.copy()?,
         card: Card::GroupLeft,
-        extra: names_of(rt.alloc(), "job")?,
+        extra: names_of(rt.alloc(), None)?,
     };
-    assert!(rt; pairing.copy()? == pairing);
-    let changes = [
-        replacing(rt.alloc())?,
-        joining(rt.alloc())?,
-        Relabel::Filter(rules_of(rt.alloc())?),
-    ];
-    for change in changes.as_slice() {
-        assert!(rt; change.copy()? == *change);
-    }
-    assert!(rt; changes[0] != changes[1]);
+    assert!(rt; pairing.copy()?.is_same(&pairing));
+    let change = Relabel::Join {
+        target: rule.label,
+        separator: Text::of(rt.alloc(), "-")?,
+        sources: pairing.extra,
+    };
+    assert!(rt; change.copy()? == change);
     Ok(())
 }

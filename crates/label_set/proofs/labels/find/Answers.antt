@@ -1,4 +1,4 @@
-use Rattle.std.proofs.Common.{◌≡◌, ℕ, List, rules}
+use Rattle.std.proofs.Common.{ℕ, List, rules}
 use Rattle.std.proofs.lemmas.Fn.{always_returns_same}
 use Rattle.label_set.specs.Labels.{byte_cmp}
 use Rattle.label_set.proofs.Found.{found}

@@ -1,4 +1,4 @@
-use Rattle.std.proofs.Common.{◌≡◌, ◌<◌, None, Some, length, slice_get, ℕ, List, rules, arith}
+use Rattle.std.proofs.Common.{◌≡◌, ◌<◌, None, Some, length, slice_get, ℕ, List, rules}
 use Rattle.std.specs.Option.{option_map}
 use Rattle.label_set.specs.Labels.{value_at}
 use Rattle.label_set.proofs.Marks.{marked-missing, marked-there}

@@ -1,5 +1,5 @@
-use Rattle.std.proofs.Common.{◌++◌, take, if◌then◌else◌, [], ◌∷◌}
-use Rattle.label_set.specs.Labels.{IsMarked, metric_name, with_metric}
+use Rattle.std.proofs.Common.{take}
+use Rattle.label_set.specs.Labels.{IsMarked, with_metric}
 use Rattle.label_set.proofs.labels.marks_of.Given as goal
 
 abbrev pub invariant-loop-name : goal.invariant-loop-name

@@ -1,5 +1,4 @@
-use Rattle.std.proofs.Common.{◌≡◌, Bool, true, List, ℕ, arith, rules}
-use Rattle.std.proofs.lemmas.Grind.{common_steps}
+use Rattle.std.proofs.Common.{rules}
 use Rattle.label_set.proofs.Sameness.{texts_from_eq, texts_to_eq}
 use Rattle.label_set.proofs.rules.Grouping.is_same.Goals as goal
 
