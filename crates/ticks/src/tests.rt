@@ -1,119 +1,125 @@
 ghost use Rattle.std.specs.Prelude.{◌+◌, ◌^◌, ◌<◌, ℤ, pos, ◌+ℤ◌, ◌≤ℤ◌, IfOk};
 ghost use Rattle.ticks.specs.Walks.{IsInstant, LeadsToTimes};
 
-use crate::TickRefusal::{BadDuration, OutOfRange, TooManySteps};
 use crate::{
-    Grid, Ms, Walk, WalkMoment, durations_are_found, read_duration, spellings_are_durations,
-    write_duration,
+    Grid, Ms, TickRefusal, Walk, WalkMoment, durations_are_found, instants_are_numbered,
+    read_duration, spellings_are_durations, write_duration,
 };
 use holders::Boxed;
 use std::alloc::{AllocError, Global};
 use std::test::Fail;
 
-#[test]
-fn durations_are_read_exactly(rt: HostRuntime) {
-    durations_are_found();
-    assert!(rt; Ms(-1) < Ms(0));
-    let taken = [
-        ("0s", 0),
-        ("0y0w", 0),
-        ("007ms", 7),
-        ("1s1ms", 1_001),
-        ("1m1ms", 60_001),
-        ("90m", 5_400_000),
-        ("1h30m", 5_400_000),
-        ("1y2w3d4h5m6s7ms", 33_019_506_007),
-        ("99y365d", 3_153_600_000_000),
-        ("36500d", 3_153_600_000_000),
-        ("100y", 3_153_600_000_000),
-    ];
-    for (text, milliseconds) in taken {
-        assert_eq!(rt; read_duration(text), Ok(Ms(milliseconds)), "{text}");
-    }
-    let beyond = [
-        "100y1ms",
-        "3153600000001ms",
-        "18446744073709551617ms",
-        "99999999999999999999999999y",
-    ];
-    for text in beyond {
-        assert_eq!(rt; read_duration(text), Err(OutOfRange), "{text}");
-    }
-    let refused = [
-        "",
-        "h",
-        "1",
-        "30m1h",
-        "1h1h",
-        "1ms1s",
-        "1ms1m",
-        "1h ",
-        " 1h",
-        "1H",
-        "1.5h",
-        "-1h",
-        "5min",
-        "1hm",
-        "1_0s",
-        "1y 2d",
-        "1µs",
-        "99999999999999999999y1",
-    ];
-    for text in refused {
-        assert_eq!(rt; read_duration(text), Err(BadDuration), "{text}");
+// Each line is a text and the milliseconds of its duration, or why it is refused.
+const READ: &str = "0s=0
+0y0w=0
+007ms=7
+1s1ms=1001
+1m1ms=60001
+90m=5400000
+1h30m=5400000
+1y2w3d4h5m6s7ms=33019506007
+99y365d=3153600000000
+36500d=3153600000000
+100y=3153600000000
+100y1ms=out of range
+3153600000001ms=out of range
+18446744073709551617ms=out of range
+99999999999999999999999999y=out of range
+=no duration
+h=no duration
+1=no duration
+30m1h=no duration
+1h1h=no duration
+1ms1s=no duration
+1ms1m=no duration
+1h =no duration
+ 1h=no duration
+1H=no duration
+1.5h=no duration
+-1h=no duration
+5min=no duration
+1hm=no duration
+1_0s=no duration
+1y 2d=no duration
+1µs=no duration
+99999999999999999999y1=no duration";
+
+// Each line is a number of milliseconds and its spelling.
+const WRITTEN: &str = "0=0s
+1=1ms
+-1=-1ms
+61001=1m1s1ms
+5400000=1h30m
+-5400000=-1h30m
+31449600000=52w
+31535999999=52w23h59m59s999ms
+34560000000=1y5w
+3153600000000=100y
+9223372036854775807=292471208y35w2d7h12m55s807ms
+-9223372036854775808=-292471208y35w2d7h12m55s808ms";
+
+// Each line is a start, an end and a step in milliseconds, and how many instants that grid has, or why it is refused.
+const GRIDS: &str = "0 0 1=1
+0 9 3=4
+0 10 3=4
+0 1 9223372036854775807=1
+0 10999 1=11000
+0 11000 1=too many steps
+100000000000000 100000000000000 1=1
+-100000000000000 100000000000000 100000000000000=3
+-100000000000000 100000000000000 1=too many steps
+100000000000000 100000000000001 1=out of range
+-100000000000001 -100000000000000 1=out of range
+-9223372036854775808 9223372036854775807 1=out of range
+5 4 1=out of range
+0 1 0=out of range
+0 11000 -1=out of range";
+
+fn told(alloc: Global, answer: Result<i64, TickRefusal>) -> Result<String, AllocError> {
+    match answer {
+        Ok(number) => format!(in alloc; "{number}"),
+        Err(refusal) => format!(in alloc; "{refusal}"),
     }
 }
 
+fn number(word: Option<&str>) -> i64 {
+    word.unwrap_or("").parse().unwrap_or(7)
+}
+
 #[test]
-fn durations_have_one_spelling(rt: HostRuntime) -> Result<(), Fail> {
+fn durations_and_grids(rt: HostRuntime) -> Result<(), Fail> {
+    durations_are_found();
     spellings_are_durations();
-    let rows = [
-        (0, "=0s"),
-        (1, "=1ms"),
-        (-1, "=-1ms"),
-        (61_001, "=1m1s1ms"),
-        (5_400_000, "=1h30m"),
-        (-5_400_000, "=-1h30m"),
-        (31_449_600_000, "=52w"),
-        (31_535_999_999, "=52w23h59m59s999ms"),
-        (34_560_000_000, "=1y5w"),
-        (3_153_600_000_000, "=100y"),
-        (i64::MAX, "=292471208y35w2d7h12m55s807ms"),
-        (i64::MIN, "=-292471208y35w2d7h12m55s808ms"),
-    ];
-    for (milliseconds, text) in rows {
+    instants_are_numbered();
+    for line in READ.split('\n') {
+        let mut parts = line.split('=');
+        let answer = read_duration(parts.next().unwrap_or("")).map(|at| at.0);
+        assert_eq!(rt;
+            told(rt.alloc(), answer)?.as_str(),
+            parts.next().unwrap_or(""),
+            "{line}"
+        );
+    }
+    for line in WRITTEN.split('\n') {
+        let mut parts = line.split('=');
         let mut into = Vec::new(rt.alloc());
-        into.push(b'=')?;
-        write_duration(Ms(milliseconds), &mut into)?;
-        assert_eq!(rt; into.as_slice(), text.as_bytes(), "{milliseconds}");
+        write_duration(Ms(number(parts.next())), &mut into)?;
+        assert_eq!(rt;
+            into.as_slice(),
+            parts.next().unwrap_or("").as_bytes(),
+            "{line}"
+        );
+    }
+    for line in GRIDS.split('\n') {
+        let mut parts = line.split('=');
+        let mut words = parts.next().unwrap_or("").split(' ');
+        let start = Ms(number(words.next()));
+        let end = Ms(number(words.next()));
+        let grid = Grid::of(start, end, Ms(number(words.next())));
+        let answer = told(rt.alloc(), grid.map(|grid| grid.steps() as i64))?;
+        assert_eq!(rt; answer.as_str(), parts.next().unwrap_or(""), "{line}");
     }
     Ok(())
-}
-
-#[test]
-fn grids_count_their_steps(rt: HostRuntime) {
-    let far = 100_000_000_000_000;
-    let rows = [
-        (0, 0, 1, Ok(1)),
-        (0, 9, 3, Ok(4)),
-        (0, 10, 3, Ok(4)),
-        (0, 1, i64::MAX, Ok(1)),
-        (0, 10_999, 1, Ok(11_000)),
-        (0, 11_000, 1, Err(TooManySteps)),
-        (far, far, 1, Ok(1)),
-        (-far, far, far, Ok(3)),
-        (-far, far, 1, Err(TooManySteps)),
-        (far, far + 1, 1, Err(OutOfRange)),
-        (-far - 1, -far, 1, Err(OutOfRange)),
-        (i64::MIN, i64::MAX, 1, Err(OutOfRange)),
-        (5, 4, 1, Err(OutOfRange)),
-        (0, 1, 0, Err(OutOfRange)),
-        (0, 11_000, -1, Err(OutOfRange)),
-    ];
-    for (start, end, step, answer) in rows {
-        let steps = Grid::of(Ms(start), Ms(end), Ms(step)).map(|grid| grid.steps());
-        assert_eq!(rt; steps, answer, "from {start} to {end} by {step}");
-    }
 }
 
 #[test]
