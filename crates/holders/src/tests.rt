@@ -28,10 +28,14 @@ fn lists_and_boxes_change(rt: HostRuntime) -> Result<(), Fail> {
     items.extend_from_slice([3, 4, 5].as_slice())?;
     assert_eq!(rt; items.as_slice(), [2, 1, 3, 4, 5].as_slice());
     assert_eq!(rt; items.pop(), Some(5));
+    assert_eq!(rt; (items.replace(0, 7), items.remove(1)), (2, 1));
+    assert_eq!(rt; items.as_slice(), [7, 3, 4].as_slice());
     let mut boxed = Boxed::new(items.allocator(), 4u8)?;
     *boxed.get_mut() = 5;
     assert_eq!(rt; boxed.into_inner(), 5);
     let up = Text::of(rt.alloc(), "up")?;
+    assert_eq!(rt; up.as_str(), "up");
+    assert!(rt; up.copy()? == up);
     assert_eq!(rt; up.cmp(&Text::of(rt.alloc(), "upper")?), Ordering::Less);
     Ok(())
 }
