@@ -1,5 +1,17 @@
 //! Laws of numbers that users rely on. The functions do nothing: each stands for what its contract says.
-ghost use Rattle.xfrac.specs.Laws.{SumIgnoresOrder, TotalsNeverFall, PartOverflowsWhole, NearIsSymmetric, EqualIsSame, OrderIsReflexive, OrderIsReversed, LessIsTransitive, LowestIsEqual, LowestIsReduced};
+ghost use Rattle.xfrac.specs.Laws.{IsNumber, SumIgnoresOrder, TotalsNeverFall, PartOverflowsWhole, NearIsSymmetric, EqualIsSame, OrderIsReflexive, OrderIsReversed, LessIsTransitive, LowestIsEqual, LowestIsReduced};
+
+use crate::value::XFrac;
+
+/// A number of the type keeps its limits: its fraction is in lowest terms, and neither part is above the limit. A loop
+/// over a slice calls it at each item, since nothing else tells it of them.
+pub fn is_number(v: &XFrac)
+    ensures { IsNumber v.now }
+{
+    if let XFrac::Fin(fraction) = v {
+        fraction.is_reduced();
+    }
+}
 
 /// A sum doesn't depend on the order of its list.
 pub fn sum_ignores_order()

@@ -95,6 +95,13 @@ impl Frac {
         (self.n < 0, self.n.unsigned_abs(), self.d)
     }
 
+    /// A law, with nothing to run: the fraction is in lowest terms and within the limits.
+    pub(crate) fn is_reduced(&self)
+        ensures { IsReduced (unsigned_abs self.now.0) self.now.1 }
+    {
+        let _ = &self.n;
+    }
+
     pub(crate) fn denominator(&self) -> u128
         ensures value { result ≡ self.now.1 }
         ensures positive { 0 < result }
