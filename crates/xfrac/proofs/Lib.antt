@@ -1,3 +1,4 @@
+pub mod Adding
 pub mod Formed
 pub mod Gcds
 pub mod LawProofs

@@ -1,5 +1,5 @@
 //! Laws of numbers that users rely on. The functions do nothing: each stands for what its contract says.
-ghost use Rattle.xfrac.specs.Laws.{IsNumber, SumIgnoresOrder, TotalsNeverFall, PartOverflowsWhole, NearIsSymmetric, EqualIsSame, OrderIsReflexive, OrderIsReversed, LessIsTransitive, LowestIsEqual, LowestIsReduced};
+ghost use Rattle.xfrac.specs.Laws.{IsNumber, SumIgnoresOrder, JoinedStandsForBoth, AloneStandsForOne, TotalsNeverFall, PartOverflowsWhole, NearIsSymmetric, EqualIsSame, OrderIsReflexive, OrderIsReversed, LessIsTransitive, LowestIsEqual, LowestIsReduced};
 
 use crate::value::XFrac;
 
@@ -16,6 +16,12 @@ pub fn is_number(v: &XFrac)
 /// A sum doesn't depend on the order of its list.
 pub fn sum_ignores_order()
     ensures { SumIgnoresOrder }
+{}
+
+/// What `SumAcc::merge` and `SumAcc::add` make stands for the longer list, where what they were given stands for a list.
+pub fn joined_sums_stand_for_both()
+    ensures joined { JoinedStandsForBoth }
+    ensures alone { AloneStandsForOne }
 {}
 
 /// Totals never fall when a list grows, so a part that overflows makes the whole overflow.

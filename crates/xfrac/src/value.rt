@@ -181,10 +181,11 @@ pub fn whole(n: i64) -> XFrac
     XFrac::Fin(Frac { n: n as i128, d: 1 })
 }
 
-/// The numerator and the denominator, which is positive.
+/// The numerator and the denominator, which is positive: lowest terms within the limits.
 pub fn parts(f: &Frac) -> (i128, i128)
     ensures numerator { result.0 ≡ f.now.0 }
     ensures denominator { result.1 ≡ pos f.now.1 }
+    ensures reduced { IsReduced (unsigned_abs f.now.0) f.now.1 }
 {
     (f.n, f.d as i128)
 }
