@@ -13,6 +13,7 @@ const SMALL: u128 = 0xffff_ffff_ffff_ffff;
 pub fn gcd(a: u128, b: u128) -> u128
     requires { 0 < b }
     ensures value { result ≡ gcd_of a b }
+    ensures greatest { IsGcd a b result }
     ensures positive { 0 < result }
 {
     common_divisor(a, b)
@@ -43,6 +44,23 @@ fn small_common_divisor(a: u64, b: u64) -> u64
     x
 }
 
+/// The greatest common divisor of a number and a positive number, with nothing sought where they are equal or one is 1.
+pub fn shared_divisor(a: u128, b: u128) -> u128
+    requires { 0 < b }
+    ensures value { IsGcd a b result }
+    ensures positive { 0 < result }
+{
+    if a == b {
+        b
+    } else if b == 1 {
+        1
+    } else if a == 1 {
+        1
+    } else {
+        gcd(a, b)
+    }
+}
+
 /// The quotient of two numbers. Numbers below 2^64 are divided as such.
 pub fn quotient(a: u128, b: u128) -> u128
     requires { 0 < b }
@@ -50,6 +68,8 @@ pub fn quotient(a: u128, b: u128) -> u128
 {
     if b == 1 {
         a
+    } else if a == b {
+        1
     } else if a <= SMALL && b <= SMALL {
         (a as u64 / b as u64) as u128
     } else {

@@ -1,12 +1,13 @@
 //! The sum of a list of numbers, kept as it grows.
-ghost use Rattle.std.specs.Prelude.{◌≡◌, ◌<◌, ◌≤◌, ◌+◌, ◌*◌, ◌^◌, ◌-ℤ◌, pos, List, [], ◌∷◌, ◌++◌, OnOk, OnErr, is_ok, is_some, length, Some, None, if◌then◌else◌};
+ghost use Rattle.std.specs.Prelude.{◌≡◌, ◌<◌, ◌≤◌, ◌+◌, ◌*◌, ◌^◌, ◌⊎◌, ℕ, ◌-ℤ◌, pos, List, [], ◌∷◌, ◌++◌, OnOk, OnErr, is_ok, is_some, length, Some, None, if◌then◌else◌};
 ghost use Rattle.std.specs.Option.{SomeIff, ok_or};
 ghost use Rattle.xfrac.specs.Arithmetic.{mean_of, whole_number, quotient as quotient_of};
 ghost use Rattle.xfrac.specs.declared.value.XFrac.{XFrac};
-ghost use Rattle.xfrac.specs.Fractions.{limit, lowest};
+ghost use Rattle.xfrac.specs.Fractions.{limit, lowest, with_sign};
+ghost use Rattle.std.specs.Int.{IsGcd};
 ghost use Rattle.xfrac.specs.Sums.{StandsFor, alone, joined, fits, value_of, sum_of, with_part, upper, lower, denominator_of, part_above, part_below};
 
-use crate::divisors::{limited_multiple, limited_product, quotient};
+use crate::divisors::{limited_multiple, limited_product, quotient, shared_divisor};
 use crate::forming::lowest_terms;
 use crate::product::divide;
 use crate::value::{
@@ -232,6 +233,74 @@ impl SumAcc {
 
 /// The sum of two numbers.
 pub(crate) fn sum_of_two(a: &XFrac, b: &XFrac) -> Option<XFrac>
+    ensures { result ≡ sum_of (a.now ∷ b.now ∷ []) }
+{
+    match (a, b) {
+        (XFrac::Fin(x), XFrac::Fin(y)) => sum_of_fractions(x, y),
+        _ => sum_of_any(a, b),
+    }
+}
+
+/// The sum of two fractions, over the least common multiple of their denominators. Only what these share can divide the
+/// sum's numerator and that multiple.
+fn sum_of_fractions(x: &Frac, y: &Frac) -> Option<XFrac>
+    ensures { result ≡ sum_of (XFrac.Fin x.now ∷ XFrac.Fin y.now ∷ []) }
+{
+    let (negative, m, d) = x.split();
+    let (other_negative, n, e) = y.split();
+    let shared = shared_divisor(d, e);
+    let k = quotient(e, shared);
+    let l = quotient(d, shared);
+    let multiple = match limited_product(d, k) {
+        Some(multiple) => multiple,
+        None => return None,
+    };
+    let left = match limited_product(m, k) {
+        Some(left) => left,
+        None => return None,
+    };
+    let right = match limited_product(n, l) {
+        Some(right) => right,
+        None => return None,
+    };
+    if left + right > LIMIT {
+        return None;
+    }
+    let (below, total) = signed_sum(negative, left, other_negative, right);
+    Some(XFrac::Fin(reduced_by(below, total, multiple, shared)))
+}
+
+/// The sum of two magnitudes with their signs.
+fn signed_sum(negative: bool, a: u128, other_negative: bool, b: u128) -> (bool, u128)
+    requires { a + b ≤ limit }
+    ensures value { with_sign result.0 result.1 ≡ pos (upper negative a + upper other_negative b) -ℤ pos (lower negative a + lower other_negative b) }
+    ensures parts { (result.1 ≡ a + b) ⊎ ((result.1 + b ≡ a) ⊎ (result.1 + a ≡ b)) }
+    ensures within { result.1 ≤ limit }
+{
+    if negative == other_negative {
+        (negative, a + b)
+    } else if a < b {
+        (other_negative, b - a)
+    } else {
+        (negative, a - b)
+    }
+}
+
+/// The lowest terms of m/d, where what divides both divides `shared`.
+fn reduced_by(negative: bool, m: u128, d: u128, shared: u128) -> Frac
+    requires positive { 0 < d }
+    requires some { 0 < shared }
+    requires numerator_within { m ≤ limit }
+    requires denominator_within { d ≤ limit }
+    requires shared { (g : ℕ) → IsGcd m shared g → IsGcd m d g }
+    ensures { result ≡ lowest (with_sign negative m) d }
+{
+    let divisor = shared_divisor(m, shared);
+    Frac::with_parts(negative, quotient(m, divisor), quotient(d, divisor))
+}
+
+/// The sum of two numbers, by the totals of each.
+fn sum_of_any(a: &XFrac, b: &XFrac) -> Option<XFrac>
     ensures { result ≡ sum_of (a.now ∷ b.now ∷ []) }
 {
     let left = SumAcc::of(a);

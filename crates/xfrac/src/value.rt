@@ -95,6 +95,15 @@ impl Frac {
         (self.n < 0, self.n.unsigned_abs(), self.d)
     }
 
+    /// Whether both parts are the same.
+    pub(crate) fn is_same(&self, other: &Frac) -> bool
+        ensures same { IsTrue result ↔ (self.now ≡ other.now) }
+        ensures left { IsReduced (unsigned_abs self.now.0) self.now.1 }
+        ensures right { IsReduced (unsigned_abs other.now.0) other.now.1 }
+    {
+        self.n == other.n && self.d == other.d
+    }
+
     /// A law, with nothing to run: the fraction is in lowest terms and within the limits.
     pub(crate) fn is_reduced(&self)
         ensures { IsReduced (unsigned_abs self.now.0) self.now.1 }

@@ -2,7 +2,7 @@ use Rattle.std.proofs.Common.{◌≡◌, sym, ap, ◌∙◌, [], ◌∷◌}
 use Rattle.std.proofs.lemmas.Bool.{cond-false}
 use Rattle.xfrac.specs.Sums.{totals, fits, joined}
 use Rattle.xfrac.proofs.Totalling.{joined_totals, some_from_choice, none_from_choice}
-use Rattle.xfrac.proofs.sums.sum_of_two.Goals as goal
+use Rattle.xfrac.proofs.sums.sum_of_any.Goals as goal
 
 pub returns-in-Some : goal.returns-in-Some
 returns-in-Some c =
