@@ -10,3 +10,4 @@ pub mod Products
 pub mod Ratios
 pub mod Reduced
 pub mod Totalling
+pub mod Twos

@@ -31,17 +31,36 @@ fn common_divisor(a: u128, b: u128) -> u128
     common_divisor(b, a % b)
 }
 
+/// By differences of odd numbers, after the twos that both numbers have.
 fn small_common_divisor(a: u64, b: u64) -> u64
+    requires { 0 < b }
+    ensures { IsGcd a b result }
+{
+    if a == 0 {
+        return b;
+    }
+    let twos = a.trailing_zeros();
+    let other_twos = b.trailing_zeros();
+    if twos <= other_twos {
+        odd_common_divisor(b >> twos, a >> twos) << twos
+    } else {
+        odd_common_divisor(a >> other_twos, b >> other_twos) << other_twos
+    }
+}
+
+/// The greatest common divisor of a number and an odd one.
+fn odd_common_divisor(a: u64, b: u64) -> u64
+    requires { b % 2 ≡ 1 }
     ensures { IsGcd a b result }
 {
     let mut x = a;
     let mut y = b;
-    while y != 0 {
-        let rest = x % y;
-        x = y;
-        y = rest;
+    while x != 0 {
+        let odd = x >> x.trailing_zeros();
+        x = odd.abs_diff(y);
+        y = odd.min(y);
     }
-    x
+    y
 }
 
 /// The greatest common divisor of a number and a positive number, with nothing sought where they are equal or one is 1.
