@@ -2,6 +2,7 @@ pub mod Answered
 pub mod Bounds
 pub mod Caps
 pub mod Durations
+pub mod Ends
 pub mod Hexadecimals
 pub mod Lowest
 pub mod Numbers

@@ -1,5 +1,5 @@
 -- The one spelling of a number that is written. It is this project's own: a plain decimal where it ends, else a fraction.
-use Rattle.std.specs.Prelude.{ℕ, zero, suc, ◌+◌, ◌*◌, ◌/◌, ◌%◌, ◌^◌, ℤ, pos, negsuc, unsigned_abs, ◌≤ℤ◌, Bool, true, ◌==◌, if◌then◌else◌, List, [], ◌∷◌, ◌++◌, decimal, codes, ⊤}
+use Rattle.std.specs.Prelude.{◌≡◌, ℕ, zero, suc, ◌+◌, ◌*◌, ◌/◌, ◌%◌, ◌^◌, ℤ, pos, negsuc, unsigned_abs, ◌≤ℤ◌, Bool, true, ◌==◌, if◌then◌else◌, List, [], ◌∷◌, ◌++◌, decimal, codes, ⊤}
 use Rattle.xfrac.specs.declared.value.XFrac.{XFrac}
 use Rattle.xfrac.specs.declared.value.XFrac.TheVariants.{Fin, PosInf, NegInf, NaN}
 
@@ -15,6 +15,12 @@ tail r d = if r == 0 then [] else codes "." ++ places 100 r d
 -- the decimal places of r/d end, which they do by the 100th if they ever do
 abbrev pub ends : ℕ → ℕ → Bool
 ends r d = r * 10 ^ 100 % d == 0
+
+-- a number without a factor, as often as it divides it
+pub record IsStripped (factor whole rest : ℕ) : Type 0 where
+  pub times : ℕ
+  pub product : whole ≡ rest * factor ^ times
+  pub left : rest % factor ≡ 0 → ⊥
 
 -- m/d as a decimal where that ends, else as a fraction
 abbrev pub magnitude_text : ℕ → ℕ → List ℕ

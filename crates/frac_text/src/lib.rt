@@ -4,14 +4,16 @@
 mod decimal;
 mod digits;
 mod hexadecimal;
-mod law;
+mod laws;
 mod read;
 mod refusal;
 mod time;
 mod value;
 mod write;
 
-pub use law::{durations_are_times, spellings_are_numbers, times_are_told};
+pub use laws::{
+    decimals_end_by_the_hundredth, durations_are_times, spellings_are_numbers, times_are_told,
+};
 pub use read::{read_number, read_script_number};
 pub use refusal::{NumberRefusal, TimeRefusal};
 pub use std::alloc::AllocError as Memory;

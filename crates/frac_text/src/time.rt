@@ -1,6 +1,6 @@
 //! Readers of times.
 ghost use Rattle.frac_text.specs.Readings.{literal_answer};
-ghost use Rattle.frac_text.specs.Times.{IsBounded, amount_answer, amount_of, exact_quotient, is_negative, milliseconds_of, seconds_answer, time_answer, time_limit};
+ghost use Rattle.frac_text.specs.Times.{amount_answer, amount_of, exact_quotient, is_negative, milliseconds_of, seconds_answer, time_answer, time_limit};
 ghost use Rattle.xfrac.specs.Fractions.{with_sign};
 ghost use Rattle.std.specs.Prelude.{◌≡◌, ◌<◌, ◌≤◌, IfOk};
 
@@ -13,7 +13,6 @@ const TIME_LIMIT: u128 = 100_000_000_000_000;
 
 /// The milliseconds in a number of seconds, where they are a whole number.
 fn milliseconds_in(seconds: &XFrac) -> Option<u128>
-    requires { IsBounded seconds.now }
     ensures { result ≡ milliseconds_of seconds.now }
 {
     match seconds {

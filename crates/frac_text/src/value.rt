@@ -10,6 +10,9 @@ ghost use Rattle.xfrac.specs.Fractions.{limit};
 use crate::digits::{digit_count, split_digits, whole_number};
 use xfrac::{LIMIT, XFrac, of, parts};
 
+/// So many places make a denominator within the limit.
+const MOST_AT_ONCE: u128 = 30;
+
 /// A part of a number below 1, in lowest terms.
 #[derive(Clone, Copy)]
 pub struct Rest {
@@ -150,8 +153,34 @@ fn raised_value(text: &[u8], places: u128) -> Option<XFrac>
     }
 }
 
-/// The number of the digits with so many places after the point.
+/// The number of the digits with so many places after the point. Up to thirty places and digits are formed at once.
 fn lowered_value(text: &[u8], places: u128) -> Option<XFrac>
+    ensures { result ≡ formed (pos (number (digits_in text.now))) (10 ^ places) }
+{
+    if places > MOST_AT_ONCE {
+        return lowered_by_parts(text, places);
+    }
+    match whole_number(text) {
+        None => lowered_by_parts(text, places),
+        Some(n) => made(n, power_of_ten(places)),
+    }
+}
+
+fn power_of_ten(places: u128) -> u128
+    requires { places ≤ 30 }
+    ensures value { result ≡ 10 ^ places }
+    ensures positive { 0 < result }
+    ensures within { result ≤ limit }
+{
+    let mut power: u128 = 1;
+    for _ in 0..places {
+        power *= 10;
+    }
+    power
+}
+
+/// The same by parts, each within the limit.
+fn lowered_by_parts(text: &[u8], places: u128) -> Option<XFrac>
     ensures { result ≡ formed (pos (number (digits_in text.now))) (10 ^ places) }
 {
     let count = digit_count(text) as u128;

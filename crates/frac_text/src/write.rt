@@ -1,120 +1,152 @@
 //! The spelling of numbers.
-ghost use Rattle.frac_text.specs.Spellings.{ends, magnitude_text, places, sign, spelling, tail};
+ghost use Rattle.std.specs.Int.{IsGcd};
+ghost use Rattle.xfrac.specs.Fractions.{IsReduced};
+ghost use Rattle.frac_text.specs.Spellings.{IsStripped, ends, magnitude_text, places, sign, spelling, tail};
 ghost use Rattle.std.specs.Prelude.{◌≡◌, ◌<◌, ◌≤◌, ◌%◌, ◌/◌, ◌^◌, ◌++◌, codes, decimal, string_bytes, unsigned_abs, IfOk, OnOk, OnErr};
 
-use std::alloc::{AllocError, Global};
+use itoa::Buffer;
+use std::alloc::AllocError;
 use xfrac::{XFrac, parts};
 
-/// A number below 2^127 has at most so many decimal places, if they end.
+/// A number within the limits has at most so many decimal places, if they end.
 const MOST_PLACES: usize = 100;
 
-/// Whether the decimal places of r/d end.
+/// The room that a spelling has: a sign, 31 digits, a point and 100 places.
+const ROOM: usize = 160;
+
+const SMALL: u128 = 0xffff_ffff_ffff_ffff;
+
+/// Whether the decimal places of r/d end: where twos and fives are all that its denominator has.
 fn ends(r: u128, d: u128) -> bool
-    requires left { r < d }
+    requires positive { 0 < d }
     requires within { d ≤ 10 ^ 30 }
+    requires lowest { IsGcd r d 1 }
     ensures { result ≡ ends r d }
 {
-    if r == 0 {
-        return true;
-    }
-    let mut left = r;
-    for _ in 0..MOST_PLACES {
-        left = left * 10 % d;
-    }
-    left == 0
+    without_fives(without_twos(d)) == 1
 }
 
-/// The decimal places of r/d.
-fn places_text(alloc: Global, r: u128, d: u128) -> Result<Vec<u8>, AllocError>
+fn without_twos(d: u128) -> u128
+    requires { 0 < d }
+    ensures { IsStripped 2 d result }
+{
+    let mut rest = d;
+    while rest % 2 == 0 {
+        rest /= 2;
+    }
+    rest
+}
+
+fn without_fives(d: u128) -> u128
+    requires { 0 < d }
+    ensures { IsStripped 5 d result }
+{
+    let mut rest = d;
+    while fifth(rest) * 5 == rest {
+        rest = fifth(rest);
+    }
+    rest
+}
+
+/// A fifth, without what is left. Numbers below 2^64 are divided as such.
+fn fifth(n: u128) -> u128
+    ensures { result ≡ n / 5 }
+{
+    if n <= SMALL {
+        (n as u64 / 5) as u128
+    } else {
+        n / 5
+    }
+}
+
+/// The quotient and the rest of a division. Numbers below 2^64 are divided as such.
+fn divided(n: u128, d: u128) -> (u128, u128)
+    requires { 0 < d }
+    ensures quotient { result.0 ≡ n / d }
+    ensures rest { result.1 ≡ n % d }
+{
+    if n <= SMALL && d <= SMALL {
+        ((n as u64 / d as u64) as u128, (n as u64 % d as u64) as u128)
+    } else {
+        (n / d, n % d)
+    }
+}
+
+/// Adds the decimal places of r/d.
+fn add_places(text: &mut Vec<u8>, r: u128, d: u128) -> Result<(), AllocError>
     requires left { r < d }
     requires within { d ≤ 10 ^ 30 }
-    ensures { IfOk result (λ text. text.items ≡ places 100 r d) }
+    ensures { OnOk result (text.new.items ≡ text.old.items ++ places 100 r d) }
 {
-    let mut text = Vec::new(alloc);
     let mut left = r;
     for _ in 0..MOST_PLACES {
         if left == 0 {
-            return Ok(text);
+            return Ok(());
         }
-        text.extend_from_slice(&[b'0' + (left * 10 / d) as u8])?;
-        left = left * 10 % d;
+        let (digit, rest) = divided(left * 10, d);
+        text.push(b'0' + digit as u8)?;
+        left = rest;
     }
-    Ok(text)
+    Ok(())
 }
 
-fn add_decimal(alloc: Global, text: &mut Vec<u8>, n: u128) -> Result<(), AllocError>
+fn add_decimal(text: &mut Vec<u8>, n: u128) -> Result<(), AllocError>
     ensures { OnOk result (text.new.items ≡ text.old.items ++ decimal n) }
 {
-    let digits = format!(in alloc; "{n}")?;
-    text.extend_from_slice(digits.as_bytes())
+    let mut buffer = Buffer::new();
+    text.extend_from_slice(buffer.format(n).as_bytes())
 }
 
-/// What stands after the whole digits.
-fn tail_text(alloc: Global, r: u128, d: u128) -> Result<Vec<u8>, AllocError>
+/// Adds what stands after the whole digits.
+fn add_tail(text: &mut Vec<u8>, r: u128, d: u128) -> Result<(), AllocError>
     requires left { r < d }
     requires within { d ≤ 10 ^ 30 }
-    ensures { IfOk result (λ text. text.items ≡ tail r d) }
+    ensures { OnOk result (text.new.items ≡ text.old.items ++ tail r d) }
 {
     if r == 0 {
-        return Ok(Vec::new(alloc));
+        return Ok(());
     }
-    let places = places_text(alloc, r, d)?;
-    let mut text = Vec::from_slice(alloc, b".")?;
-    text.extend_from_slice(places.as_slice())?;
-    Ok(text)
+    text.push(b'.')?;
+    add_places(text, r, d)
 }
 
-fn decimal_text(alloc: Global, m: u128, d: u128) -> Result<Vec<u8>, AllocError>
-    requires positive { 0 < d }
+fn add_whole_and_tail(text: &mut Vec<u8>, whole: u128, r: u128, d: u128) -> Result<(), AllocError>
+    requires left { r < d }
     requires within { d ≤ 10 ^ 30 }
-    ensures { IfOk result (λ text. text.items ≡ decimal (m / d) ++ tail (m % d) d) }
+    ensures { OnOk result (text.new.items ≡ text.old.items ++ (decimal whole ++ tail r d)) }
 {
-    let tail = tail_text(alloc, m % d, d)?;
-    let mut text = Vec::new(alloc);
-    add_decimal(alloc, &mut text, m / d)?;
-    text.extend_from_slice(tail.as_slice())?;
-    Ok(text)
+    add_decimal(text, whole)?;
+    add_tail(text, r, d)
 }
 
-fn ratio_text(alloc: Global, m: u128, d: u128) -> Result<Vec<u8>, AllocError>
-    ensures { IfOk result (λ text. text.items ≡ decimal m ++ (codes "/" ++ decimal d)) }
+fn add_ratio(text: &mut Vec<u8>, m: u128, d: u128) -> Result<(), AllocError>
+    ensures { OnOk result (text.new.items ≡ text.old.items ++ (decimal m ++ (codes "/" ++ decimal d))) }
 {
-    let text = format!(in alloc; "{m}/{d}")?;
-    Vec::from_slice(alloc, text.as_bytes())
+    add_decimal(text, m)?;
+    text.push(b'/')?;
+    add_decimal(text, d)
 }
 
-fn magnitude_text(alloc: Global, m: u128, d: u128) -> Result<Vec<u8>, AllocError>
-    requires positive { 0 < d }
-    requires within { d ≤ 10 ^ 30 }
-    ensures { IfOk result (λ text. text.items ≡ magnitude_text m d) }
+fn add_magnitude(text: &mut Vec<u8>, m: u128, d: u128) -> Result<(), AllocError>
+    requires { IsReduced m d }
+    ensures { OnOk result (text.new.items ≡ text.old.items ++ magnitude_text m d) }
 {
-    if ends(m % d, d) {
-        decimal_text(alloc, m, d)
+    let (whole, rest) = divided(m, d);
+    if ends(rest, d) {
+        add_whole_and_tail(text, whole, rest, d)
     } else {
-        ratio_text(alloc, m, d)
+        add_ratio(text, m, d)
     }
 }
 
-fn fraction_text(alloc: Global, n: i128, d: u128) -> Result<Vec<u8>, AllocError>
-    requires positive { 0 < d }
-    requires within { d ≤ 10 ^ 30 }
-    ensures { IfOk result (λ text. text.items ≡ sign n ++ magnitude_text (unsigned_abs n) d) }
+fn add_fraction(text: &mut Vec<u8>, n: i128, d: u128) -> Result<(), AllocError>
+    requires { IsReduced (unsigned_abs n) d }
+    ensures { OnOk result (text.new.items ≡ text.old.items ++ (sign n ++ magnitude_text (unsigned_abs n) d)) }
 {
-    let magnitude = magnitude_text(alloc, n.unsigned_abs(), d)?;
     if n < 0 {
-        let mut text = Vec::from_slice(alloc, b"-")?;
-        text.extend_from_slice(magnitude.as_slice())?;
-        Ok(text)
-    } else {
-        Ok(magnitude)
+        text.push(b'-')?;
     }
-}
-
-/// The number itself, which shows that its parts are within the limits.
-fn copy_of(v: &XFrac) -> XFrac
-    ensures { result ≡ v.now }
-{
-    *v
+    add_magnitude(text, n.unsigned_abs(), d)
 }
 
 /// Writes the one spelling of a number at the end of a list: `+Inf`, `-Inf` or `NaN`; a plain decimal without needless
@@ -123,11 +155,11 @@ pub fn write_number(v: &XFrac, into: &mut Vec<u8>) -> Result<(), AllocError>
     ensures ok { OnOk result (into.new.items ≡ into.old.items ++ spelling v.now) }
     ensures err { OnErr result (into.new.items ≡ into.old.items) }
 {
-    let value = copy_of(v);
-    match &value {
+    match v {
         XFrac::Fin(fraction) => {
             let (n, d) = parts(fraction);
-            let text = fraction_text(*into.allocator(), n, d.unsigned_abs())?;
+            let mut text = Vec::with_capacity(*into.allocator(), ROOM)?;
+            add_fraction(&mut text, n, d.unsigned_abs())?;
             into.extend_from_slice(text.as_slice())
         }
         XFrac::PosInf => into.extend_from_slice(b"+Inf"),

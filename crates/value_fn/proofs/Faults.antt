@@ -13,10 +13,11 @@ use Rattle.xfrac.specs.declared.value.NumFault.{NumFault}
 use Rattle.xfrac.specs.declared.value.NumFault.TheVariants.{Overflow}
 use Rattle.xfrac.specs.declared.value.XFrac.{XFrac}
 use Rattle.xfrac.specs.declared.value.XFrac.TheVariants.{NaN}
-use Rattle.value_fn.specs.Elements.{and_then, half, rounded, clamped, element_of}
+use Rattle.xfrac.specs.Sequencing.{◌>>=◌}
+use Rattle.value_fn.specs.Elements.{half, rounded, clamped, element_of}
 
 -- what holds of the faults of a number and of what comes of it holds of the faults of both
-both : {T : Type 0} (P : NumFault → Type 0) (r : Result XFrac NumFault) (next : XFrac → Result T NumFault) → IfErr r P → ((x : XFrac) → IfErr (next x) P) → IfErr (and_then r next) P
+both : {T : Type 0} (P : NumFault → Type 0) (r : Result XFrac NumFault) (next : XFrac → Result T NumFault) → IfErr r P → ((x : XFrac) → IfErr (next x) P) → IfErr (r >>= next) P
 both P (Ok x) next here later = later x
 both P (Err e) next here later = here
 
@@ -27,7 +28,7 @@ overflow_alone P here (Some x) = tt
 -- rounding has no fault but Overflow
 rounding : (P : NumFault → Type 0) → P Overflow → (v to : XFrac) → IfErr (rounded v to) P
 rounding P here v to =
-    both P (arithmetic Div v to) (λ quotient. and_then (arithmetic Add quotient half) (λ shifted. arithmetic Mul (floor_of shifted) to))
+    both P (arithmetic Div v to) (λ quotient. arithmetic Add quotient half >>= λ shifted. arithmetic Mul (floor_of shifted) to)
     (overflow_alone P here _)
     (λ quotient. both P (arithmetic Add quotient half) (λ shifted. arithmetic Mul (floor_of shifted) to) (overflow_alone P here _) (λ shifted. overflow_alone P here _))
 
@@ -45,7 +46,7 @@ fault_is_overflow ClampMin v first second = tt
 fault_is_overflow ClampMax v first second = tt
 
 -- a number that is there, or a fault, is a row
-some_row : (r : Result XFrac NumFault) → and_then r (λ value. Ok (Some value)) ≡ Ok None → ⊥
+some_row : (r : Result XFrac NumFault) → (r >>= λ value. Ok (Some value)) ≡ Ok None → ⊥
 some_row (Ok x) e = cc
 some_row (Err fault) e = cc
 

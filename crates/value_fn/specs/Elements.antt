@@ -1,5 +1,5 @@
 -- The element functions. (The Prometheus querying documentation, on exact numbers: the order of the operations, and so where they overflow, is this project's own.)
-use Rattle.std.specs.Prelude.{◌≡◌, pos, ◌||◌, false, Option, Some, None, Result, Ok, Err, if◌then◌else◌}
+use Rattle.std.specs.Prelude.{◌≡◌, pos, ◌||◌, false, Option, Some, None, Result, Ok, if◌then◌else◌}
 use Rattle.std.specs.declared.cmp.Ordering.{Ordering}
 use Rattle.std.specs.declared.cmp.Ordering.TheVariants.{Less, Equal, Greater}
 use Rattle.func_table.specs.declared.table.Element.{Element}
@@ -8,16 +8,12 @@ use Rattle.xfrac.specs.Arithmetic.{arithmetic, whole_number}
 use Rattle.xfrac.specs.Forming.{negated, magnitude, floor_of, ceiling_of}
 use Rattle.xfrac.specs.Kinds.{is_not_a_number}
 use Rattle.xfrac.specs.Order.{compares, total_order}
+use Rattle.xfrac.specs.Sequencing.{◌>>=◌}
 use Rattle.xfrac.specs.declared.value.ArithOp.TheVariants.{Add, Mul, Div}
 use Rattle.xfrac.specs.declared.value.CompareOp.TheVariants.{Lt, Gt}
 use Rattle.xfrac.specs.declared.value.NumFault.{NumFault}
 use Rattle.xfrac.specs.declared.value.XFrac.{XFrac}
 use Rattle.xfrac.specs.declared.value.XFrac.TheVariants.{Fin, NaN}
-
--- what comes of a number once it is there; a fault stays
-abbrev pub and_then : {T : Type 0} → Result XFrac NumFault → (XFrac → Result T NumFault) → Result T NumFault
-and_then (Ok v) next = next v
-and_then (Err fault) next = Err fault
 
 -- ---- rounding
 
@@ -27,7 +23,9 @@ half = Fin (pos 1, 2)
 -- floor(v / to + 1/2) * to, an operation after the other: for a positive `to` its nearest multiple, the upper one of two
 abbrev pub rounded : XFrac → XFrac → Result XFrac NumFault
 rounded v to =
-    and_then (arithmetic Div v to) (λ quotient. and_then (arithmetic Add quotient half) (λ shifted. arithmetic Mul (floor_of shifted) to))
+    arithmetic Div v to >>= λ quotient.
+    arithmetic Add quotient half >>= λ shifted.
+    arithmetic Mul (floor_of shifted) to
 
 -- ---- signs
 
@@ -68,7 +66,7 @@ abbrev pub element_of : Element → XFrac → XFrac → XFrac → Result (Option
 element_of Abs v first second = Ok (Some (magnitude v))
 element_of Ceil v first second = Ok (Some (ceiling_of v))
 element_of Floor v first second = Ok (Some (floor_of v))
-element_of Round v first second = and_then (rounded v first) (λ value. Ok (Some value))
+element_of Round v first second = rounded v first >>= λ value. Ok (Some value)
 element_of Sgn v first second = Ok (Some (sign_number v))
 element_of Neg v first second = Ok (Some (negated v))
 element_of Clamp v first second = Ok (clamped v first second)

@@ -1,8 +1,9 @@
 -- The test of nearness on two products of natural numbers.
-use Rattle.std.proofs.Common.{◌≡◌, ℕ, ◌+◌, ◌-◌, ◌*◌, ◌<◌, ◌↔◌, zero, suc, arith, Bool, true, false, ◌||◌, nat_lt, ◌==◌}
-use Rattle.std.specs.Prelude.{ℤ, pos, negsuc, neg_ℤ, ◌-ℤ◌, ◌<ℤ◌, unsigned_abs}
+use Rattle.std.proofs.Common.{◌≡◌, ℕ, ◌+◌, ◌-◌, ◌*◌, ◌<◌, ◌↔◌, zero, suc, arith, Bool, true, false, ◌||◌, nat_lt, ◌==◌, refl, subst}
+use Rattle.std.specs.Prelude.{ℤ, pos, negsuc, neg_ℤ, ◌-ℤ◌, ◌<ℤ◌, ◌*ℤ◌, unsigned_abs}
 use Rattle.std.proofs.lemmas.Int.{ints}
 use Rattle.std.proofs.lemmas.Bool.Decides.{nat_tests}
+use Rattle.std.proofs.lemmas.Bool.{eq-eqb, false≢true}
 use Rattle.xfrac.specs.Near.{are_near}
 
 between : (x y : ℕ) → unsigned_abs (pos x -ℤ pos y) ≡ (x - y) + (y - x)
@@ -57,3 +58,16 @@ far_apart (pos a) (negsuc b) d e p q f h =
     unlike (a * e) (suc b * d) _ (across (a * e) (suc b * d)) (sum_positive a (suc b) d e p q h)
 far_apart (negsuc a) (pos b) d e p q f h =
     unlike (suc a * e) (b * d) _ (across_below (suc a * e) (b * d)) (sum_positive (suc a) b d e p q h)
+
+-- a fraction is near itself
+pub near_itself : (a b : ℤ × ℕ) → a ≡ b → are_near a b ≡ true
+near_itself a b e = subst (λ z. are_near a z ≡ true) e (nothing (a.0 *ℤ pos a.1))
+  where
+    or_from_left : (x y : Bool) → x ≡ true → (x || y) ≡ true
+    or_from_left true y h = refl
+    or_from_left false y h = absurd (false≢true h)
+
+    nothing : (x : ℤ) → (unsigned_abs (x -ℤ x) == 0 || nat_lt (unsigned_abs (x -ℤ x) * 1000000) (unsigned_abs a.0 * a.1 + unsigned_abs a.0 * a.1)) ≡ true
+    nothing x =
+        let zero : unsigned_abs (x -ℤ x) ≡ 0 = omega (arith, ints) in
+        or_from_left _ _ (eq-eqb _ _ zero)

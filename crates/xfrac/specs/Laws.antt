@@ -1,5 +1,5 @@
 -- What users rely on of sums, nearness and the order. (This project's own.)
-use Rattle.std.specs.Prelude.{◌≡◌, ℕ, ◌<◌, ◌≤◌, ◌+◌, ℤ, pos, ◌*ℤ◌, List, ◌++◌, None, unsigned_abs}
+use Rattle.std.specs.Prelude.{◌≡◌, ℕ, ◌<◌, ◌≤◌, ◌+◌, ℤ, pos, ◌*ℤ◌, List, [], ◌∷◌, ◌++◌, None, unsigned_abs}
 use Rattle.std.specs.Int.{IsGcd}
 use Rattle.std.specs.List.{All}
 use Rattle.std.specs.List.Sorted.{IsPermutation}
@@ -8,7 +8,7 @@ use Rattle.std.specs.Ordering.{ordering_reverse}
 use Rattle.xfrac.specs.Fractions.{IsReduced, lowest}
 use Rattle.xfrac.specs.Near.{is_near}
 use Rattle.xfrac.specs.Order.{total_order}
-use Rattle.xfrac.specs.Sums.{totals, sum_of}
+use Rattle.xfrac.specs.Sums.{Totals, StandsFor, alone, joined, totals, sum_of}
 use Rattle.xfrac.specs.declared.value.XFrac.{XFrac}
 use Rattle.xfrac.specs.declared.value.XFrac.TheVariants.{Fin}
 
@@ -20,6 +20,14 @@ IsNumber _ = Unit {0}
 -- a sum doesn't depend on the order of its list
 abbrev pub SumIgnoresOrder : Type 0
 SumIgnoresOrder = (xs ys : List XFrac) → All IsNumber xs → IsPermutation xs ys → sum_of ys ≡ sum_of xs
+
+-- joined totals stand for both lists together, and the totals of one number for that number
+abbrev pub JoinedStandsForBoth : Type 0
+JoinedStandsForBoth =
+    (a b : Totals) (xs ys : List XFrac) → 0 < a.multiple → 0 < b.multiple → StandsFor a xs → StandsFor b ys → StandsFor (joined a b) (xs ++ ys)
+
+abbrev pub AloneStandsForOne : Type 0
+AloneStandsForOne = (x : XFrac) → IsNumber x → StandsFor (alone x) (x ∷ [])
 
 -- neither the common denominator nor the sum of the magnitudes falls when a list grows
 abbrev pub TotalsNeverFall : Type 0

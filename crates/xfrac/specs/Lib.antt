@@ -7,3 +7,4 @@ pub mod Laws
 pub mod Near
 pub mod Order
 pub mod Sums
+pub mod Sequencing

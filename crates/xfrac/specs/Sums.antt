@@ -57,6 +57,19 @@ totals xs =
       count = length xs;
     }
 
+-- the totals of one number
+abbrev pub alone : XFrac → Totals
+alone x =
+    record {
+      multiple = denominator_of x;
+      above = part_above x;
+      below = part_below x;
+      has_positive_infinity = is_positive_infinity x;
+      has_negative_infinity = is_negative_infinity x;
+      has_nan = is_not_a_number x;
+      count = 1;
+    }
+
 -- what is kept of a sum stands for this list
 abbrev pub StandsFor : Totals → List XFrac → Type 0
 StandsFor t xs = t ≡ totals xs
@@ -89,6 +102,26 @@ joined a b =
       has_negative_infinity = a.has_negative_infinity || b.has_negative_infinity;
       has_nan = a.has_nan || b.has_nan;
       count = a.count + b.count;
+    }
+
+-- a magnitude that a sign puts above 0 or below it
+abbrev pub upper : Bool → ℕ → ℕ
+upper negative m = if negative then 0 else m
+
+abbrev pub lower : Bool → ℕ → ℕ
+lower negative m = if negative then m else 0
+
+-- the totals with one more numerator over their common denominator
+abbrev pub with_part : Totals → Bool → ℕ → Totals
+with_part t negative part =
+    record {
+      multiple = t.multiple;
+      above = t.above + upper negative part;
+      below = t.below + lower negative part;
+      has_positive_infinity = t.has_positive_infinity;
+      has_negative_infinity = t.has_negative_infinity;
+      has_nan = t.has_nan;
+      count = t.count + 1;
     }
 
 -- totals that are held: within the limits, of fewer than 2^96 numbers

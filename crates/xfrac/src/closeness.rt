@@ -23,6 +23,9 @@ pub fn near(a: &XFrac, b: &XFrac) -> bool
 fn near_fractions(a: &Frac, b: &Frac) -> bool
     ensures { result ≡ are_near a.now b.now }
 {
+    if a.is_same(b) {
+        return true;
+    }
     let (m, d) = (a.magnitude(), a.denominator());
     let (n, e) = (b.magnitude(), b.denominator());
     if m == 0 && n == 0 {

@@ -13,6 +13,7 @@ const SMALL: u128 = 0xffff_ffff_ffff_ffff;
 pub fn gcd(a: u128, b: u128) -> u128
     requires { 0 < b }
     ensures value { result ≡ gcd_of a b }
+    ensures greatest { IsGcd a b result }
     ensures positive { 0 < result }
 {
     common_divisor(a, b)
@@ -30,17 +31,53 @@ fn common_divisor(a: u128, b: u128) -> u128
     common_divisor(b, a % b)
 }
 
+/// By differences of odd numbers, after the twos that both numbers have.
 fn small_common_divisor(a: u64, b: u64) -> u64
+    requires { 0 < b }
+    ensures { IsGcd a b result }
+{
+    if a == 0 {
+        return b;
+    }
+    let twos = a.trailing_zeros();
+    let other_twos = b.trailing_zeros();
+    if twos <= other_twos {
+        odd_common_divisor(b >> twos, a >> twos) << twos
+    } else {
+        odd_common_divisor(a >> other_twos, b >> other_twos) << other_twos
+    }
+}
+
+/// The greatest common divisor of a number and an odd one.
+fn odd_common_divisor(a: u64, b: u64) -> u64
+    requires { b % 2 ≡ 1 }
     ensures { IsGcd a b result }
 {
     let mut x = a;
     let mut y = b;
-    while y != 0 {
-        let rest = x % y;
-        x = y;
-        y = rest;
+    while x != 0 {
+        let odd = x >> x.trailing_zeros();
+        x = odd.abs_diff(y);
+        y = odd.min(y);
     }
-    x
+    y
+}
+
+/// The greatest common divisor of a number and a positive number, with nothing sought where they are equal or one is 1.
+pub fn shared_divisor(a: u128, b: u128) -> u128
+    requires { 0 < b }
+    ensures value { IsGcd a b result }
+    ensures positive { 0 < result }
+{
+    if a == b {
+        b
+    } else if b == 1 {
+        1
+    } else if a == 1 {
+        1
+    } else {
+        gcd(a, b)
+    }
 }
 
 /// The quotient of two numbers. Numbers below 2^64 are divided as such.
@@ -50,6 +87,8 @@ pub fn quotient(a: u128, b: u128) -> u128
 {
     if b == 1 {
         a
+    } else if a == b {
+        1
     } else if a <= SMALL && b <= SMALL {
         (a as u64 / b as u64) as u128
     } else {

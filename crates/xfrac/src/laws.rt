@@ -1,9 +1,27 @@
 //! Laws of numbers that users rely on. The functions do nothing: each stands for what its contract says.
-ghost use Rattle.xfrac.specs.Laws.{SumIgnoresOrder, TotalsNeverFall, PartOverflowsWhole, NearIsSymmetric, EqualIsSame, OrderIsReflexive, OrderIsReversed, LessIsTransitive, LowestIsEqual, LowestIsReduced};
+ghost use Rattle.xfrac.specs.Laws.{IsNumber, SumIgnoresOrder, JoinedStandsForBoth, AloneStandsForOne, TotalsNeverFall, PartOverflowsWhole, NearIsSymmetric, EqualIsSame, OrderIsReflexive, OrderIsReversed, LessIsTransitive, LowestIsEqual, LowestIsReduced};
+
+use crate::value::XFrac;
+
+/// A number of the type keeps its limits: its fraction is in lowest terms, and neither part is above the limit. A loop
+/// over a slice calls it at each item, since nothing else tells it of them.
+pub fn is_number(v: &XFrac)
+    ensures { IsNumber v.now }
+{
+    if let XFrac::Fin(fraction) = v {
+        fraction.is_reduced();
+    }
+}
 
 /// A sum doesn't depend on the order of its list.
 pub fn sum_ignores_order()
     ensures { SumIgnoresOrder }
+{}
+
+/// What `SumAcc::merge` and `SumAcc::add` make stands for the longer list, where what they were given stands for a list.
+pub fn joined_sums_stand_for_both()
+    ensures joined { JoinedStandsForBoth }
+    ensures alone { AloneStandsForOne }
 {}
 
 /// Totals never fall when a list grows, so a part that overflows makes the whole overflow.

@@ -1,4 +1,5 @@
 //! The order of numbers, and the comparison operators.
+ghost use Rattle.std.specs.Ordering.{is_eq};
 ghost use Rattle.std.specs.Prelude.{◌≡◌, IsTrue};
 ghost use Rattle.xfrac.specs.Order.{fraction_order, total_order, rank, holds_at, holds_of_nan, compares};
 
@@ -13,8 +14,28 @@ pub fn compare(op: CompareOp, a: &XFrac, b: &XFrac) -> bool
     if is_nan(a) || is_nan(b) {
         matches!(op, CompareOp::Ne)
     } else {
-        holds(op, cmp_total(a, b))
+        match op {
+            CompareOp::Eq => are_equal(a, b),
+            CompareOp::Ne => !are_equal(a, b),
+            _ => holds(op, cmp_total(a, b)),
+        }
     }
+}
+
+/// Whether neither number is above the other: of fractions in lowest terms, that both parts are the same.
+fn are_equal(a: &XFrac, b: &XFrac) -> bool
+    ensures { result ≡ is_eq (total_order a.now b.now) }
+{
+    match (a, b) {
+        (XFrac::Fin(x), XFrac::Fin(y)) => are_equal_fractions(x, y),
+        _ => place(a) == place(b),
+    }
+}
+
+fn are_equal_fractions(a: &Frac, b: &Frac) -> bool
+    ensures { result ≡ is_eq (fraction_order a.now b.now) }
+{
+    a.is_same(b)
 }
 
 /// The total order: -Inf, the fractions, +Inf, NaN.

@@ -4,15 +4,29 @@ ghost use Rattle.std.specs.Prelude.{◌≡◌, ◌<◌, ◌*◌, ◌↔◌, IsTr
 
 use std::cmp::Ordering;
 
-/// How a/b stands to c/d.
+/// How a/b stands to c/d. Over one denominator no product is formed.
 pub fn order(a: u128, b: u128, c: u128, d: u128) -> Ordering
     requires left { 0 < b }
     requires right { 0 < d }
     ensures { result ≡ nat_cmp (a * d) (c * b) }
 {
-    if is_less(a, b, c, d) {
+    if b == d {
+        return a.cmp(&c);
+    }
+    if let (Some(left), Some(right)) = (a.checked_mul(d), c.checked_mul(b)) {
+        return left.cmp(&right);
+    }
+    order_by_parts(a, b, c, d)
+}
+
+fn order_by_parts(a: u128, b: u128, c: u128, d: u128) -> Ordering
+    requires left { 0 < b }
+    requires right { 0 < d }
+    ensures { result ≡ nat_cmp (a * d) (c * b) }
+{
+    if is_less_by_parts(a, b, c, d) {
         Ordering::Less
-    } else if is_less(c, d, a, b) {
+    } else if is_less_by_parts(c, d, a, b) {
         Ordering::Greater
     } else {
         Ordering::Equal

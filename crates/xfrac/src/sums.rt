@@ -1,12 +1,13 @@
 //! The sum of a list of numbers, kept as it grows.
-ghost use Rattle.std.specs.Prelude.{◌≡◌, ◌<◌, ◌≤◌, ◌+◌, ◌*◌, ◌^◌, ◌-ℤ◌, pos, List, [], ◌∷◌, ◌++◌, OnOk, OnErr, is_ok, is_some, length, Some, None, if◌then◌else◌};
+ghost use Rattle.std.specs.Prelude.{◌≡◌, ◌<◌, ◌≤◌, ◌+◌, ◌*◌, ◌^◌, ◌⊎◌, ℕ, ◌-ℤ◌, pos, List, [], ◌∷◌, ◌++◌, OnOk, OnErr, is_ok, is_some, length, Some, None, if◌then◌else◌};
 ghost use Rattle.std.specs.Option.{SomeIff, ok_or};
 ghost use Rattle.xfrac.specs.Arithmetic.{mean_of, whole_number, quotient as quotient_of};
 ghost use Rattle.xfrac.specs.declared.value.XFrac.{XFrac};
-ghost use Rattle.xfrac.specs.Fractions.{limit, lowest};
-ghost use Rattle.xfrac.specs.Sums.{StandsFor, joined, fits, value_of, sum_of, denominator_of, part_above, part_below};
+ghost use Rattle.xfrac.specs.Fractions.{limit, lowest, with_sign};
+ghost use Rattle.std.specs.Int.{IsGcd};
+ghost use Rattle.xfrac.specs.Sums.{StandsFor, alone, joined, fits, value_of, sum_of, with_part, upper, lower, denominator_of, part_above, part_below};
 
-use crate::divisors::{limited_multiple, limited_product, quotient};
+use crate::divisors::{limited_multiple, limited_product, quotient, shared_divisor};
 use crate::forming::lowest_terms;
 use crate::product::divide;
 use crate::value::{
@@ -58,6 +59,7 @@ impl SumAcc {
 
     /// The sum of one number.
     fn of(v: &XFrac) -> SumAcc
+        ensures alone { result ≡ alone v.now }
         ensures value { StandsFor result (v.now ∷ []) }
         ensures count { result.count ≡ 1 }
     {
@@ -74,22 +76,79 @@ impl SumAcc {
     }
 
     /// Adds `v` to the list. `Overflow` comes exactly where the longer list has no sum, and then nothing
-    /// is changed.
+    /// is changed. Where its denominator divides the common one, as that of each whole number does, no common divisor is
+    /// sought.
     pub fn add(&mut self, v: &XFrac) -> Result<(), Overflow>
         requires { self.old.count + 1 < 2 ^ 96 }
+        ensures told { is_ok result ≡ fits (joined self.old (alone v.now)) }
+        ensures total { OnOk result (self.new ≡ joined self.old (alone v.now)) }
         ensures appended { (xs : List XFrac) → StandsFor self.old xs → OnOk result (StandsFor self.new (xs ++ v.now ∷ [])) }
         ensures overflow { (xs : List XFrac) → StandsFor self.old xs → is_ok result ≡ is_some (sum_of (xs ++ v.now ∷ [])) }
         ensures counted { OnOk result (self.new.count ≡ self.old.count + 1) }
         ensures unchanged { OnErr result (self.new ≡ self.old) }
     {
-        let one = SumAcc::of(v);
-        self.merge(&one)
+        self.add_any(v)
+    }
+
+    fn add_any(&mut self, v: &XFrac) -> Result<(), Overflow>
+        requires { self.old.count + 1 < 2 ^ 96 }
+        ensures told { is_ok result ≡ fits (joined self.old (alone v.now)) }
+        ensures total { OnOk result (self.new ≡ joined self.old (alone v.now)) }
+        ensures unchanged { OnErr result (self.new ≡ self.old) }
+        ensures positive { 0 < self.old.multiple }
+        ensures whole { 0 < denominator_of v.now }
+    {
+        let _ = &self.count;
+        match v {
+            XFrac::Fin(f) => self.add_fraction(f),
+            _ => self.merge(&SumAcc::of(v)),
+        }
+    }
+
+    fn add_fraction(&mut self, f: &Frac) -> Result<(), Overflow>
+        requires { self.old.count + 1 < 2 ^ 96 }
+        ensures told { is_ok result ≡ fits (joined self.old (alone (XFrac.Fin f.now))) }
+        ensures total { OnOk result (self.new ≡ joined self.old (alone (XFrac.Fin f.now))) }
+        ensures unchanged { OnErr result (self.new ≡ self.old) }
+        ensures whole { 0 < f.now.1 }
+    {
+        let (negative, m, d) = f.split();
+        let k = quotient(self.multiple, d);
+        if k * d == self.multiple {
+            self.add_part(negative, m, k)
+        } else {
+            self.merge(&SumAcc::of(&XFrac::Fin(*f)))
+        }
+    }
+
+    /// Adds a numerator m that goes k times into the common denominator's terms.
+    fn add_part(&mut self, negative: bool, m: u128, k: u128) -> Result<(), Overflow>
+        requires few { self.old.count + 1 < 2 ^ 96 }
+        requires within { m ≤ limit }
+        ensures told { is_ok result ≡ fits (with_part self.old negative (m * k)) }
+        ensures total { OnOk result (self.new ≡ with_part self.old negative (m * k)) }
+        ensures unchanged { OnErr result (self.new ≡ self.old) }
+    {
+        match limited_product(m, k) {
+            Some(part) if self.above + self.below + part <= LIMIT => {
+                if negative {
+                    self.below += part;
+                } else {
+                    self.above += part;
+                }
+                self.count += 1;
+                Ok(())
+            }
+            _ => Err(Overflow),
+        }
     }
 
     /// Joins the other list to this one. `Overflow` comes exactly where the joint list has no sum, and
     /// then nothing is changed.
     pub fn merge(&mut self, other: &SumAcc) -> Result<(), Overflow>
         requires { self.old.count + other.now.count < 2 ^ 96 }
+        ensures told { is_ok result ≡ fits (joined self.old other.now) }
+        ensures total { OnOk result (self.new ≡ joined self.old other.now) }
         ensures appended { (xs ys : List XFrac) → StandsFor self.old xs → StandsFor other.now ys
             → OnOk result (StandsFor self.new (xs ++ ys)) }
         ensures overflow { (xs ys : List XFrac) → StandsFor self.old xs → StandsFor other.now ys
@@ -174,6 +233,74 @@ impl SumAcc {
 
 /// The sum of two numbers.
 pub(crate) fn sum_of_two(a: &XFrac, b: &XFrac) -> Option<XFrac>
+    ensures { result ≡ sum_of (a.now ∷ b.now ∷ []) }
+{
+    match (a, b) {
+        (XFrac::Fin(x), XFrac::Fin(y)) => sum_of_fractions(x, y),
+        _ => sum_of_any(a, b),
+    }
+}
+
+/// The sum of two fractions, over the least common multiple of their denominators. Only what these share can divide the
+/// sum's numerator and that multiple.
+fn sum_of_fractions(x: &Frac, y: &Frac) -> Option<XFrac>
+    ensures { result ≡ sum_of (XFrac.Fin x.now ∷ XFrac.Fin y.now ∷ []) }
+{
+    let (negative, m, d) = x.split();
+    let (other_negative, n, e) = y.split();
+    let shared = shared_divisor(d, e);
+    let k = quotient(e, shared);
+    let l = quotient(d, shared);
+    let multiple = match limited_product(d, k) {
+        Some(multiple) => multiple,
+        None => return None,
+    };
+    let left = match limited_product(m, k) {
+        Some(left) => left,
+        None => return None,
+    };
+    let right = match limited_product(n, l) {
+        Some(right) => right,
+        None => return None,
+    };
+    if left + right > LIMIT {
+        return None;
+    }
+    let (below, total) = signed_sum(negative, left, other_negative, right);
+    Some(XFrac::Fin(reduced_by(below, total, multiple, shared)))
+}
+
+/// The sum of two magnitudes with their signs.
+fn signed_sum(negative: bool, a: u128, other_negative: bool, b: u128) -> (bool, u128)
+    requires { a + b ≤ limit }
+    ensures value { with_sign result.0 result.1 ≡ pos (upper negative a + upper other_negative b) -ℤ pos (lower negative a + lower other_negative b) }
+    ensures parts { (result.1 ≡ a + b) ⊎ ((result.1 + b ≡ a) ⊎ (result.1 + a ≡ b)) }
+    ensures within { result.1 ≤ limit }
+{
+    if negative == other_negative {
+        (negative, a + b)
+    } else if a < b {
+        (other_negative, b - a)
+    } else {
+        (negative, a - b)
+    }
+}
+
+/// The lowest terms of m/d, where what divides both divides `shared`.
+fn reduced_by(negative: bool, m: u128, d: u128, shared: u128) -> Frac
+    requires positive { 0 < d }
+    requires some { 0 < shared }
+    requires numerator_within { m ≤ limit }
+    requires denominator_within { d ≤ limit }
+    requires shared { (g : ℕ) → IsGcd m shared g → IsGcd m d g }
+    ensures { result ≡ lowest (with_sign negative m) d }
+{
+    let divisor = shared_divisor(m, shared);
+    Frac::with_parts(negative, quotient(m, divisor), quotient(d, divisor))
+}
+
+/// The sum of two numbers, by the totals of each.
+fn sum_of_any(a: &XFrac, b: &XFrac) -> Option<XFrac>
     ensures { result ≡ sum_of (a.now ∷ b.now ∷ []) }
 {
     let left = SumAcc::of(a);

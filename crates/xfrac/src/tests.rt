@@ -17,12 +17,6 @@ const ABOVE_TOP: i128 = 1_000_000_000_000_000_000_000_000_000_001;
 
 const HALF: i128 = 500_000_000_000_000_000_000_000_000_000;
 
-const ABOVE_HALF: i128 = 500_000_000_000_000_000_000_000_000_001;
-
-const ROOT: i128 = 1_000_000_000_000_000;
-
-const ABOVE_ROOT: i128 = 1_000_000_000_000_001;
-
 /// The fraction n/d; over 0 an infinity, or NaN.
 fn value(pair: (i128, i128)) -> XFrac {
     let (n, d) = pair;
@@ -203,110 +197,107 @@ fn forming(rt: HostRuntime) -> Result<(), Fail> {
     Ok(())
 }
 
+/// A number a line, and what neg, abs, floor and ceil give.
+const ROUNDING: &str = "-7/2 7/2 7/2 -4/1 -3/1
+7/2 -7/2 7/2 3/1 4/1
+5/1 -5/1 5/1 5/1 5/1
+-5/1 5/1 5/1 -5/1 -5/1
+-1/1000000000000000000000000000000 1/1000000000000000000000000000000 1/1000000000000000000000000000000 -1/1 0/1
+999999999999999999999999999999/1000000000000000000000000000000 -999999999999999999999999999999/1000000000000000000000000000000 999999999999999999999999999999/1000000000000000000000000000000 0/1 1/1
+1000000000000000000000000000000/3 -1000000000000000000000000000000/3 1000000000000000000000000000000/3 333333333333333333333333333333/1 333333333333333333333333333334/1
+-1000000000000000000000000000000/1 1000000000000000000000000000000/1 1000000000000000000000000000000/1 -1000000000000000000000000000000/1 -1000000000000000000000000000000/1
+inf -inf inf inf inf
+-inf inf inf -inf -inf
+nan nan nan nan nan";
+
+/// Two numbers a line, and whether they are near.
+const NEARNESS: &str = "1/3 333333/1000000 near
+1/3 33333/100000 far
+999999/1 1000001/1 far
+999999/1 1000000/1 near
+142857/1 1000001/7 far
+-142857/1 -1000001/7 far
+-142857/1 -1000000/7 near
+1000000000000000000000000000000/1 999998000001999998000001999998/1 far
+1000000000000000000000000000000/1 999998000001999998000001999999/1 near
+1/1000000000000000000000000000000 1/999999999999999999999999999999 near
+1/1000000000000000000000000000000 -1/1000000000000000000000000000000 far
+0/1 1/1000000000000000000000000000000 far
+0/1 0/1 near
+inf inf near
+inf -inf far
+inf 1000000000000000000000000000000/1 far
+nan nan near
+nan inf far";
+
+/// Numbers in rising order.
+const RISING: &str = "-inf
+-1000000000000000000000000000000/1
+-1/2
+-1/3
+-1/1000000000000000000000000000000
+0/1
+1/1000000000000000000000000000000
+1/999999999999999999999999999999
+333333/1000000
+1/3
+999999999999999999999999999999/1000000000000000000000000000000
+1/1
+1000000000000000000000000000000/999999999999999999999999999999
+1000000000000000000000000000000/1
+inf";
+
 #[test]
-fn signs_and_rounding(rt: HostRuntime) {
-    let rows = [
-        ((-7, 2), (7, 2), (7, 2), (-4, 1), (-3, 1)),
-        ((7, 2), (-7, 2), (7, 2), (3, 1), (4, 1)),
-        ((5, 1), (-5, 1), (5, 1), (5, 1), (5, 1)),
-        ((-5, 1), (5, 1), (5, 1), (-5, 1), (-5, 1)),
-        ((-1, TOP), (1, TOP), (1, TOP), (-1, 1), (0, 1)),
-        (
-            (BELOW_TOP, TOP),
-            (-BELOW_TOP, TOP),
-            (BELOW_TOP, TOP),
-            (0, 1),
-            (1, 1),
-        ),
-        (
-            (TOP, 3),
-            (-TOP, 3),
-            (TOP, 3),
-            (333_333_333_333_333_333_333_333_333_333, 1),
-            (333_333_333_333_333_333_333_333_333_334, 1),
-        ),
-        ((-TOP, 1), (TOP, 1), (TOP, 1), (-TOP, 1), (-TOP, 1)),
-        ((1, 0), (-1, 0), (1, 0), (1, 0), (1, 0)),
-        ((-1, 0), (1, 0), (1, 0), (-1, 0), (-1, 0)),
-        ((0, 0), (0, 0), (0, 0), (0, 0), (0, 0)),
-    ];
-    for (a, negated, magnitude, below, above) in rows {
-        assert_eq!(rt; neg(&value(a)), value(negated), "neg {a:?}");
-        assert_eq!(rt; abs(&value(a)), value(magnitude), "abs {a:?}");
-        assert_eq!(rt; floor(&value(a)), value(below), "floor {a:?}");
-        assert_eq!(rt; ceil(&value(a)), value(above), "ceil {a:?}");
+fn rounding_and_nearness(rt: HostRuntime) -> Result<(), Fail> {
+    for line in ROUNDING.lines() {
+        let mut words = line.split_whitespace();
+        let a = read(words.next().ok_or("no number")?)?;
+        let negated = read(words.next().ok_or("no negated number")?)?;
+        let magnitude = read(words.next().ok_or("no magnitude")?)?;
+        let below = read(words.next().ok_or("no floor")?)?;
+        let above = read(words.next().ok_or("no ceiling")?)?;
+        assert_eq!(rt; (neg(&a), abs(&a)), (negated, magnitude), "{line}");
+        assert_eq!(rt; (floor(&a), ceil(&a)), (below, above), "{line}");
     }
+    for line in NEARNESS.lines() {
+        let mut words = line.split_whitespace();
+        let a = read(words.next().ok_or("no left number")?)?;
+        let b = read(words.next().ok_or("no right number")?)?;
+        let wanted = words.next().ok_or("no answer")? == "near";
+        assert_eq!(rt; (near(&a, &b), near(&b, &a)), (wanted, wanted), "{line}");
+    }
+    Ok(())
 }
 
 #[test]
-fn nearness(rt: HostRuntime) {
-    let rows = [
-        ((1, 3), (333_333, 1_000_000), true),
-        ((1, 3), (33_333, 100_000), false),
-        ((999_999, 1), (1_000_001, 1), false),
-        ((999_999, 1), (1_000_000, 1), true),
-        ((999_999, 7), (1_000_001, 7), false),
-        ((-999_999, 7), (-1_000_001, 7), false),
-        ((-999_999, 7), (-1_000_000, 7), true),
-        (
-            (TOP, 1),
-            (999_998_000_001_999_998_000_001_999_998, 1),
-            false,
-        ),
-        ((TOP, 1), (999_998_000_001_999_998_000_001_999_999, 1), true),
-        ((1, TOP), (1, BELOW_TOP), true),
-        ((1, TOP), (-1, TOP), false),
-        ((0, 1), (1, TOP), false),
-        ((0, 1), (0, 1), true),
-        ((1, 0), (1, 0), true),
-        ((1, 0), (-1, 0), false),
-        ((1, 0), (TOP, 1), false),
-        ((0, 0), (0, 0), true),
-        ((0, 0), (1, 0), false),
-    ];
-    for (a, b, wanted) in rows {
-        assert_eq!(rt; near(&value(a), &value(b)), wanted, "{a:?} {b:?}");
-        assert_eq!(rt; near(&value(b), &value(a)), wanted, "{b:?} {a:?}");
-    }
-}
-
-#[test]
-fn order(rt: HostRuntime) {
-    let rising = [
-        (-1, 0),
-        (-TOP, 1),
-        (-1, 2),
-        (-1, 3),
-        (-1, TOP),
-        (0, 1),
-        (1, TOP),
-        (1, BELOW_TOP),
-        (333_333, 1_000_000),
-        (1, 3),
-        (BELOW_TOP, TOP),
-        (1, 1),
-        (TOP, BELOW_TOP),
-        (TOP, 1),
-        (1, 0),
-    ];
-    for (i, a) in rising.iter().enumerate() {
-        for (j, b) in rising.iter().enumerate() {
-            let (x, y) = (value(*a), value(*b));
-            assert_eq!(rt; cmp_total(&x, &y), i.cmp(&j), "{a:?} {b:?}");
-            assert_eq!(rt; compare(CompareOp::Lt, &x, &y), i < j, "{a:?} {b:?}");
-            assert_eq!(rt; compare(CompareOp::Le, &x, &y), i <= j, "{a:?} {b:?}");
-            assert_eq!(rt; compare(CompareOp::Eq, &x, &y), i == j, "{a:?} {b:?}");
-            assert_eq!(rt; compare(CompareOp::Ne, &x, &y), i != j, "{a:?} {b:?}");
-            assert_eq!(rt; compare(CompareOp::Gt, &x, &y), i > j, "{a:?} {b:?}");
-            assert_eq!(rt; compare(CompareOp::Ge, &x, &y), i >= j, "{a:?} {b:?}");
+fn order(rt: HostRuntime) -> Result<(), Fail> {
+    for (i, left) in RISING.lines().enumerate() {
+        let x = read(left)?;
+        for (j, right) in RISING.lines().enumerate() {
+            let y = read(right)?;
+            let found = (
+                compare(CompareOp::Lt, &x, &y),
+                compare(CompareOp::Le, &x, &y),
+                compare(CompareOp::Eq, &x, &y),
+                compare(CompareOp::Ne, &x, &y),
+                compare(CompareOp::Gt, &x, &y),
+                compare(CompareOp::Ge, &x, &y),
+            );
+            assert_eq!(rt; cmp_total(&x, &y), i.cmp(&j), "{left} {right}");
+            assert_eq!(rt;
+                found,
+                (i < j, i <= j, i == j, i != j, i > j, i >= j),
+                "{left} {right}"
+            );
         }
-        assert_eq!(rt; cmp_total(&value(*a), &XFrac::NaN), Ordering::Less, "{a:?}");
-        assert!(rt; !compare(CompareOp::Lt, &value(*a), &XFrac::NaN), "{a:?}");
-        assert!(rt; compare(CompareOp::Ne, &XFrac::NaN, &value(*a)), "{a:?}");
+        assert_eq!(rt; cmp_total(&x, &XFrac::NaN), Ordering::Less, "{left}");
+        assert!(rt; !compare(CompareOp::Lt, &x, &XFrac::NaN), "{left}");
+        assert!(rt; compare(CompareOp::Ne, &XFrac::NaN, &x), "{left}");
     }
-    assert_eq!(rt; cmp_total(&XFrac::NaN, &XFrac::NaN), Ordering::Equal);
-    assert!(rt; !compare(CompareOp::Eq, &XFrac::NaN, &XFrac::NaN));
-    assert!(rt; !compare(CompareOp::Ge, &XFrac::NaN, &XFrac::NaN));
+    let nan = XFrac::NaN;
+    assert_eq!(rt; cmp_total(&nan, &nan), Ordering::Equal);
+    assert!(rt; !compare(CompareOp::Eq, &nan, &nan) && !compare(CompareOp::Ge, &nan, &nan));
+    Ok(())
 }
 
 #[test]

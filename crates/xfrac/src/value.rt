@@ -95,6 +95,22 @@ impl Frac {
         (self.n < 0, self.n.unsigned_abs(), self.d)
     }
 
+    /// Whether both parts are the same.
+    pub(crate) fn is_same(&self, other: &Frac) -> bool
+        ensures same { IsTrue result ↔ (self.now ≡ other.now) }
+        ensures left { IsReduced (unsigned_abs self.now.0) self.now.1 }
+        ensures right { IsReduced (unsigned_abs other.now.0) other.now.1 }
+    {
+        self.n == other.n && self.d == other.d
+    }
+
+    /// A law, with nothing to run: the fraction is in lowest terms and within the limits.
+    pub(crate) fn is_reduced(&self)
+        ensures { IsReduced (unsigned_abs self.now.0) self.now.1 }
+    {
+        let _ = &self.n;
+    }
+
     pub(crate) fn denominator(&self) -> u128
         ensures value { result ≡ self.now.1 }
         ensures positive { 0 < result }
@@ -174,10 +190,11 @@ pub fn whole(n: i64) -> XFrac
     XFrac::Fin(Frac { n: n as i128, d: 1 })
 }
 
-/// The numerator and the denominator, which is positive.
+/// The numerator and the denominator, which is positive: lowest terms within the limits.
 pub fn parts(f: &Frac) -> (i128, i128)
     ensures numerator { result.0 ≡ f.now.0 }
     ensures denominator { result.1 ≡ pos f.now.1 }
+    ensures reduced { IsReduced (unsigned_abs f.now.0) f.now.1 }
 {
     (f.n, f.d as i128)
 }

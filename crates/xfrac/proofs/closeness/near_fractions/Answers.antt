@@ -3,7 +3,7 @@ use Rattle.std.specs.Prelude.{unsigned_abs, not}
 use Rattle.std.proofs.lemmas.Bool.Decides.{same_from_decides}
 use mathlib.Core.Bool.{beq}
 use Rattle.xfrac.specs.Near.{are_near}
-use Rattle.xfrac.proofs.Nearness.{near_alike, far_apart}
+use Rattle.xfrac.proofs.Nearness.{near_alike, far_apart, near_itself}
 use Rattle.xfrac.proofs.closeness.near_fractions.Goals as goal
 
 same_test : (x y : Bool) → not (beq x y) ≡ false → x ≡ y
@@ -23,6 +23,9 @@ same_from_iff true true f g h k = refl
 same_from_iff false false f g h k = refl
 same_from_iff true false f g h k = sym (g.1 (h (f.0 refl)))
 same_from_iff false true f g h k = f.1 (k (g.0 refl))
+
+pub returns-then-is_same : goal.returns-then-is_same
+returns-then-is_same c = sym (near_itself c.args.a.now c.args.b.now (c.is_same.ensures.same.0 c.if-is_same.true))
 
 pub returns-then-is_negative : goal.returns-then-is_negative
 returns-then-is_negative c =

@@ -1,9 +1,10 @@
-use Rattle.std.proofs.Common.{◌<◌, sym, ap, ◌∙◌, refl, subst}
+use Rattle.std.proofs.Common.{◌<◌, ◌≡◌, sym, ap, ◌∙◌, refl, subst}
+use Rattle.xfrac.specs.Sums.{alone}
 use Rattle.xfrac.proofs.Totalling.{totals-single, same_totals}
 use Rattle.xfrac.proofs.sums.SumAcc.of.Goals as goal
 
-pub returns-clause-value : goal.returns-clause-value
-returns-clause-value c =
+pub returns-clause-alone : goal.returns-clause-alone
+returns-clause-alone c =
     same_totals
     (ap (λ r. r.0) c.terms-multiple.ensures.value)
     (ap (λ r. r.1) c.terms-multiple.ensures.value)
@@ -12,4 +13,7 @@ returns-clause-value c =
     c.is_negative_infinity.ensures
     c.is_nan.ensures
     refl
-    ∙ sym (totals-single c.args.v.now (subst (λ r. 0 < r.0) c.terms-multiple.ensures.value c.terms-multiple.ensures.positive))
+
+pub returns-clause-value : goal.returns-clause-value
+returns-clause-value c =
+    returns-clause-alone c ∙ sym (totals-single c.args.v.now (subst (λ r. 0 < r.0) c.terms-multiple.ensures.value c.terms-multiple.ensures.positive))

@@ -1,5 +1,0 @@
-use Rattle.frac_text.proofs.Durations.{duration-time}
-use Rattle.frac_text.proofs.law.durations_are_times.Goals as goal
-
-pub returns : goal.returns
-returns c = duration-time

@@ -1,5 +1,0 @@
-use Rattle.frac_text.proofs.ReadBack.{script-spelling, literal-spelling}
-use Rattle.frac_text.proofs.law.spellings_are_numbers.Goals as goal
-
-pub returns : goal.returns
-returns c = record { script = script-spelling; literal = literal-spelling }
