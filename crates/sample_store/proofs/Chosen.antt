@@ -3,14 +3,14 @@ use Rattle.std.proofs.Common.{◌≡◌, Bool, true, false, ℕ, zero, suc, ◌+
 use Rattle.std.specs.Prelude.{◌↔◌, ◌⊎◌, slice_get, unwrap_or}
 use Rattle.std.specs.Option.{option_map}
 use Rattle.std.specs.BTreeMap.{insert_entry}
-use Rattle.std.specs.List.{AllByRecursion, HoldsAt, IsDistinct, cons_option, filter_map}
+use Rattle.std.specs.List.{AllByRecursion, IsDistinct, cons_option, filter_map}
 use Rattle.std.specs.List.Sorted.{IsStrictlySortedBy}
 use Rattle.std.specs.Map.{keys_of}
 use Rattle.std.specs.Ordering.{match_ordering, ordering_reverse}
 use Rattle.std.specs.Cmp.{IsTotalOrder}
 use Rattle.std.specs.declared.cmp.Ordering.{Ordering}
 use Rattle.std.specs.declared.cmp.Ordering.TheVariants.{Less, Equal, Greater}
-use Rattle.std.proofs.lemmas.List.Elements.{Contains-get_or, at_from_Contains}
+use Rattle.std.proofs.lemmas.List.Elements.{Contains-get_or}
 use Rattle.std.proofs.lemmas.List.Kept.{IsStrictlySortedBy-filter}
 use Rattle.std.proofs.lemmas.Map.Keys.{IsDistinct-head, IsDistinct-tail}
 use Rattle.std.proofs.lemmas.Option.{get_or_from_slice_get, slice_get_within}
@@ -28,24 +28,25 @@ abbrev Has : {X : Type 0} → List X → X → Type 0
 Has xs x = (i : ℕ) × (slice_get xs i ≡ Some x)
 
 -- entries in order that have the same members are the same
-module _ {K X : Type 0} (R : K → K → Ordering) (o : IsTotalOrder R) where
+module _ {K : Type 0} (R : K → K → Ordering) (o : IsTotalOrder R) where
   not_both : (a b : K) → R a b ≡ Less → R b a ≡ Less → ⊥
   not_both a b h k = let e : Less ≡ Greater = sym h ∙ o.antisymm a b ∙ ap ordering_reverse k in absurd (cc)
 
+module _ {K X : Type 0} (R : K → K → Ordering) (o : IsTotalOrder R) where
   firsts : (x y : K × X) (xs ys : List (K × X)) → IsStrictlySortedBy R (keys_of (x ∷ xs)) → IsStrictlySortedBy R (keys_of (y ∷ ys))
       → (i j : ℕ) → slice_get (y ∷ ys) i ≡ Some x → slice_get (x ∷ xs) j ≡ Some y → x ≡ y
   firsts x y xs ys s t zero j h k = let e : x ≡ y = cc in e
   firsts x y xs ys s t (suc i) zero h k = let e : x ≡ y = cc in e
   firsts x y xs ys s t (suc i) (suc j) h k =
-      absurd (not_both y.0 x.0 (later_key R (y ∷ ys) 0 (suc i) y x t (omega arith) refl h) (later_key R (x ∷ xs) 0 (suc j) x y s (omega arith) refl k))
+      absurd (not_both R o y.0 x.0 (later_key R (y ∷ ys) 0 (suc i) y x t (omega arith) refl h) (later_key R (x ∷ xs) 0 (suc j) x y s (omega arith) refl k))
 
-  tail_has : (a b : K × X) (as bs : List (K × X)) → IsStrictlySortedBy R (keys_of (a ∷ as)) → a ≡ b → (z : K × X) (i j : ℕ) → slice_get as i ≡ Some z → slice_get (b ∷ bs) j ≡ Some z → Has bs z
-  tail_has a b as bs s e z i zero h k =
+  tail_has : (a b : K × X) (us vs : List (K × X)) → IsStrictlySortedBy R (keys_of (a ∷ us)) → a ≡ b → (z : K × X) (i j : ℕ) → slice_get us i ≡ Some z → slice_get (b ∷ vs) j ≡ Some z → Has vs z
+  tail_has a b us vs s e z i zero h k =
       let same : a ≡ z = cc in
-      let less : R a.0 z.0 ≡ Less = later_key R (a ∷ as) 0 (suc i) a z s (omega arith) refl h in
+      let less : R a.0 z.0 ≡ Less = later_key R (a ∷ us) 0 (suc i) a z s (omega arith) refl h in
       let less_self : R a.0 a.0 ≡ Less = subst (λ (y : K × X). R a.0 y.0 ≡ Less) (sym same) less in
-      absurd (not_both a.0 a.0 less_self less_self)
-  tail_has a b as bs s e z i (suc j) h k = (j, k)
+      absurd (not_both R o a.0 a.0 less_self less_self)
+  tail_has a b us vs s e z i (suc j) h k = (j, k)
 
   behind : (e : K × X) (es : List (K × X)) → IsStrictlySortedBy R (keys_of (e ∷ es)) → IsStrictlySortedBy R (keys_of es)
   unfolding IsStrictlySortedBy
@@ -74,38 +75,38 @@ module _ {X : Type 0} (k : Names) (v : X) where
   inserted : (es : List (Names × X)) (x : Names × X) (i : ℕ) → slice_get (put es) i ≡ Some x → (x ≡ (k, v)) ⊎ Has es x
   inserted [] x zero h = inl (cc)
   inserted [] x (suc i) h = absurd (cc)
-  inserted (e ∷ es) x i h = by (labels_cmp k e.0) refl i h
+  inserted (e ∷ es) x i h = by (labels_cmp k e.0) refl (inserted es x) i h
     where
-      by : (r : Ordering) → labels_cmp k e.0 ≡ r → (i : ℕ) → slice_get (match_ordering r ((k, v) ∷ e ∷ es) ((e.0, v) ∷ es) (e ∷ put es)) i ≡ Some x → (x ≡ (k, v)) ⊎ Has (e ∷ es) x
-      by Less p zero h = inl (cc)
-      by Less p (suc i) h = inr (i, h)
-      by Equal p zero h = let same : k ≡ e.0 = labels_cmp_ties k e.0 p in let this : x ≡ (e.0, v) = cc in inl (this ∙ ap (λ (z : Names). (z, v)) (sym same))
-      by Equal p (suc i) h = inr (suc i, h)
-      by Greater p zero h = inr (0, h)
-      by Greater p (suc i) h = elim (inserted es x i h) [
+      by : (r : Ordering) → labels_cmp k e.0 ≡ r → ((j : ℕ) → slice_get (put es) j ≡ Some x → (x ≡ (k, v)) ⊎ Has es x) → (i : ℕ) → slice_get (match_ordering r ((k, v) ∷ e ∷ es) ((e.0, v) ∷ es) (e ∷ put es)) i ≡ Some x → (x ≡ (k, v)) ⊎ Has (e ∷ es) x
+      by Less p rest zero h = inl (cc)
+      by Less p rest (suc i) h = inr (i, h)
+      by Equal p rest zero h = let same : k ≡ e.0 = labels_cmp_ties k e.0 p in let this : x ≡ (e.0, v) = cc in inl (this ∙ ap (λ (z : Names). (z, v)) (sym same))
+      by Equal p rest (suc i) h = inr (suc i, h)
+      by Greater p rest zero h = inr (0, h)
+      by Greater p rest (suc i) h = elim (rest i h) [
         | inl e ↦ inl e
         | inr m ↦ inr (suc m.0, m.1)
       ]
 
   has_new : (es : List (Names × X)) → Has (put es) (k, v)
   has_new [] = (0, refl)
-  has_new (e ∷ es) = by (labels_cmp k e.0) refl
+  has_new (e ∷ es) = by (labels_cmp k e.0) refl (has_new es)
     where
-      by : (r : Ordering) → labels_cmp k e.0 ≡ r → Has (match_ordering r ((k, v) ∷ e ∷ es) ((e.0, v) ∷ es) (e ∷ put es)) (k, v)
-      by Less p = (0, refl)
-      by Equal p = (0, ap (λ (z : Names). Some (z, v)) (sym (labels_cmp_ties k e.0 p)))
-      by Greater p = let m = has_new es in (suc m.0, m.1)
+      by : (r : Ordering) → labels_cmp k e.0 ≡ r → Has (put es) (k, v) → Has (match_ordering r ((k, v) ∷ e ∷ es) ((e.0, v) ∷ es) (e ∷ put es)) (k, v)
+      by Less p m = (0, refl)
+      by Equal p m = (0, ap (λ (z : Names). Some (z, v)) (sym (labels_cmp_ties k e.0 p)))
+      by Greater p m = (suc m.0, m.1)
 
   has_old : (es : List (Names × X)) (x : Names × X) (i : ℕ) → (labels_cmp k x.0 ≡ Equal → ⊥) → slice_get es i ≡ Some x → Has (put es) x
   has_old [] x i apart h = absurd (cc)
-  has_old (e ∷ es) x i apart h = by (labels_cmp k e.0) refl i h
+  has_old (e ∷ es) x i apart h = by (labels_cmp k e.0) refl (λ j g. has_old es x j apart g) i h
     where
-      by : (r : Ordering) → labels_cmp k e.0 ≡ r → (i : ℕ) → slice_get (e ∷ es) i ≡ Some x → Has (match_ordering r ((k, v) ∷ e ∷ es) ((e.0, v) ∷ es) (e ∷ put es)) x
-      by Less p i h = (suc i, h)
-      by Equal p zero h = let same : e ≡ x = cc in absurd (apart (subst (λ (z : Names × X). labels_cmp k z.0 ≡ Equal) same p))
-      by Equal p (suc i) h = (suc i, h)
-      by Greater p zero h = (0, h)
-      by Greater p (suc i) h = let m = has_old es x i apart h in (suc m.0, m.1)
+      by : (r : Ordering) → labels_cmp k e.0 ≡ r → ((j : ℕ) → slice_get es j ≡ Some x → Has (put es) x) → (i : ℕ) → slice_get (e ∷ es) i ≡ Some x → Has (match_ordering r ((k, v) ∷ e ∷ es) ((e.0, v) ∷ es) (e ∷ put es)) x
+      by Less p rest i h = (suc i, h)
+      by Equal p rest zero h = let same : e ≡ x = cc in absurd (apart (subst (λ (z : Names × X). labels_cmp k z.0 ≡ Equal) same p))
+      by Equal p rest (suc i) h = (suc i, h)
+      by Greater p rest zero h = (0, h)
+      by Greater p rest (suc i) h = let m = rest i h in (suc m.0, m.1)
 
 labels_eq_self : (m : Names) → labels_eq m m ≡ true
 labels_eq_self m = (labels_decide m m (labels_eq m m) refl).1 refl
@@ -144,22 +145,22 @@ sorted_by (s ∷ series) = sorted_insert labels_cmp labels_cmp_total s.0 s.1 (by
 module _ {X : Type 0} (test : X → Bool) where
   filter_has : (xs : List X) (x : X) (i : ℕ) → slice_get (filter test xs) i ≡ Some x → Has xs x × (test x ≡ true)
   filter_has [] x i h = absurd (cc)
-  filter_has (y ∷ ys) x i h = by (test y) refl i h
+  filter_has (y ∷ ys) x i h = by (test y) refl (filter_has ys x) i h
     where
-      by : (b : Bool) → test y ≡ b → (i : ℕ) → slice_get (cond b (y ∷ filter test ys) (filter test ys)) i ≡ Some x → Has (y ∷ ys) x × (test x ≡ true)
-      by true e zero h = let same : y ≡ x = cc in ((0, h), subst (λ (z : X). test z ≡ true) same e)
-      by true e (suc i) h = let m = filter_has ys x i h in ((suc m.0.0, m.0.1), m.1)
-      by false e i h = let m = filter_has ys x i h in ((suc m.0.0, m.0.1), m.1)
+      by : (b : Bool) → test y ≡ b → ((j : ℕ) → slice_get (filter test ys) j ≡ Some x → Has ys x × (test x ≡ true)) → (i : ℕ) → slice_get (cond b (y ∷ filter test ys) (filter test ys)) i ≡ Some x → Has (y ∷ ys) x × (test x ≡ true)
+      by true e rest zero h = let same : y ≡ x = cc in ((0, h), subst (λ (z : X). test z ≡ true) same e)
+      by true e rest (suc i) h = let m = rest i h in ((suc m.0.0, m.0.1), m.1)
+      by false e rest i h = let m = rest i h in ((suc m.0.0, m.0.1), m.1)
 
   has_filter : (xs : List X) (x : X) (i : ℕ) → test x ≡ true → slice_get xs i ≡ Some x → Has (filter test xs) x
   has_filter [] x i t h = absurd (cc)
-  has_filter (y ∷ ys) x i t h = by (test y) refl i h
+  has_filter (y ∷ ys) x i t h = by (test y) refl (λ j g. has_filter ys x j t g) i h
     where
-      by : (b : Bool) → test y ≡ b → (i : ℕ) → slice_get (y ∷ ys) i ≡ Some x → Has (cond b (y ∷ filter test ys) (filter test ys)) x
-      by true e zero h = (0, h)
-      by true e (suc i) h = let m = has_filter ys x i t h in (suc m.0, m.1)
-      by false e zero h = let same : y ≡ x = cc in absurd (true≢false (sym t ∙ subst (λ (z : X). test z ≡ false) same e))
-      by false e (suc i) h = has_filter ys x i t h
+      by : (b : Bool) → test y ≡ b → ((j : ℕ) → slice_get ys j ≡ Some x → Has (filter test ys) x) → (i : ℕ) → slice_get (y ∷ ys) i ≡ Some x → Has (cond b (y ∷ filter test ys) (filter test ys)) x
+      by true e rest zero h = (0, h)
+      by true e rest (suc i) h = let m = rest i h in (suc m.0, m.1)
+      by false e rest zero h = let same : y ≡ x = cc in absurd (true≢false (sym t ∙ subst (λ (z : X). test z ≡ false) same e))
+      by false e rest (suc i) h = rest i h
 
 -- ---- the series that some numbers stand for
 
@@ -175,15 +176,15 @@ module _ (series : AllSeries) where
 
   those_has : (places : List ℕ) (x : Names × Samples) (i : ℕ) → slice_get (those places) i ≡ Some x → IsNumbered places x
   those_has [] x i h = absurd (cc)
-  those_has (n ∷ places) x i h = by (slice_get series n) refl i h
+  those_has (n ∷ places) x i h = by (slice_get series n) refl (those_has places x) i h
     where
       later : IsNumbered places x → IsNumbered (n ∷ places) x
       later m = record { place = suc m.place; number = m.number; among = m.among; there = m.there }
 
-      by : (o : Option (Names × Samples)) → slice_get series n ≡ o → (i : ℕ) → slice_get (cons_option o (those places)) i ≡ Some x → IsNumbered (n ∷ places) x
-      by None e i h = later (those_has places x i h)
-      by (Some y) e zero h = record { place = 0; number = n; among = refl; there = e ∙ h }
-      by (Some y) e (suc i) h = later (those_has places x i h)
+      by : (o : Option (Names × Samples)) → slice_get series n ≡ o → ((j : ℕ) → slice_get (those places) j ≡ Some x → IsNumbered places x) → (i : ℕ) → slice_get (cons_option o (those places)) i ≡ Some x → IsNumbered (n ∷ places) x
+      by None e rest i h = later (rest i h)
+      by (Some y) e rest zero h = record { place = 0; number = n; among = refl; there = e ∙ h }
+      by (Some y) e rest (suc i) h = later (rest i h)
 
   has_those : (places : List ℕ) (x : Names × Samples) (j n : ℕ) → slice_get places j ≡ Some n → slice_get series n ≡ Some x → Has (those places) x
   has_those [] x j n h t = absurd (cc)
@@ -216,12 +217,12 @@ contains_at : (places : List ℕ) (j n : ℕ) → slice_get places j ≡ Some n 
 contains_at places j n h = subst (Contains places) (get_or_from_slice_get places j n 0 h) (Contains-get_or places j 0 (slice_get_within places j n h))
 
 at_contained : (places : List ℕ) (n : ℕ) → Contains places n → Has places n
-at_contained places n h = let k = at_from_Contains places n h in (k.0, held places k.0 k.1.0 k.1.1)
+at_contained places n h = (h.0, held places h.0 h.1 h.2)
   where
-    held : (xs : List ℕ) (k : ℕ) → k < length xs → HoldsAt (λ y. y ≡ n) xs k → slice_get xs k ≡ Some n
+    held : (xs : List ℕ) (k : ℕ) → k < length xs → get_or xs k n ≡ n → slice_get xs k ≡ Some n
     held [] k l g = absurd (omega (arith, l))
-    held (x ∷ xs) zero l g = ?
-    held (x ∷ xs) (suc k) l g = ?
+    held (x ∷ xs) zero l g = ap Some g
+    held (x ∷ xs) (suc k) l g = held xs k (let m : k < length xs = omega (arith, l) in m) g
 
 pub chosen_by : (kept : List (Bool × List ℕ)) (rules : List Rule) (series : AllSeries) (places : List ℕ) → IsDistinct labels_eq (keys_of series) → IsSelected kept rules series places
     → filter_map (slice_get series) places ≡ chosen kept rules series

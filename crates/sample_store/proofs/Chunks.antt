@@ -17,7 +17,8 @@ use Rattle.sample_store.proofs.Entries.{sorted_insert}
 use Rattle.sample_store.specs.Samples.{AreFilled, IsChunkOf, IsRising, Puts, Samples, flat, held_in, refusal_beside, refusal_in, time_cmp}
 use Rattle.sample_store.specs.declared.refusal.StoreRefusal.{StoreRefusal}
 use Rattle.sample_store.specs.declared.refusal.StoreRefusal.TheVariants.{Memory, TooManySamples}
-use Rattle.sample_store.proofs.Halves.{time_cmp_total, is-greater, is-less}
+use Rattle.sample_store.proofs.Halves.{is-greater, is-less}
+use Rattle.sample_store.specs.Laws.{time_cmp_total}
 
 int_lt_le : {x y z : ℤ} → x <ℤ y → y ≤ℤ z → x <ℤ z
 int_lt_le a b = grind (arith, ints, a, b)

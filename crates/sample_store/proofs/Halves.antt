@@ -11,10 +11,8 @@ use Rattle.ticks.specs.declared.moment.Ms.{Ms}
 use Rattle.xfrac.specs.declared.value.Held.{Held}
 use Rattle.sample_store.proofs.Entries.{insert_at_gap, later_key}
 use Rattle.std.proofs.lemmas.Map.Entries.{lookup_at_gap}
+use Rattle.sample_store.specs.Laws.{time_cmp_total}
 use Rattle.sample_store.specs.Samples.{IsRising, IsTimeGapAt, Samples, later_than, time_cmp}
-
-pub time_cmp_total : IsTotalOrder time_cmp
-time_cmp_total = on_total (λ (t : Ms). t.0) int_cmp_total
 
 -- what a search with so many probes has left
 pub record IsHalved (samples : Samples) (after : Ms) (low high old probed : ℕ) : Type 0 where
@@ -154,13 +152,6 @@ drop-later after (x ∷ xs) (suc i) b f =
   where
     is-not : (y z : ℤ) → z ≤ℤ y → int_lt y z ≡ false
     is-not y z h = grind (arith, ints)
-
-ms-same : (a b : Ms) → a.0 ≡ b.0 → a ≡ b
-ms-same a b e = ap (λ (z : ℤ). record { 0 = z }) e
-
--- times that tie are the same
-pub time_cmp_ties : (a b : Ms) → time_cmp a b ≡ Equal → a ≡ b
-time_cmp_ties a b e = ms-same a b (int_ranked a.0 b.0 Equal (sym e))
 
 pub is-greater : (x y : ℤ) → y <ℤ x → int_cmp x y ≡ Greater
 is-greater x y h = grind (arith, ints)

@@ -1,6 +1,7 @@
 -- A store stays a store when it gains a series or a sample.
 use Rattle.std.proofs.Common.{◌≡◌, Bool, true, false, ℕ, zero, suc, ◌+◌, ◌<◌, List, [], ◌∷◌, length, Option, None, Some, get_or, unwrap_or, slice_get, slice_set, insert, refl, sym, ap, subst, ◌∙◌, arith, ◌++◌, cond, true≢false}
 use Rattle.std.proofs.lemmas.List.Kept.{IsStrictlySortedBy-filter}
+use Rattle.std.proofs.lemmas.Option.{slice_get_within}
 use Rattle.std.specs.Prelude.{◌&&◌, ◌≤◌, nat_le, is_none, filter, int_lt, if◌then◌else◌, Result, Ok, Err, IsOk, IsOkUnless, MatchOption, OnOk, OnErr}
 use Rattle.std.proofs.lemmas.Bool.Decides.{nat_tests}
 use Rattle.std.specs.List.{AllByRecursion, IsDistinct}
@@ -14,12 +15,12 @@ use Rattle.std.specs.Option.{option_map}
 use Rattle.sample_store.proofs.Entries.{sorted_insert}
 use Rattle.ticks.specs.declared.moment.Ms.{Ms}
 use Rattle.xfrac.specs.declared.value.Held.{Held}
-use Rattle.sample_store.specs.Samples.{AllSeries, IsFoundAt, IsRising, Puts, PutsAt, Appends, IsRoomIn, IsStore, IsTimeAt, IsTimeGapAt, Names, Samples, held_in, is_same, later_than, limit_broken, refusal_beside, refusal_in, refusal_of, sample_count, samples_of, time_cmp, with_sample}
+use Rattle.sample_store.specs.Samples.{AllSeries, IsFoundAt, IsRising, Puts, PutsAt, Appends, IsRoomIn, IsStore, IsTimeAt, IsTimeGapAt, Names, Samples, IsNumberOf, held_in, is_same, labels_at, later_than, limit_broken, refusal_beside, refusal_in, refusal_of, sample_count, samples_of, time_cmp, with_sample}
 use Rattle.sample_store.specs.declared.refusal.StoreRefusal.{StoreRefusal}
 use Rattle.sample_store.specs.declared.refusal.StoreRefusal.TheVariants.{Conflict, TooManySamples, TooManySeries, Memory}
 use Rattle.sample_store.proofs.Columns.{length_inserted}
-use Rattle.sample_store.proofs.Halves.{time_cmp_total}
-use Rattle.sample_store.proofs.Sameness.{held-same}
+use Rattle.sample_store.specs.Laws.{time_cmp_total}
+use Rattle.sample_store.specs.Laws.{held_same}
 
 
 pub store_empty : (series : AllSeries) → series ≡ [] → IsStore series 0
@@ -136,7 +137,7 @@ full-refused samples at place held count g l =
 room-free : (samples : Samples) (at : Ms) (held : Held) (count : ℕ) (r : Option ℕ) → IsRoomIn samples at held count r → refusal_in samples at held count ≡ None
 room-free samples at held count None h =
     ap (λ (o : Option Held). refusal_beside o (if nat_le 2000000 count then Some TooManySamples else None) held) h.0
-    ∙ ap (λ (b : Bool). if b then None else Some (Conflict held held)) ((held-same held held).1 refl)
+    ∙ ap (λ (b : Bool). if b then None else Some (Conflict held held)) ((held_same held held).1 refl)
 room-free samples at held count (Some i) h =
     ap (λ (o : Option Held). refusal_beside o (if nat_le 2000000 count then Some TooManySamples else None) held) h.0.absent
     ∙ ap (λ (b : Bool). if b then Some TooManySamples else None) (below 2000000 count h.1)
@@ -270,6 +271,38 @@ module _ (series : AllSeries) (names : Names) (at : Ms) (held : Held) (place cou
       (subst (λ (z : Samples). MatchOption (refusal_in f.samples at held count) ((e ≡ Memory) × (held_in z at ≡ None)) (λ r. e ≡ r)) (sym samples-are)
       (subst (λ (z : Samples). MatchOption (refusal_in z at held count) ((e ≡ Memory) × (held_in z at ≡ None)) (λ r. e ≡ r)) same p.puts.1)))
 
+-- a series that took a sample keeps its labels, and so do all others
+pub labels_set : (series : AllSeries) (i : ℕ) (more : Samples) (k : ℕ) → labels_at (set_value_at series i more) k ≡ labels_at series k
+labels_set [] i more k = refl
+labels_set (x ∷ xs) zero more zero = refl
+labels_set (x ∷ xs) zero more (suc k) = refl
+labels_set (x ∷ xs) (suc i) more zero = refl
+labels_set (x ∷ xs) (suc i) more (suc k) = labels_set xs i more k
+
+labels_there : (series : AllSeries) (place : ℕ) (names : Names) (samples : Samples) → slice_get series place ≡ Some (names, samples) → labels_at series place ≡ names
+labels_there series place names samples h = ap (λ (o : Option (Names × Samples)). unwrap_or (option_map (λ (one : Names × Samples). one.0) o) []) h
+
+module _ (series new : AllSeries) (place count : ℕ) (at : Ms) (held : Held) (s : IsStore series count) where
+  pub into_ok : (total : ℕ) → PutsAt series new place at held count (Ok total) → Appends series new (labels_at series place) at held (Ok tt)
+  into_ok total p =
+      subst (λ (z : Names). Appends series new z at held (Ok tt)) (sym (labels_there series place p.names p.before p.there))
+      (appends-ok series p.names at held place count s (found-at series place p.names p.before s.distinct p.there) new total p)
+
+  pub into_err : (e : StoreRefusal) → PutsAt series new place at held count (Err e) → Appends series new (labels_at series place) at held (Err e)
+  into_err e p =
+      subst (λ (z : Names). Appends series new z at held (Err e)) (sym (labels_there series place p.names p.before p.there))
+      (appends-err series p.names at held place count s (found-at series place p.names p.before s.distinct p.there) new e p)
+
+pub many_as_was : (series new : AllSeries) (place count : ℕ) (at : Ms) (held : Held) (r : Result ℕ StoreRefusal) → PutsAt series new place at held count r → length new ≡ length series
+many_as_was series new place count at held r p = ap length p.changed ∙ length-set series place p.after
+
+pub named_as_was : (series new : AllSeries) (place count : ℕ) (at : Ms) (held : Held) (r : Result ℕ StoreRefusal) → PutsAt series new place at held count r → (k : ℕ) → labels_at new k ≡ labels_at series k
+named_as_was series new place count at held r p k = ap (λ (z : AllSeries). labels_at z k) p.changed ∙ labels_set series place p.after k
+
+-- a series that was found has its number
+pub number_found : (series : AllSeries) (names : Names) (place : ℕ) → IsFoundAt series names place → IsNumberOf series names place
+number_found series names place f = (slice_get_within series place (names, f.samples) f.there, labels_there series place names f.samples f.there)
+
 -- what the answer of the store says, clause by clause
 told-ok : (o : Option StoreRefusal) (r : Result (Unit {0}) StoreRefusal) (u : Unit {0}) → r ≡ Ok u → o ≡ None → MatchOption o (IsOkUnless r Memory) (λ (z : StoreRefusal). r ≡ Err z)
 told-ok None r u e h = subst (λ (z : Result (Unit {0}) StoreRefusal). IsOkUnless z Memory) (sym e) tt
@@ -292,7 +325,7 @@ module _ (old new : AllSeries) (names : Names) (at : Ms) (held : Held) where
   free-there : held_in (samples_of old names) at ≡ Some held → refusal_of old names at held ≡ None
   free-there h =
       ap (λ (o : Option Held). refusal_beside o (limit_broken old names) held) h
-      ∙ ap (λ (b : Bool). if b then None else Some (Conflict held held)) ((held-same held held).1 refl)
+      ∙ ap (λ (b : Bool). if b then None else Some (Conflict held held)) ((held_same held held).1 refl)
 
   pub told_there : (r : Result (Unit {0}) StoreRefusal) → Appends old new names at held r → held_in (samples_of old names) at ≡ Some held → IsOk r
   told_there (Ok u) a h = refl
@@ -314,8 +347,8 @@ keys-later after (s ∷ samples) =
     ≡ (if b then s.0 ∷ filter (λ (t : Ms). int_lt after.0 t.0) (keys_of samples) else filter (λ (t : Ms). int_lt after.0 t.0) (keys_of samples)))
     [ true ↦ ap (λ ts. s.0 ∷ ts) (keys-later after samples) | false ↦ keys-later after samples ]
 
-pub rising-later : (after : Ms) (samples : Samples) → IsRising samples → IsRising (later_than after samples)
-rising-later after samples rising =
+pub rising_later : (after : Ms) (samples : Samples) → IsRising samples → IsRising (later_than after samples)
+rising_later after samples rising =
     subst (IsStrictlySortedBy time_cmp) (sym (keys-later after samples)) (IsStrictlySortedBy-filter time_cmp (λ (t : Ms). int_lt after.0 t.0) (keys_of samples) rising)
 
 pub one-there : (series : AllSeries) (i : ℕ) (samples : Samples) → option_map (λ (one : Names × Samples). one.1) (slice_get series i) ≡ Some samples → (names : Names) × (slice_get series i ≡ Some (names, samples))

@@ -3,7 +3,7 @@
 use Rattle.std.specs.Prelude.{Bool, true, false, ◌&&◌, ◌==◌, nat_le, is_none, ⊤, if◌then◌else◌, ◌≡◌, ◌<◌, ◌≤◌, ◌+◌, slice_get, slice_set, insert, ℕ, List, [], ◌∷◌, length, Option, None, Some, int_lt, unwrap_or, filter, Result, Ok, Err, MatchOption, map, Contains, ◌↔◌, ◌++◌, take, drop, ◌<ℤ◌}
 use Rattle.std.specs.BTreeMap.{insert_entry, is_at}
 use Rattle.std.specs.List.{AllByRecursion, IsDistinct}
-use Rattle.indexmap.specs.IndexMap.{insert_entry as put_entry}
+pub use Rattle.indexmap.specs.IndexMap.{insert_entry as put_entry}
 use Rattle.indexmap.specs.Layout.{set_value_at}
 use Rattle.label_set.specs.LabelEquality.{labels_eq}
 use Rattle.std.specs.List.Sorted.{IsStrictlySortedBy, IsPermutation}

@@ -184,7 +184,7 @@ impl Store {
         self.add_sample(s as usize, at, held)
     }
 
-    #[tactic(auto, using(crate::proofs::Stores::found_named))]
+    #[tactic(auto, using(crate::proofs::Stores::number_found))]
     fn append_one(&mut self, labels: &Labels, at: Ms, held: &Held) -> Result<(), StoreRefusal>
         ensures { Appends self.old self.new labels.now at held.now result }
     {
