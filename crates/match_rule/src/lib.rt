@@ -13,3 +13,6 @@ pub use patterns::{PatternRefusal, Patterns};
 pub use rules::{RuleMatchers, labels_pass, passes};
 pub use spans::Spans;
 
+
+#[cfg(test)]
+mod tests;

@@ -1,0 +1,148 @@
+ghost use Rattle.match_rule.specs.Patterns.{HasItsPattern, IsWholeId};
+ghost use Rattle.std.specs.Prelude.{◌≡◌, IfOk};
+
+use crate::*;
+use label_set::{LabelRefusal, Labels, PatternId, Rule, RuleKind, Text};
+use std::alloc::{AllocError, Global};
+use std::test::Fail;
+
+// Rows are parted by `;`, and their fields by a blank: a pattern, a value, whether the pattern passes it as a whole and
+// whether it is found in it, and what the groups span. `''` is the empty text. Told by hand from the rules of Prometheus.
+const ROWS: &str = "'' '' yes yes 0-0;'' a no yes none;a|b| b yes yes 0-1;a|b| '' yes yes 0-0;a|b| ab no yes none;| '' yes yes 0-0;| | no yes none;api apis no yes none;b|c abd no yes none;é|x é yes yes 0-2;a.b axb yes yes 0-3;a.b a\nb yes no 0-3;a.b xaxb no yes none;.* '' yes yes 0-0;.* one\ntwo yes yes 0-7;(?i)x X yes yes 0-1;(?i)x xx no yes none;a|^b$ b yes yes 0-1;^a$ ba no no none;x+|y xxy no yes none;[0-9]{2} 1 no no none;(.*) 7 yes yes 0-1,0-1;(a)?(b) b yes yes 0-1,-,0-1;(a)|x(b+) xbb yes yes 0-3,-,1-3;(a)(b) b no no none";
+
+fn unquoted(text: &str) -> &str {
+    if text == "''" { "" } else { text }
+}
+
+fn said(passes: bool) -> &'static str {
+    if passes { "yes" } else { "no" }
+}
+
+/// What the groups of a pattern span in a value, as a text.
+fn spans_of(
+    alloc: Global,
+    patterns: &mut Patterns,
+    id: PatternId,
+    value: &str,
+) -> Result<String, Memory>
+    requires { IsWholeId patterns.old id.0 }
+{
+    let mut spans = Spans::new(alloc);
+    if !patterns.groups(id, value, &mut spans)? {
+        return String::from_str(alloc, "none");
+    }
+    let mut text = String::new(alloc);
+    for i in 0..spans.len() {
+        let comma = if i == 0 { "" } else { "," };
+        match spans.get(i) {
+            None => text.push_str(format!(in alloc; "{comma}-")?.as_str())?,
+            Some((start, end)) => {
+                text.push_str(format!(in alloc; "{comma}{start}-{end}")?.as_str())?
+            }
+        }
+    }
+    Ok(text)
+}
+
+/// A row's answers, as its line has them.
+fn answers(alloc: Global, pattern: &str, value: &str) -> Result<String, PatternRefusal> {
+    let mut patterns = Patterns::new(alloc);
+    let id = patterns.whole(pattern)?;
+    let spans = spans_of(alloc, &mut patterns, id, value)?;
+    let whole = said(patterns.matches(id, value)?);
+    let part = patterns.search(pattern)?;
+    let found = said(patterns.matches(part, value)?);
+    Ok(format!(in alloc; "{whole} {found} {spans}")?)
+}
+
+#[test]
+fn patterns_pass_values(rt: HostRuntime) -> Result<(), Fail> {
+    for row in ROWS.split(';') {
+        let mut fields = row.splitn(3, ' ');
+        if let (Some(pattern), Some(value), Some(wanted)) =
+            (fields.next(), fields.next(), fields.next())
+        {
+            let got = answers(rt.alloc(), unquoted(pattern), unquoted(value))?;
+            assert_eq!(rt; got.as_str(), wanted, "{row}");
+        }
+    }
+    Ok(())
+}
+
+/// Whether the labels `env="prod"` pass a rule, by each of the three calls.
+fn pass_all_ways(
+    alloc: Global,
+    patterns: &mut Patterns,
+    labels: &Labels,
+    label: &str,
+    kind: RuleKind,
+) -> Result<(bool, bool, bool), Memory>
+    requires { HasItsPattern patterns.old kind }
+    ensures { patterns.new ≡ patterns.old }
+{
+    let rules = [Rule {
+        label: Text::of(alloc, label)?,
+        kind,
+    }];
+    let first = passes(&rules[0], patterns, labels.get(label))?;
+    let second = labels_pass(&rules, patterns, labels)?;
+    let mut matchers = RuleMatchers::of(alloc, &rules, patterns)?;
+    Ok((first, second, matchers.passes(labels)))
+}
+
+/// Keeps the patterns `a0`, `a1` and so on, and answers the refusal of the first that is refused.
+fn keep_many(patterns: &mut Patterns, alloc: Global, count: u32) -> Result<(), PatternRefusal> {
+    for i in 0..count {
+        patterns.whole(format!(in alloc; "a{i}")?.as_str())?;
+    }
+    Ok(())
+}
+
+#[test]
+fn there_are_32_patterns(rt: HostRuntime) -> Result<(), Fail> {
+    let mut patterns = Patterns::new(rt.alloc());
+    for text in "( [a * a{2,1} (?P<n>".split(' ') {
+        assert_eq!(rt; patterns.whole(text), Err(PatternRefusal::BadPattern));
+        assert_eq!(rt; patterns.search(text), Err(PatternRefusal::BadPattern));
+    }
+    assert_eq!(rt; patterns.whole("a.b"), Ok(PatternId(0)));
+    assert_eq!(rt; patterns.search("a.b"), Ok(PatternId(1)));
+    assert_eq!(rt; patterns.whole("a.b"), Ok(PatternId(0)));
+    assert_eq!(rt; keep_many(&mut patterns, rt.alloc(), 30), Ok(()));
+    assert_eq!(rt; patterns.whole("a29"), Ok(PatternId(31)));
+    assert_eq!(rt; patterns.search("a29"), Err(PatternRefusal::TooManyPatterns));
+    assert_eq!(rt; patterns.whole("x.y"), Err(PatternRefusal::TooManyPatterns));
+    assert_eq!(rt; patterns.whole("("), Err(PatternRefusal::BadPattern));
+    Ok(())
+}
+
+#[test]
+fn labels_pass_rules(rt: HostRuntime) -> Result<(), Fail> {
+    let alloc = rt.alloc();
+    let mut labels = Labels::empty(alloc);
+    labels.put("env", "prod")?;
+    let mut patterns = Patterns::new(alloc);
+    for row in "env p.* yes;env dev| no;env prod|dev yes;job dev| yes;job .+ no".split(';') {
+        let mut fields = row.splitn(3, ' ');
+        if let (Some(label), Some(text), Some(wanted)) =
+            (fields.next(), fields.next(), fields.next())
+        {
+            let on = wanted == "yes";
+            let id = patterns.whole(text)?;
+            let got = pass_all_ways(alloc, &mut patterns, &labels, label, RuleKind::Re(id))?;
+            assert_eq!(rt; got, (on, on, on), "{row}");
+            let got = pass_all_ways(alloc, &mut patterns, &labels, label, RuleKind::Nre(id))?;
+            assert_eq!(rt; got, (!on, !on, !on), "{row}");
+        }
+    }
+    assert_eq!(rt; patterns.text(PatternId(0)), "p.*");
+    for (text, on) in [("prod", true), ("", false)] {
+        let kind = RuleKind::Eq(Text::of(alloc, text)?);
+        let got = pass_all_ways(alloc, &mut patterns, &labels, "env", kind)?;
+        assert_eq!(rt; got, (on, on, on));
+        let kind = RuleKind::Ne(Text::of(alloc, text)?);
+        let got = pass_all_ways(alloc, &mut patterns, &labels, "env", kind)?;
+        assert_eq!(rt; got, (!on, !on, !on));
+    }
+    Ok(())
+}
