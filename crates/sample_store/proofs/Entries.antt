@@ -1,4 +1,4 @@
--- Entries in the order of their keys: a new entry, and the halves of a search.
+-- Entries in the order of their keys, and a new entry among them.
 use Rattle.std.proofs.Common.{◌≡◌, ℕ, ◌<◌, ◌≤◌, ◌+◌, suc, zero, Bool, true, false, cond, filter, inl, inr, eq-or-lt_of_le, List, [], ◌∷◌, length, refl, subst, ap, ◌∙◌, arith, Some, slice_get, slice_set, insert}
 use Rattle.std.specs.Option.{option_map}
 use Rattle.std.specs.declared.cmp.Ordering.{Ordering}
@@ -71,47 +71,10 @@ module _ {K X : Type 0} (R : K → K → Ordering) where
   later_key (e ∷ es) zero (suc j) a b s l f g = let same : e ≡ a = cc in subst (λ (h : K × X). R h.0 b.0 ≡ Less) same (key_among (λ y. R e.0 y ≡ Less) es j b s.0 g)
   later_key (e ∷ es) (suc i) (suc j) a b s l f g = later_key es i j a b s.1 (omega arith) f g
 
-  -- a key is above the entries before `low` and below those from `high` on
-  pub record IsBetween (k : K) (es : List (K × X)) (low high : ℕ) : Type 0 where
-    pub ordered : low ≤ high
-    pub within : high ≤ length es
-    pub before : (j : ℕ) (e : K × X) → j < low → slice_get es j ≡ Some e → R k e.0 ≡ Greater
-    pub after : (j : ℕ) (e : K × X) → high ≤ j → slice_get es j ≡ Some e → R k e.0 ≡ Less
-
   module _ (o : IsTotalOrder R) (k : K) (es : List (K × X)) (s : IsStrictlySortedBy R (keys_of es)) where
-    above_earlier : (m : ℕ) (a : K × X) → slice_get es m ≡ Some a → R k a.0 ≡ Greater → (j : ℕ) (e : K × X) → j < m → slice_get es j ≡ Some e → R k e.0 ≡ Greater
-    above_earlier m a at h j e l g =
-        o.antisymm k e.0 ∙ ap ordering_reverse (o.trans e.0 a.0 k (later_key es j m e a s l g at) (o.antisymm a.0 k ∙ ap ordering_reverse h))
-
     -- a key that is at an entry is above the earlier ones
     pub at_above_earlier : (m : ℕ) (a : K × X) → slice_get es m ≡ Some a → R k a.0 ≡ Equal → (j : ℕ) (e : K × X) → j < m → slice_get es j ≡ Some e → R k e.0 ≡ Greater
     at_above_earlier m a at h j e l g = o.antisymm k e.0 ∙ ap ordering_reverse (alike_right o k a.0 e.0 h ∙ later_key es j m e a s l g at)
-
-    below_later : (m : ℕ) (a : K × X) → slice_get es m ≡ Some a → R k a.0 ≡ Less → (j : ℕ) (e : K × X) → m ≤ j → slice_get es j ≡ Some e → R k e.0 ≡ Less
-    below_later m a at h j e l g =
-        elim (eq-or-lt_of_le l) [
-          | inl same ↦ let here : a ≡ e = cc in subst (λ (f : K × X). R k f.0 ≡ Less) here h
-          | inr less ↦ o.trans k a.0 e.0 h (later_key es m j a e s less at g)
-        ]
-
-    pub lower_half : (low high m : ℕ) (a : K × X) → IsBetween k es low high → low ≤ m → m < high → slice_get es m ≡ Some a → R k a.0 ≡ Less → IsBetween k es low m
-    lower_half low high m a b l w at h = record {
-      ordered = l;
-      within = let i : high ≤ length es = b.within in omega arith;
-      before = b.before;
-      after = below_later m a at h;
-    }
-
-    pub upper_half : (low high m : ℕ) (a : K × X) → IsBetween k es low high → m < high → slice_get es m ≡ Some a → R k a.0 ≡ Greater → IsBetween k es (m + 1) high
-    upper_half low high m a b w at h = record {
-      ordered = omega arith;
-      within = b.within;
-      before = λ j e l g. elim (eq-or-lt_of_le (let n : j ≤ m = omega arith in n)) [
-        | inl same ↦ let here : a ≡ e = cc in subst (λ (f : K × X). R k f.0 ≡ Greater) here h
-        | inr less ↦ above_earlier m a at h j e less g
-      ];
-      after = b.after;
-    }
 
   pub insert_at_place : (k : K) (v : X) (es : List (K × X)) (i : ℕ) → i < length es → ((j : ℕ) (e : K × X) → j < i → slice_get es j ≡ Some e → R k e.0 ≡ Greater) → ((e : K × X) → slice_get es i ≡ Some e → (R k e.0 ≡ Equal) × (e.0 ≡ k)) → insert_entry R es k v ≡ slice_set es i (k, v)
   insert_at_place k v [] i w b a = absurd (omega arith)
