@@ -1,6 +1,9 @@
-use Rattle.std.proofs.Common.{ℕ, ◌≡◌, ◌<◌, ◌-◌, length, rules, subst, sym, ap, ◌∙◌}
+use Rattle.std.proofs.Common.{ℕ, List, ◌≡◌, ◌<◌, ◌-◌, length, rules, subst, sym, ap, ◌∙◌}
+use Rattle.std.specs.List.{zip}
+use Rattle.std.specs.List.Sorted.{IsBinarySearchResult, IsSearchInRange}
 use Rattle.std.specs.Map.{keys_of}
-use Rattle.sample_store.specs.Samples.{IsTimeGapAt}
+use Rattle.ticks.specs.declared.moment.Ms.{Ms}
+use Rattle.sample_store.specs.Samples.{IsTimeGapAt, time_cmp}
 use Rattle.sample_store.proofs.Columns.{sample_at}
 use Rattle.sample_store.proofs.Halves.{past-last}
 use Rattle.sample_store.proofs.Searches.{keys_zipped, searched}
@@ -15,4 +18,12 @@ returns-then-time-at c =
     (past-last c.args.self.now c.args.at (c.time.result, h.0) c.requires some h.1 (search rules))
 
 pub returns : goal.returns
-returns c = ?
+returns c =
+    let times = c.self.inside.times in
+    let values = c.self.inside.values in
+    let even : length times ≡ length values = c.self.invariant in
+    let view : zip times values ≡ c.args.self.now = cc in
+    let r = c.binary_search.result in
+    let keys : c.as_slice.result.now ≡ keys_of c.args.self.now = c.as_slice.ensures ∙ sym (keys_zipped times values even) ∙ ap keys_of view in
+    searched c.args.self.now c.args.at c.requires r (subst (λ (ts : List Ms). IsSearchInRange r (length ts)) keys c.binary_search.ensures.bound)
+    (subst (λ (ts : List Ms). IsBinarySearchResult (λ y. time_cmp y c.args.at) ts r) keys c.binary_search.ensures.position)
