@@ -1,9 +1,8 @@
-ghost use Rattle.match_rule.specs.Patterns.{HasItsPattern, IsWholeId};
-ghost use Rattle.std.specs.Prelude.{◌≡◌, IfOk};
+ghost use Rattle.match_rule.specs.Patterns.{IsWholeId};
 
 use crate::*;
-use label_set::{LabelRefusal, Labels, PatternId, Rule, RuleKind, Text};
-use std::alloc::{AllocError, Global};
+use label_set::PatternId;
+use std::alloc::Global;
 use std::test::Fail;
 
 // Rows are parted by `;`, and their fields by a blank: a pattern, a value, whether the pattern passes it as a whole and
@@ -69,27 +68,6 @@ fn patterns_pass_values(rt: HostRuntime) -> Result<(), Fail> {
     Ok(())
 }
 
-/// Whether the labels `env="prod"` pass a rule, by each of the three calls.
-fn pass_all_ways(
-    alloc: Global,
-    patterns: &mut Patterns,
-    labels: &Labels,
-    label: &str,
-    kind: RuleKind,
-) -> Result<(bool, bool, bool), Memory>
-    requires { HasItsPattern patterns.old kind }
-    ensures { patterns.new ≡ patterns.old }
-{
-    let rules = [Rule {
-        label: Text::of(alloc, label)?,
-        kind,
-    }];
-    let first = passes(&rules[0], patterns, labels.get(label))?;
-    let second = labels_pass(&rules, patterns, labels)?;
-    let mut matchers = RuleMatchers::of(alloc, &rules, patterns)?;
-    Ok((first, second, matchers.passes(labels)))
-}
-
 /// Keeps the patterns `a0`, `a1` and so on, and answers the refusal of the first that is refused.
 fn keep_many(patterns: &mut Patterns, alloc: Global, count: u32) -> Result<(), PatternRefusal> {
     for i in 0..count {
@@ -113,36 +91,5 @@ fn there_are_32_patterns(rt: HostRuntime) -> Result<(), Fail> {
     assert_eq!(rt; patterns.search("a29"), Err(PatternRefusal::TooManyPatterns));
     assert_eq!(rt; patterns.whole("x.y"), Err(PatternRefusal::TooManyPatterns));
     assert_eq!(rt; patterns.whole("("), Err(PatternRefusal::BadPattern));
-    Ok(())
-}
-
-#[test]
-fn labels_pass_rules(rt: HostRuntime) -> Result<(), Fail> {
-    let alloc = rt.alloc();
-    let mut labels = Labels::empty(alloc);
-    labels.put("env", "prod")?;
-    let mut patterns = Patterns::new(alloc);
-    for row in "env p.* yes;env dev| no;env prod|dev yes;job dev| yes;job .+ no".split(';') {
-        let mut fields = row.splitn(3, ' ');
-        if let (Some(label), Some(text), Some(wanted)) =
-            (fields.next(), fields.next(), fields.next())
-        {
-            let on = wanted == "yes";
-            let id = patterns.whole(text)?;
-            let got = pass_all_ways(alloc, &mut patterns, &labels, label, RuleKind::Re(id))?;
-            assert_eq!(rt; got, (on, on, on), "{row}");
-            let got = pass_all_ways(alloc, &mut patterns, &labels, label, RuleKind::Nre(id))?;
-            assert_eq!(rt; got, (!on, !on, !on), "{row}");
-        }
-    }
-    assert_eq!(rt; patterns.text(PatternId(0)), "p.*");
-    for (text, on) in [("prod", true), ("", false)] {
-        let kind = RuleKind::Eq(Text::of(alloc, text)?);
-        let got = pass_all_ways(alloc, &mut patterns, &labels, "env", kind)?;
-        assert_eq!(rt; got, (on, on, on));
-        let kind = RuleKind::Ne(Text::of(alloc, text)?);
-        let got = pass_all_ways(alloc, &mut patterns, &labels, "env", kind)?;
-        assert_eq!(rt; got, (!on, !on, !on));
-    }
     Ok(())
 }

@@ -12,7 +12,10 @@ use Rattle.indexmap.specs.Layout.{set_value_at}
 use Rattle.label_set.specs.LabelEquality.{labels_eq, labels_decide}
 use Rattle.std.specs.Map.{keys_of, lookup, lookup_key}
 use Rattle.std.specs.Option.{option_map}
-use Rattle.sample_store.proofs.Entries.{sorted_insert}
+use Rattle.std.specs.Ordering.{is_eq, match_ordering}
+use Rattle.std.specs.declared.cmp.Ordering.{Ordering}
+use Rattle.std.specs.declared.cmp.Ordering.TheVariants.{Less, Equal, Greater}
+use Rattle.sample_store.proofs.Entries.{recursion_map, sorted_insert}
 use Rattle.ticks.specs.declared.moment.Ms.{Ms}
 use Rattle.xfrac.specs.declared.value.Held.{Held}
 use Rattle.sample_store.specs.Samples.{AllSeries, IsFoundAt, IsRising, Puts, PutsAt, Appends, IsRoomIn, IsStore, IsTimeAt, IsTimeGapAt, Names, Samples, IsNumberOf, held_in, is_same, labels_at, later_than, limit_broken, refusal_beside, refusal_in, refusal_of, sample_count, samples_of, time_cmp, with_sample}
@@ -368,3 +371,53 @@ few_there series count i samples s h = let o = one-there series i samples h in l
 
 pub rising_there : (series : AllSeries) (count i : ℕ) (samples : Samples) → IsStore series count → option_map (λ (one : Names × Samples). one.1) (slice_get series i) ≡ Some samples → IsRising samples
 rising_there series count i samples s h = let o = one-there series i samples h in rising-at series i o.0 samples s.rising o.1
+
+-- ---- an equal sample changes nothing
+
+not_behind : (at : Ms) (samples : Samples) (held : Held) → AllByRecursion (λ t. time_cmp at t ≡ Less) (keys_of samples) → held_in samples at ≡ Some held → ⊥
+not_behind at [] held a h = absurd (cc)
+not_behind at (s ∷ samples) held a h = not_behind at samples held a.1 (subst (λ (o : Ordering). cond (is_eq o) (Some s.1) (held_in samples at) ≡ Some held) a.0 h)
+
+insert_same : (at : Ms) (samples : Samples) (held : Held) → IsRising samples → held_in samples at ≡ Some held → insert_entry time_cmp samples at held ≡ samples
+unfolding IsStrictlySortedBy
+insert_same at [] held r h = absurd (cc)
+insert_same at (s ∷ samples) held r h = by (time_cmp at s.0) refl h (insert_same at samples held r.1)
+  where
+    by : (o : Ordering) → time_cmp at s.0 ≡ o → cond (is_eq o) (Some s.1) (held_in samples at) ≡ Some held → (held_in samples at ≡ Some held → insert_entry time_cmp samples at held ≡ samples)
+        → match_ordering o ((at, held) ∷ s ∷ samples) ((s.0, held) ∷ samples) (s ∷ insert_entry time_cmp samples at held) ≡ s ∷ samples
+    by Less e k rest = absurd (not_behind at samples held (recursion_map (λ y. time_cmp s.0 y ≡ Less) (λ y. time_cmp at y ≡ Less) (λ y l. time_cmp_total.trans at s.0 y e l) (keys_of samples) r.0) k)
+    by Equal e k rest = let same : s.1 ≡ held = cc in ap (λ (x : Held). (s.0, x) ∷ samples) (sym same)
+    by Greater e k rest = ap (λ (z : Samples). s ∷ z) (rest k)
+
+put_same : (series : AllSeries) (names : Names) (samples : Samples) → lookup (labels_eq names) series ≡ Some samples → put_entry labels_eq series names samples ≡ series
+put_same [] names samples h = absurd (cc)
+put_same (x ∷ xs) names samples h = by (labels_eq names x.0) h (put_same xs names samples)
+  where
+    by : (b : Bool) → cond b (Some x.1) (lookup (labels_eq names) xs) ≡ Some samples → (lookup (labels_eq names) xs ≡ Some samples → put_entry labels_eq xs names samples ≡ xs)
+        → (if b then (x.0, samples) ∷ xs else x ∷ put_entry labels_eq xs names samples) ≡ x ∷ xs
+    by true k rest = let same : x.1 ≡ samples = cc in ap (λ (z : Samples). (x.0, z) ∷ xs) (sym same)
+    by false k rest = ap (λ (z : AllSeries). x ∷ z) (rest k)
+
+rising_found : (series : AllSeries) (names : Names) (samples : Samples) → AllByRecursion (λ z. IsRising z.1) series → lookup (labels_eq names) series ≡ Some samples → IsRising samples
+rising_found [] names samples a h = absurd (cc)
+rising_found (x ∷ xs) names samples a h = by (labels_eq names x.0) h (rising_found xs names samples a.1)
+  where
+    by : (b : Bool) → cond b (Some x.1) (lookup (labels_eq names) xs) ≡ Some samples → (lookup (labels_eq names) xs ≡ Some samples → IsRising samples) → IsRising samples
+    by true k rest = let same : x.1 ≡ samples = cc in subst IsRising same a.0
+    by false k rest = rest k
+
+with_same : (series : AllSeries) (names : Names) (at : Ms) (held : Held) → AllByRecursion (λ z. IsRising z.1) series → held_in (samples_of series names) at ≡ Some held → with_sample series names at held ≡ series
+with_same series names at held a h = by (lookup (labels_eq names) series) refl h
+  where
+    by : (o : Option Samples) → lookup (labels_eq names) series ≡ o → held_in (unwrap_or o []) at ≡ Some held → with_sample series names at held ≡ series
+    by None e k = absurd (cc)
+    by (Some samples) e k =
+        let more : insert_entry time_cmp samples at held ≡ samples = insert_same at samples held (rising_found series names samples a e) k in
+        ap (λ (o : Option Samples). put_entry labels_eq series names (insert_entry time_cmp (unwrap_or o []) at held)) e
+        ∙ ap (put_entry labels_eq series names) more
+        ∙ put_same series names samples e
+
+pub told_same : (old new : AllSeries) (names : Names) (at : Ms) (held : Held) (r : Result (Unit {0}) StoreRefusal) → AllByRecursion (λ z. IsRising z.1) old
+    → Appends old new names at held r → held_in (samples_of old names) at ≡ Some held → new ≡ old
+told_same old new names at held (Ok u) rising a h = a.1 ∙ with_same old names at held rising h
+told_same old new names at held (Err e) rising a h = a.0

@@ -160,10 +160,11 @@ impl Store {
     /// changes and no memory is taken. It refuses, in this order, with Conflict another value at that time, with
     /// TooManySeries a series beyond 100,000 and with TooManySamples a sample beyond 2,000,000; only where none of these
     /// stands against it can memory run out. After an error the store is as it was.
-    #[tactic(auto, using(crate::proofs::Stores::told_refused, crate::proofs::Stores::told_there, crate::proofs::Stores::told_done, crate::proofs::Stores::told_left))]
+    #[tactic(auto, using(crate::proofs::Stores::told_refused, crate::proofs::Stores::told_there, crate::proofs::Stores::told_done, crate::proofs::Stores::told_left, crate::proofs::Stores::told_same))]
     pub fn append(&mut self, labels: &Labels, at: Ms, held: &Held) -> Result<(), StoreRefusal>
         ensures refused { MatchOption (refusal_of self.old labels.now at held.now) (IsOkUnless result StoreRefusal.Memory) (λ e. result ≡ Err e) }
         ensures taken { held_in (samples_of self.old labels.now) at ≡ Some held.now → IsOk result }
+        ensures same { held_in (samples_of self.old labels.now) at ≡ Some held.now → self.new ≡ self.old }
         ensures ok { OnOk result (self.new ≡ with_sample self.old labels.now at held.now) }
         ensures err { OnErr result (self.new ≡ self.old) }
     {
@@ -171,11 +172,12 @@ impl Store {
     }
 
     /// The same for the series with a number, whose labels aren't looked up. No series changes its number.
-    #[tactic(auto, using(crate::proofs::Stores::told_refused, crate::proofs::Stores::told_there, crate::proofs::Stores::told_done, crate::proofs::Stores::told_left))]
+    #[tactic(auto, using(crate::proofs::Stores::told_refused, crate::proofs::Stores::told_there, crate::proofs::Stores::told_done, crate::proofs::Stores::told_left, crate::proofs::Stores::told_same))]
     pub fn append_to(&mut self, s: u32, at: Ms, held: &Held) -> Result<(), StoreRefusal>
         requires { s < length self.old }
         ensures refused { MatchOption (refusal_of self.old (labels_at self.old s) at held.now) (IsOkUnless result StoreRefusal.Memory) (λ e. result ≡ Err e) }
         ensures taken { held_in (samples_of self.old (labels_at self.old s)) at ≡ Some held.now → IsOk result }
+        ensures same { held_in (samples_of self.old (labels_at self.old s)) at ≡ Some held.now → self.new ≡ self.old }
         ensures ok { OnOk result (self.new ≡ with_sample self.old (labels_at self.old s) at held.now) }
         ensures err { OnErr result (self.new ≡ self.old) }
         ensures many { length self.new ≡ length self.old }
@@ -186,7 +188,8 @@ impl Store {
 
     #[tactic(auto, using(crate::proofs::Stores::number_found))]
     fn append_one(&mut self, labels: &Labels, at: Ms, held: &Held) -> Result<(), StoreRefusal>
-        ensures { Appends self.old self.new labels.now at held.now result }
+        ensures appends { Appends self.old self.new labels.now at held.now result }
+        ensures rising { AllByRecursion (λ (s : Names × Samples). IsRising s.1) self.old }
     {
         match place_of(&self.series, self.latest, labels) {
             Some(place) => self.add_sample(place, at, held),
@@ -198,6 +201,7 @@ impl Store {
     fn add_sample(&mut self, place: usize, at: Ms, held: &Held) -> Result<(), StoreRefusal>
         requires { place < length self.old }
         ensures appends { Appends self.old self.new (labels_at self.old place) at held.now result }
+        ensures rising { AllByRecursion (λ (s : Names × Samples). IsRising s.1) self.old }
         ensures many { length self.new ≡ length self.old }
         ensures named { (k : ℕ) → labels_at self.new k ≡ labels_at self.old k }
     {
