@@ -47,8 +47,8 @@ fn spans_of(
 fn answers(alloc: Global, pattern: &str, value: &str) -> Result<String, PatternRefusal> {
     let mut patterns = Patterns::new(alloc);
     let id = patterns.whole(pattern)?;
-    let spans = spans_of(alloc, &mut patterns, id, value)?;
     let whole = said(patterns.matches(id, value)?);
+    let spans = spans_of(alloc, &mut patterns, id, value)?;
     let part = patterns.search(pattern)?;
     let found = said(patterns.matches(part, value)?);
     Ok(format!(in alloc; "{whole} {found} {spans}")?)
