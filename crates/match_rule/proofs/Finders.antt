@@ -41,6 +41,10 @@ through_seen : (n : ℕ) (o : Option Match) → option_map (group_spans n) o ≡
 through_seen n None = refl
 through_seen n (Some m) = ap Some (unfolds_seen n m)
 
+was_read : (o : Found) (a : Re) (names : Names) (most : ℕ) → IsOf a names most o → is_some (option_map (λ found. found.0.value) o) ≡ true
+was_read None a names most p = absurd p
+was_read (Some x) a names most p = refl
+
 groups_alike : (o : Found) (a : Re) (names : Names) (most : ℕ) → IsOf a names most o → (value : List ℕ) → ((k : ℕ) → get_or value k 0 < 256) → option_map (group_spans (length names)) (find_str a value 0) ≡ groups_read o value
 groups_alike None a names most p value bytes = absurd p
 groups_alike (Some x) a names most p value bytes =
@@ -56,6 +60,7 @@ module _ (r : Regex) (source : List ℕ) (is_source : regex_source r ≡ source)
   pub is_finder : IsFinder r source
   unfolding Reads
   is_finder = record {
+    read = was_read (read default_config (chars source)) (regex_pattern r) (regex_names r) default_config.nest_limit reads;
     found = found_alike (read default_config (chars source)) (regex_pattern r) (regex_names r) default_config.nest_limit reads;
     groups = groups_alike (read default_config (chars source)) (regex_pattern r) (regex_names r) default_config.nest_limit reads;
   }

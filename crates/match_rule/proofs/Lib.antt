@@ -1,2 +1,3 @@
 pub mod Finders
 pub mod Numbers
+pub mod Words

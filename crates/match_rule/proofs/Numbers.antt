@@ -1,9 +1,11 @@
 -- Where a pattern is among the kept ones.
-use Rattle.std.proofs.Common.{◌≡◌, ℕ, ◌<◌, ◌≤◌, ◌+◌, suc, zero, length-append, Bool, true, false, not, cond, List, [], ◌∷◌, ◌++◌, length, get_or, drop, map, Some, slice_get, refl, sym, ap, ◌∙◌, arith, ◌&&◌, bytes_eq}
+use Rattle.std.proofs.Common.{◌≡◌, ℕ, ◌<◌, ◌≤◌, ◌+◌, suc, zero, length-append, Bool, true, false, not, cond, List, [], ◌∷◌, ◌++◌, length, get_or, drop, map, Option, None, Some, is_none, slice_get, refl, subst, sym, ap, ◌∙◌, arith, ◌&&◌, ◌||◌, bytes_eq}
 use Rattle.std.proofs.lemmas.List.{at_drop_all, at_drop_more, length-map}
 use Rattle.std.proofs.lemmas.Slice.Eq.{bytes_eq-Decides}
 use Rattle.match_rule.specs.declared.patterns.Kept.{Kept}
-use Rattle.match_rule.specs.Patterns.{is_pattern, number_of}
+use Rattle.regex.specs.declared.string.regex.Regex.{Regex}
+use Rattle.std.specs.Option.{ForSome}
+use Rattle.match_rule.specs.Patterns.{IsFinder, is_pattern, is_plain, is_readable, number_of, regex_text}
 
 abbrev pub pattern_of : Kept → Bool × List ℕ
 pattern_of k = (k.whole, k.text)
@@ -70,3 +72,24 @@ pub earlier_kept : (ks : List Kept) (k : Kept) (i : ℕ) → i < length (map pat
 earlier_kept [] k i w = absurd (omega arith)
 earlier_kept (y ∷ ks) k zero w = refl
 earlier_kept (y ∷ ks) k (suc i) w = earlier_kept ks k i (omega arith)
+
+or_true : (b : Bool) → (b || true) ≡ true
+or_true true = refl
+or_true false = refl
+
+-- a kept pattern is plain, or was read
+kept_readable : (k : Kept) → is_readable k.whole k.text ≡ true
+kept_readable k = go k.regex k.is_plain k.is_finder
+  where
+    go : (o : Option Regex) → is_none o ≡ is_plain k.text → ForSome o (λ r. IsFinder r (regex_text k.whole k.text)) → is_readable k.whole k.text ≡ true
+    go None e h = rw (← e) refl
+    go (Some r) e h = rw ((h r refl).read) (or_true (is_plain k.text))
+
+pub readable_there : (q : Bool × List ℕ) (ks : List Kept) (n : ℕ) → slice_get (map pattern_of ks) n ≡ Some q → is_readable q.0 q.1 ≡ true
+readable_there q [] n e = absurd (cc)
+readable_there q (k ∷ ks) zero e = subst (λ (o : Option (Bool × List ℕ)). is_readable_in o ≡ true) e (kept_readable k)
+  where
+    is_readable_in : Option (Bool × List ℕ) → Bool
+    is_readable_in None = true
+    is_readable_in (Some p) = is_readable p.0 p.1
+readable_there q (k ∷ ks) (suc n) e = readable_there q ks n e

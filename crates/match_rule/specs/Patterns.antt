@@ -3,7 +3,7 @@
 -- That a text with no special character is a list of words, each of which stands for itself, follows from that; it is this
 -- project's own rule that such a text never reaches the regular expressions. Those are Rust's, by the words of `regex`.
 use Rattle.std.specs.Prelude.{◌≡◌, ◌≢◌, ℕ, zero, suc, slice_index, ◌<◌, Bool, true, false, List, [], ◌∷◌, ◌++◌, length, codes, bytes_eq, is_some, not, nat_lt, chars, slice_get, ◌==◌, ◌&&◌, ◌||◌, if◌then◌else◌, Option, None, Some}
-use Rattle.std.specs.List.{list_any, position_or_len, slice_split}
+use Rattle.std.specs.List.{AllByRecursion, list_all, list_any, position_or_len, slice_split}
 use Rattle.std.specs.Option.{option_map}
 use Rattle.regex.specs.Patterns.{Re, Match, find_str, default_config}
 use Rattle.regex.specs.Patterns.{span}
@@ -18,6 +18,8 @@ use Rattle.regex.specs.declared.error.Error.{Error}
 use Rattle.regex.specs.declared.error.Error.TheVariants.{OutOfMemory}
 use Rattle.regex_syntax.specs.Brackets.{Nested}
 use Rattle.regex_syntax.specs.Grammar.{Names, read}
+use Rattle.label_set.specs.Labels.{value_of}
+use Rattle.label_set.specs.declared.rules.Rule.{Rule}
 use Rattle.label_set.specs.declared.rules.RuleKind.{RuleKind}
 use Rattle.label_set.specs.declared.rules.RuleKind.TheVariants.{Eq, Ne, Re as Matching, Nre}
 
@@ -83,8 +85,17 @@ regex_finds text value = is_some (found_by (regex_tree text) value)
 
 -- a built pattern finds, in every list of bytes, what its text does
 pub record IsFinder (regex : Regex) (text : List ℕ) : Type 0 where
+  pub read : is_some (regex_tree text) ≡ true
   pub found : (value : List ℕ) → ((k : ℕ) → slice_index value k < 256) → is_some (find_str (regex_pattern regex) value 0) ≡ regex_finds text value
   pub groups : (value : List ℕ) → ((k : ℕ) → slice_index value k < 256) → option_map (group_spans (length (regex_names regex))) (find_str (regex_pattern regex) value 0) ≡ regex_groups text value
+
+-- the pattern of a matcher finds, in every list of bytes, what its text does
+pub record FindsAs (re : Re) (text : List ℕ) : Type 0 where
+  pub found : (value : List ℕ) → ((k : ℕ) → slice_index value k < 256) → is_some (find_str re value 0) ≡ regex_finds text value
+
+-- a text is plain, or the grammar of `regex` reads what `regex` is given for it
+abbrev pub is_readable : Bool → List ℕ → Bool
+is_readable whole text = is_plain text || is_some (regex_tree (regex_text whole text))
 
 -- what the groups of a pattern for whole values span, where the value passes; a plain text has group 0 alone
 abbrev pub pattern_groups : List ℕ → List ℕ → Option (List (Option (ℕ × ℕ)))
@@ -97,13 +108,14 @@ abbrev pub pattern_passes : Bool × List ℕ → List ℕ → Bool
 pattern_passes pattern value =
     if is_plain pattern.1 then plain_passes pattern.0 pattern.1 value else regex_finds (regex_text pattern.0 pattern.1) value
 
+-- what a pattern passes, if there is one
+abbrev pub passes_by : Option (Bool × List ℕ) → List ℕ → Bool
+passes_by None value = false
+passes_by (Some pattern) value = pattern_passes pattern value
+
 -- what the pattern of a number passes
 abbrev pub passes_at : List (Bool × List ℕ) → ℕ → List ℕ → Bool
-passes_at kept id value = passes_by (slice_get kept id)
-  where
-    passes_by : Option (Bool × List ℕ) → Bool
-    passes_by None = false
-    passes_by (Some pattern) = pattern_passes pattern value
+passes_at kept id value = passes_by (slice_get kept id) value
 
 -- what the groups of the pattern of a number span, which has to match the whole value
 abbrev pub groups_at : List (Bool × List ℕ) → ℕ → List ℕ → Option (List (Option (ℕ × ℕ)))
@@ -166,3 +178,26 @@ TakesNone (Eq text) = Unit {0}
 TakesNone (Ne text) = Unit {0}
 TakesNone (Matching id) = ⊥
 TakesNone (Nre id) = ⊥
+
+-- each rule has its pattern
+abbrev pub HaveTheirPatterns : List (Bool × List ℕ) → List Rule → Type 0
+HaveTheirPatterns kept rules = AllByRecursion (λ rule. HasItsPattern kept rule.kind) rules
+
+-- whether labels pass each of some rules; a missing label is the empty text
+abbrev pub labels_pass : List (Bool × List ℕ) → List Rule → List (List ℕ × List ℕ) → Bool
+labels_pass kept rules names = list_all (λ rule. kind_passes kept rule.kind (value_of names rule.label)) rules
+
+-- the pattern that a test names
+abbrev pub pattern_in : List (Bool × List ℕ) → RuleKind → Option (Bool × List ℕ)
+pattern_in kept (Eq text) = None
+pattern_in kept (Ne text) = None
+pattern_in kept (Matching id) = slice_get kept id.0
+pattern_in kept (Nre id) = slice_get kept id.0
+
+abbrev pub pattern_named : List (Bool × List ℕ) → Rule → Option (Bool × List ℕ)
+pattern_named kept rule = pattern_in kept rule.kind
+
+-- rules, and the patterns under the numbers that they name
+pub record RulesOver : Type 0 where
+  pub patterns : List (Bool × List ℕ)
+  pub tests : List Rule

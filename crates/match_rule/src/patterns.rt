@@ -1,10 +1,11 @@
-ghost use Rattle.match_rule.specs.Patterns.{IsFinder, IsRefused, IsWholeId, MayRefuse, first_locations, group_spans, groups_at, pattern_groups, plain_passes, is_kept, is_pattern, is_plain, number_of, passes_at, pattern_passes, regex_text, with_pattern};
+ghost use Rattle.match_rule.specs.Patterns.{IsFinder, IsRefused, IsWholeId, MayRefuse, first_locations, group_spans, groups_at, pattern_groups, plain_passes, is_kept, is_pattern, is_plain, is_readable, number_of, passes_at, regex_text, with_pattern};
 ghost use Rattle.std.specs.Option.{option_map};
-ghost use Rattle.std.specs.Prelude.{◌≡◌, ◌<◌, ◌≤◌, ℕ, true, false, [], ◌∷◌, None, Some, Err, if◌then◌else◌, MatchOption, length, is_none, is_some, map, slice_get, string_bytes, IfOk, IfErr, OnOk, OnErr, IsOk};
+ghost use Rattle.std.specs.Prelude.{◌≡◌, ◌<◌, ◌≤◌, ℕ, true, false, [], ◌∷◌, None, Some, Err, if◌then◌else◌, MatchOption, length, is_none, map, slice_get, string_bytes, IfOk, IfErr, OnOk, OnErr, IsOk};
 ghost use Rattle.regex.specs.Patterns.{find_str};
 ghost use Rattle.regex.specs.Strings.{regex_names, regex_pattern};
 ghost use Rattle.std.specs.Option.{ForSome};
 
+use crate::matcher::PatternMatcher;
 use crate::plain::{is_plain, plain_passes};
 use crate::spans::Spans;
 use label_set::{PatternId, Text};
@@ -54,10 +55,10 @@ impl<T: Drop> From<AllocFailed<T>> for PatternRefusal {
 
 /// A pattern: its text, whether it has to match the whole value, and, where the text isn't plain, what it was built to.
 #[derive(Drop)]
-struct Kept {
-    whole: bool,
-    text: Text,
-    regex: Option<Regex>,
+pub(crate) struct Kept {
+    pub(crate) whole: bool,
+    pub(crate) text: Text,
+    pub(crate) regex: Option<Regex>,
     ghost is_plain: { is_none regex ≡ is_plain text },
     ghost is_finder: { ForSome regex (λ r. IsFinder r (regex_text whole text)) },
 }
@@ -105,7 +106,8 @@ impl Patterns {
         ensures there { IfOk result (λ id. slice_get self.new id.0 ≡ Some (true, text.now)) }
         ensures ok { OnOk result (self.new ≡ with_pattern (true, text.now) self.old) }
         ensures err { OnErr result (self.new ≡ self.old) }
-        ensures refused { IfErr result (MayRefuse ((is_plain text.now ≡ false) × IsRefused (regex_text true text.now)) ((is_kept (true, text.now) self.old ≡ false) × (length self.old ≡ 32))) }
+        ensures refused { IfErr result (MayRefuse ((is_plain text.now ≡ false) × IsRefused (regex_text true text.now)) ((is_readable true text.now ≡ true) × (is_kept (true, text.now) self.old ≡ false) × (length self.old ≡ 32))) }
+        ensures readable { OnOk result (is_readable true text.now ≡ true) }
         ensures within { IfOk result (λ id. id.0 < length self.new) }
         ensures earlier { (k : ℕ) → k < length self.old → slice_get self.new k ≡ slice_get self.old k }
         ensures more { length self.old ≤ length self.new }
@@ -120,7 +122,8 @@ impl Patterns {
         ensures there { IfOk result (λ id. slice_get self.new id.0 ≡ Some (false, text.now)) }
         ensures ok { OnOk result (self.new ≡ with_pattern (false, text.now) self.old) }
         ensures err { OnErr result (self.new ≡ self.old) }
-        ensures refused { IfErr result (MayRefuse ((is_plain text.now ≡ false) × IsRefused (regex_text false text.now)) ((is_kept (false, text.now) self.old ≡ false) × (length self.old ≡ 32))) }
+        ensures refused { IfErr result (MayRefuse ((is_plain text.now ≡ false) × IsRefused (regex_text false text.now)) ((is_readable false text.now ≡ true) × (is_kept (false, text.now) self.old ≡ false) × (length self.old ≡ 32))) }
+        ensures readable { OnOk result (is_readable false text.now ≡ true) }
         ensures within { IfOk result (λ id. id.0 < length self.new) }
         ensures earlier { (k : ℕ) → k < length self.old → slice_get self.new k ≡ slice_get self.old k }
         ensures more { length self.old ≤ length self.new }
@@ -134,7 +137,8 @@ impl Patterns {
         ensures there { IfOk result (λ id. slice_get self.new id.0 ≡ Some (whole, text.now)) }
         ensures ok { OnOk result (self.new ≡ with_pattern (whole, text.now) self.old) }
         ensures err { OnErr result (self.new ≡ self.old) }
-        ensures refused { IfErr result (MayRefuse ((is_plain text.now ≡ false) × IsRefused (regex_text whole text.now)) ((is_kept (whole, text.now) self.old ≡ false) × (length self.old ≡ 32))) }
+        ensures refused { IfErr result (MayRefuse ((is_plain text.now ≡ false) × IsRefused (regex_text whole text.now)) ((is_readable whole text.now ≡ true) × (is_kept (whole, text.now) self.old ≡ false) × (length self.old ≡ 32))) }
+        ensures readable { OnOk result (is_readable whole text.now ≡ true) }
         ensures within { IfOk result (λ id. id.0 < length self.new) }
         ensures earlier { (k : ℕ) → k < length self.old → slice_get self.new k ≡ slice_get self.old k }
         ensures more { length self.old ≤ length self.new }
@@ -152,15 +156,26 @@ impl Patterns {
         Ok(PatternId(place as u32))
     }
 
+    /// The pattern under a number, made ready to test many values. The only error is want of memory, and a plain text takes
+    /// none.
+    pub fn matcher(&self, id: PatternId) -> Result<PatternMatcher<'_>, AllocError>
+        requires { id.0 < length self.now }
+        ensures pattern { IfOk result (λ m. slice_get self.now id.0 ≡ Some m) }
+        ensures plain { option_map (λ p. is_plain p.1) (slice_get self.now id.0) ≡ Some true → IsOk result }
+    {
+        PatternMatcher::of(*self.kept.allocator(), &self.kept[id.0 as usize])
+    }
+
     /// Whether the pattern under a number passes a value. The only error is want of memory, and a plain text takes none.
+    /// Each call makes the pattern ready anew; for many values take `matcher`.
     pub fn matches(&mut self, id: PatternId, value: &str) -> Result<bool, AllocError>
         requires { id.0 < length self.old }
         ensures answer { IfOk result (λ b. b ≡ passes_at self.old id.0 value.now) }
         ensures plain { option_map (λ p. is_plain p.1) (slice_get self.old id.0) ≡ Some true → IsOk result }
         ensures same { self.new ≡ self.old }
     {
-        let alloc = *self.kept.allocator();
-        test(alloc, &self.kept[id.0 as usize], value)
+        let mut matcher = self.matcher(id)?;
+        Ok(matcher.passes(value))
     }
 
     /// Whether the pattern under a number passes a value, and what its groups span there: group 0, the whole value, first.
@@ -188,17 +203,6 @@ impl Patterns {
                 Ok(false)
             }
         }
-    }
-}
-
-/// Whether a pattern passes a value. The only error is want of memory, and a plain text takes none.
-fn test(alloc: Global, kept: &Kept, value: &str) -> Result<bool, AllocError>
-    ensures answer { IfOk result (λ b. b ≡ pattern_passes (kept.now.whole, kept.now.text) value.now) }
-    ensures plain { is_plain kept.now.text ≡ true → IsOk result }
-{
-    match &kept.regex {
-        None => Ok(plain_passes(kept.whole, kept.text.as_str(), value)),
-        Some(regex) => regex_finds(alloc, regex, value),
     }
 }
 
@@ -283,6 +287,7 @@ fn is_pattern(kept: &Kept, whole: bool, text: &str) -> bool
 /// Builds a pattern; a plain text is kept as it stands.
 fn build(alloc: Global, whole: bool, text: &str) -> Result<Kept, PatternRefusal>
     ensures kept { IfOk result (λ k. (k.whole ≡ whole) × (k.text ≡ text.now)) }
+    ensures readable { OnOk result (is_readable whole text.now ≡ true) }
     ensures refused { IfErr result (MayRefuse ((is_plain text.now ≡ false) × IsRefused (regex_text whole text.now)) ⊥) }
 {
     let regex = if is_plain(text) {
@@ -321,12 +326,4 @@ fn compile_text(alloc: Global, text: &str) -> Result<Regex, PatternRefusal>
         Err(regex::Error::OutOfMemory) => Err(PatternRefusal::Memory),
         Err(_) => Err(PatternRefusal::BadPattern),
     }
-}
-
-/// Whether a built pattern is found in a value. The only error is want of memory.
-fn regex_finds(alloc: Global, regex: &Regex, value: &str) -> Result<bool, AllocError>
-    ensures { IfOk result (λ b. b ≡ is_some (find_str (regex_pattern regex.now) value.now 0)) }
-{
-    let mut matcher = regex.matcher(alloc)?;
-    Ok(matcher.is_match(value))
 }

@@ -1,4 +1,4 @@
-ghost use Rattle.match_rule.specs.Patterns.{begins_with, is_plain, is_special, plain_passes, stands_in, words};
+ghost use Rattle.match_rule.specs.Patterns.{is_plain, is_special, plain_passes, stands_in};
 ghost use Rattle.std.specs.List.{list_any};
 ghost use Rattle.std.specs.Prelude.{◌≡◌, not, bytes_eq, if◌then◌else◌};
 
@@ -30,38 +30,12 @@ fn word_passes(whole: bool, word: &str, value: &str) -> bool
     if whole {
         word == value
     } else {
-        stands_in(word.as_bytes(), value.as_bytes())
+        stands_in(word, value)
     }
 }
 
-/// Whether a word stands in a text.
-fn stands_in(word: &[u8], text: &[u8]) -> bool
+fn stands_in(word: &str, text: &str) -> bool
     ensures { result ≡ stands_in word.now text.now }
 {
-    let mut rest = text;
-    while let [_, tail @ ..] = rest {
-        if begins_with(word, rest) {
-            return true;
-        }
-        rest = tail;
-    }
-    begins_with(word, rest)
-}
-
-/// Whether a text begins with a word.
-fn begins_with(word: &[u8], text: &[u8]) -> bool
-    ensures { result ≡ begins_with word.now text.now }
-{
-    let mut left = word;
-    let mut rest = text;
-    while let [first, left_tail @ ..] = left {
-        match rest {
-            [other, rest_tail @ ..] if first == other => {
-                left = left_tail;
-                rest = rest_tail;
-            }
-            _ => return false,
-        }
-    }
-    true
+    text.contains(word)
 }

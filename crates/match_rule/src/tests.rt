@@ -1,49 +1,69 @@
+ghost use Rattle.match_rule.specs.Patterns.{IsWholeId};
+
 use crate::*;
-use label_set::{PatternId, Rule, RuleKind, Text};
+use label_set::PatternId;
 use std::alloc::Global;
 use std::test::Fail;
 
-/// Whether a pattern passes a value as a whole, and whether it is found in it.
-fn both_forms(alloc: Global, text: &str, value: &str) -> Result<(bool, bool), PatternRefusal> {
+// Rows are parted by `;`, and their fields by a blank: a pattern, a value, whether the pattern passes it as a whole and
+// whether it is found in it, and what the groups span. `''` is the empty text. Told by hand from the rules of Prometheus.
+const ROWS: &str = "'' '' yes yes 0-0;'' a no yes none;a|b| b yes yes 0-1;a|b| '' yes yes 0-0;a|b| ab no yes none;| '' yes yes 0-0;| | no yes none;api apis no yes none;b|c abd no yes none;é|x é yes yes 0-2;a.b axb yes yes 0-3;a.b a\nb yes no 0-3;a.b xaxb no yes none;.* '' yes yes 0-0;.* one\ntwo yes yes 0-7;(?i)x X yes yes 0-1;(?i)x xx no yes none;a|^b$ b yes yes 0-1;^a$ ba no no none;x+|y xxy no yes none;[0-9]{2} 1 no no none;(.*) 7 yes yes 0-1,0-1;(a)?(b) b yes yes 0-1,-,0-1;(a)|x(b+) xbb yes yes 0-3,-,1-3;(a)(b) b no no none";
+
+fn unquoted(text: &str) -> &str {
+    if text == "''" { "" } else { text }
+}
+
+fn said(passes: bool) -> &'static str {
+    if passes { "yes" } else { "no" }
+}
+
+/// What the groups of a pattern span in a value, as a text.
+fn spans_of(
+    alloc: Global,
+    patterns: &mut Patterns,
+    id: PatternId,
+    value: &str,
+) -> Result<String, Memory>
+    requires { IsWholeId patterns.old id.0 }
+{
+    let mut spans = Spans::new(alloc);
+    if !patterns.groups(id, value, &mut spans)? {
+        return String::from_str(alloc, "none");
+    }
+    let mut text = String::new(alloc);
+    for i in 0..spans.len() {
+        let comma = if i == 0 { "" } else { "," };
+        match spans.get(i) {
+            None => text.push_str(format!(in alloc; "{comma}-")?.as_str())?,
+            Some((start, end)) => {
+                text.push_str(format!(in alloc; "{comma}{start}-{end}")?.as_str())?
+            }
+        }
+    }
+    Ok(text)
+}
+
+/// A row's answers, as its line has them.
+fn answers(alloc: Global, pattern: &str, value: &str) -> Result<String, PatternRefusal> {
     let mut patterns = Patterns::new(alloc);
-    let whole = patterns.whole(text)?;
-    let part = patterns.search(text)?;
-    Ok((
-        patterns.matches(whole, value)?,
-        patterns.matches(part, value)?,
-    ))
+    let id = patterns.whole(pattern)?;
+    let whole = said(patterns.matches(id, value)?);
+    let spans = spans_of(alloc, &mut patterns, id, value)?;
+    let part = patterns.search(pattern)?;
+    let found = said(patterns.matches(part, value)?);
+    Ok(format!(in alloc; "{whole} {found} {spans}")?)
 }
 
 #[test]
 fn patterns_pass_values(rt: HostRuntime) -> Result<(), Fail> {
-    for (text, value, whole, part) in [
-        ("", "", true, true),
-        ("", "a", false, true),
-        ("a|b|", "b", true, true),
-        ("a|b|", "", true, true),
-        ("a|b|", "ab", false, true),
-        ("|", "", true, true),
-        ("|", "|", false, true),
-        ("api", "apis", false, true),
-        ("b|c", "abd", false, true),
-        ("é|x", "é", true, true),
-        ("a.b", "axb", true, true),
-        ("a.b", "a\nb", true, false),
-        ("a.b", "xaxb", false, true),
-        (".*", "", true, true),
-        (".*", "one\ntwo", true, true),
-        ("(?i)x", "X", true, true),
-        ("(?i)x", "xx", false, true),
-        ("a|^b$", "b", true, true),
-        ("^a$", "ba", false, false),
-        ("x+|y", "xxy", false, true),
-        ("[0-9]{2}", "1", false, false),
-    ] {
-        assert_eq!(rt;
-            both_forms(rt.alloc(), text, value)?,
-            (whole, part),
-            "{text} {value}"
-        );
+    for row in ROWS.split(';') {
+        let mut fields = row.splitn(3, ' ');
+        if let (Some(pattern), Some(value), Some(wanted)) =
+            (fields.next(), fields.next(), fields.next())
+        {
+            let got = answers(rt.alloc(), unquoted(pattern), unquoted(value))?;
+            assert_eq!(rt; got.as_str(), wanted, "{row}");
+        }
     }
     Ok(())
 }
@@ -59,7 +79,7 @@ fn keep_many(patterns: &mut Patterns, alloc: Global, count: u32) -> Result<(), P
 #[test]
 fn there_are_32_patterns(rt: HostRuntime) -> Result<(), Fail> {
     let mut patterns = Patterns::new(rt.alloc());
-    for text in ["(", "[a", "*", "a{2,1}", "(?P<n>"] {
+    for text in "( [a * a{2,1} (?P<n>".split(' ') {
         assert_eq!(rt; patterns.whole(text), Err(PatternRefusal::BadPattern));
         assert_eq!(rt; patterns.search(text), Err(PatternRefusal::BadPattern));
     }
@@ -68,104 +88,8 @@ fn there_are_32_patterns(rt: HostRuntime) -> Result<(), Fail> {
     assert_eq!(rt; patterns.whole("a.b"), Ok(PatternId(0)));
     assert_eq!(rt; keep_many(&mut patterns, rt.alloc(), 30), Ok(()));
     assert_eq!(rt; patterns.whole("a29"), Ok(PatternId(31)));
-    assert_eq!(rt; patterns.search("a.b"), Ok(PatternId(1)));
-    assert_eq!(rt;
-        patterns.search("a29"),
-        Err(PatternRefusal::TooManyPatterns)
-    );
+    assert_eq!(rt; patterns.search("a29"), Err(PatternRefusal::TooManyPatterns));
     assert_eq!(rt; patterns.whole("x.y"), Err(PatternRefusal::TooManyPatterns));
     assert_eq!(rt; patterns.whole("("), Err(PatternRefusal::BadPattern));
-    Ok(())
-}
-
-fn span_at(spans: &Spans, i: usize) -> Option<(usize, usize)> {
-    if i < spans.len() { spans.get(i) } else { None }
-}
-
-fn groups_of(
-    alloc: Global,
-    text: &str,
-    value: &str,
-    into: &mut Spans,
-) -> Result<bool, PatternRefusal> {
-    let mut patterns = Patterns::new(alloc);
-    let id = patterns.whole(text)?;
-    Ok(patterns.groups(id, value, into)?)
-}
-
-#[test]
-fn groups_have_spans(rt: HostRuntime) -> Result<(), Fail> {
-    let mut spans = Spans::new(rt.alloc());
-    for (text, value, passes, count, first, second) in [
-        ("a|b", "b", true, 1, None, None),
-        ("a|b", "c", false, 0, None, None),
-        ("(.*)", "7", true, 2, Some((0, 1)), None),
-        ("(a)?(b)", "b", true, 3, None, Some((0, 1))),
-        ("(a)|x(b+)", "xbb", true, 3, None, Some((1, 3))),
-        ("(a)(b)", "b", false, 0, None, None),
-    ] {
-        assert_eq!(rt; groups_of(rt.alloc(), text, value, &mut spans)?, passes);
-        assert_eq!(rt; spans.len(), count);
-        assert_eq!(rt; span_at(&spans, 1), first);
-        assert_eq!(rt; span_at(&spans, 2), second);
-    }
-    Ok(())
-}
-
-/// Whether a value passes the rules `=` and `!=` with a text.
-fn equality_passes(alloc: Global, text: &str, value: &str) -> Result<(bool, bool), Memory> {
-    let mut patterns = Patterns::new(alloc);
-    let equal = Rule {
-        label: Text::of(alloc, "env")?,
-        kind: RuleKind::Eq(Text::of(alloc, text)?),
-    };
-    let unequal = Rule {
-        label: Text::of(alloc, "env")?,
-        kind: RuleKind::Ne(Text::of(alloc, text)?),
-    };
-    Ok((
-        passes(&equal, &mut patterns, value)?,
-        passes(&unequal, &mut patterns, value)?,
-    ))
-}
-
-/// Whether a value passes the rules `=~` and `!~` with a pattern.
-fn pattern_passes(alloc: Global, text: &str, value: &str) -> Result<(bool, bool), PatternRefusal> {
-    let mut patterns = Patterns::new(alloc);
-    let id = patterns.whole(text)?;
-    let matching = Rule {
-        label: Text::of(alloc, "env")?,
-        kind: RuleKind::Re(id),
-    };
-    let unmatching = Rule {
-        label: Text::of(alloc, "env")?,
-        kind: RuleKind::Nre(id),
-    };
-    Ok((
-        passes(&matching, &mut patterns, value)?,
-        passes(&unmatching, &mut patterns, value)?,
-    ))
-}
-
-/// The text of a pattern that was kept.
-fn text_kept(alloc: Global, text: &str) -> Result<Text, PatternRefusal> {
-    let mut patterns = Patterns::new(alloc);
-    let id = patterns.search(text)?;
-    Ok(Text::of(alloc, patterns.text(id))?)
-}
-
-#[test]
-fn rules_pass_values(rt: HostRuntime) -> Result<(), Fail> {
-    for (text, value, equal) in [("prod", "prod", true), ("prod", "", false), ("", "", true)] {
-        assert_eq!(rt; equality_passes(rt.alloc(), text, value)?, (equal, !equal));
-    }
-    for (text, value, passed) in [
-        ("prod|", "", true),
-        ("prod|", "dev", false),
-        ("p.*", "prod", true),
-    ] {
-        assert_eq!(rt; pattern_passes(rt.alloc(), text, value)?, (passed, !passed));
-    }
-    assert_eq!(rt; text_kept(rt.alloc(), "(?i)up|x")?.as_str(), "(?i)up|x");
     Ok(())
 }

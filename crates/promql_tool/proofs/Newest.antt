@@ -1,5 +1,5 @@
 -- The newest sample, as it is found from the front on, and the series of a name, as they are found by their numbers.
-use Rattle.std.proofs.Common.{◌≡◌, ℕ, ◌+◌, ◌<◌, Bool, true, false, List, [], ◌∷◌, ◌++◌, length, reverse, filter, Option, None, Some, refl, sym, ap, subst, ◌∙◌, arith, append_assoc}
+use Rattle.std.proofs.Common.{◌≡◌, ℕ, ◌+◌, ◌<◌, Bool, true, false, List, [], ◌∷◌, ◌++◌, length, zero, suc, Contains, reverse, filter, Option, None, Some, refl, sym, ap, subst, ◌∙◌, arith, append_assoc}
 use Rattle.std.specs.Prelude.{ℤ, ◌<ℤ◌, int_lt, not, find, option_and_then, slice_get, bytes_eq, if◌then◌else◌, ◌&&◌}
 use Rattle.std.specs.List.{AllByRecursion, cons_option, filter_map}
 use Rattle.std.specs.Option.{option_or}
@@ -13,7 +13,8 @@ use Rattle.std.specs.List.Sorted.{IsStrictlySortedBy}
 use Rattle.label_set.specs.Labels.{metric_name, value_of}
 use Rattle.label_set.specs.declared.rules.Rule.{Rule}
 use Rattle.label_set.specs.declared.rules.RuleKind.TheVariants.{Eq}
-use Rattle.sample_store.specs.Samples.{AllSeries, Names, Samples, IsRising, labels_pass, selected}
+use Rattle.match_rule.specs.Patterns.{labels_pass}
+use Rattle.sample_store.specs.Samples.{AllSeries, IsRising, IsSelected, Names, Samples, by_labels, chosen}
 use Rattle.ticks.specs.declared.moment.Ms.{Ms}
 use Rattle.xfrac.specs.declared.value.Held.{Held}
 use Rattle.xfrac.specs.declared.value.XFrac.{XFrac}
@@ -86,43 +87,35 @@ lasts at samples rising = last_found at samples rising None ∙ then-found (find
 -- ---- the series of a name
 
 -- the rule that a metric has this name
-abbrev named_rule : List ℕ → Rule
+abbrev pub named_rule : List ℕ → Rule
 named_rule name = record { label = metric_name; kind = Eq name }
 
 passes_named : (kept : List (Bool × List ℕ)) (name : List ℕ) (series : Names × Samples) → labels_pass kept (named_rule name ∷ []) series.0 ≡ is_named name series
 passes_named kept name series = elim (bytes_eq (value_of series.0 metric_name) name) as (λ b. (b && true) ≡ b) [ true ↦ refl | false ↦ refl ]
 
-get_behind : (front : AllSeries) (one : Names × Samples) (rest : AllSeries) → slice_get (front ++ one ∷ rest) (length front) ≡ Some one
-get_behind [] one rest = refl
-get_behind (x ∷ front) one rest = get_behind front one rest
+-- the rows of some numbers are those of the series that they stand for
+rows_of : (at : ℤ) (all : AllSeries) (numbers : List ℕ) → filter_map (row_numbered at all) numbers ≡ filter_map (newest_row at) (filter_map (slice_get all) numbers)
+rows_of at all [] = refl
+rows_of at all (n ∷ numbers) = by (slice_get all n) (rows_of at all numbers)
+  where
+    by : (o : Option (Names × Samples)) → filter_map (row_numbered at all) numbers ≡ filter_map (newest_row at) (filter_map (slice_get all) numbers)
+        → cons_option (option_and_then (newest_row at) o) (filter_map (row_numbered at all) numbers) ≡ filter_map (newest_row at) (cons_option o (filter_map (slice_get all) numbers))
+    by None rest = rest
+    by (Some one) rest = ap (cons_option (newest_row at one)) rest
 
--- the numbers of those that pass stand for them
-rows_of_selected : (kept : List (Bool × List ℕ)) (name : List ℕ) (at : ℤ) (front rest : AllSeries)
-    → filter_map (row_numbered at (front ++ rest)) (selected kept (named_rule name ∷ []) (length front) rest) ≡ filter_map (newest_row at) (filter (is_named name) rest)
-rows_of_selected kept name at front [] = refl
-rows_of_selected kept name at front (one ∷ rest) =
-    let all = front ++ one ∷ rest in
-    let P : AllSeries → ℕ → Type 0 = λ whole number.
-    filter_map (row_numbered at whole) (selected kept (named_rule name ∷ []) number rest) ≡ filter_map (newest_row at) (filter (is_named name) rest) in
-    let count : length (front ++ one ∷ []) ≡ length front + 1 = length-append front (one ∷ []) in
-    let later = subst (P all) count (subst (λ whole. P whole (length (front ++ one ∷ []))) (append_assoc front (one ∷ []) rest) (rows_of_selected kept name at (front ++ one ∷ []) rest)) in
-    let S = selected kept (named_rule name ∷ []) (length front + 1) rest in
-    rw (passes_named kept name one) (elim (is_named name one) as (λ b.
-    filter_map (row_numbered at all) (if b then length front ∷ S else S) ≡ filter_map (newest_row at) (if b then one ∷ filter (is_named name) rest else filter (is_named name) rest))
-    [ true ↦ rw (get_behind front one rest) (ap (cons_option (newest_row at one)) later) | false ↦ later ])
+filters_named : (kept : List (Bool × List ℕ)) (name : List ℕ) (series : AllSeries) → filter (λ s. labels_pass kept (named_rule name ∷ []) s.0) series ≡ filter (is_named name) series
+filters_named kept name [] = refl
+filters_named kept name (one ∷ series) =
+    rw (passes_named kept name one) (ap (λ (rest : AllSeries). if is_named name one then one ∷ rest else rest) (filters_named kept name series))
 
-pub rows_selected : (kept : List (Bool × List ℕ)) (name : List ℕ) (at : Ms) (all : AllSeries)
-    → filter_map (row_numbered at.0 all) (selected kept (named_rule name ∷ []) 0 all) ≡ answer all name at
-rows_selected kept name at all = rows_of_selected kept name at.0 [] all
+pub rows_chosen : (kept : List (Bool × List ℕ)) (name : List ℕ) (at : Ms) (all : AllSeries) (numbers : List ℕ) → filter_map (slice_get all) numbers ≡ chosen kept (named_rule name ∷ []) all
+    → filter_map (row_numbered at.0 all) numbers ≡ answer all name at
+rows_chosen kept name at all numbers is = rows_of at.0 all numbers ∙ ap (filter_map (newest_row at.0)) (is ∙ filters_named kept name (by_labels all))
 
 -- each number that is selected is that of a series
-selected_between : (kept : List (Bool × List ℕ)) (rules : List Rule) (number : ℕ) (rest : AllSeries) (end : ℕ) → number + length rest ≡ end
-    → AllByRecursion (λ (n : ℕ). n < end) (selected kept rules number rest)
-selected_between kept rules number [] end is = tt
-selected_between kept rules number (one ∷ rest) end is =
-    let later = selected_between kept rules (number + 1) rest end (omega arith) in
-    elim (labels_pass kept rules one.0) as (λ b. AllByRecursion (λ (n : ℕ). n < end) (if b then number ∷ selected kept rules (number + 1) rest else selected kept rules (number + 1) rest))
-    [ true ↦ (omega arith, later) | false ↦ later ]
+numbers_within : (bound : ℕ) (numbers : List ℕ) → ((s : ℕ) → Contains numbers s → s < bound) → AllByRecursion (λ (n : ℕ). n < bound) numbers
+numbers_within bound [] h = tt
+numbers_within bound (n ∷ numbers) h = (h n (0, omega arith, refl), numbers_within bound numbers (λ s c. h s (suc c.0, omega (arith, c.1), c.2)))
 
-pub selected_within : (kept : List (Bool × List ℕ)) (rules : List Rule) (all : AllSeries) → AllByRecursion (λ (n : ℕ). n < length all) (selected kept rules 0 all)
-selected_within kept rules all = selected_between kept rules 0 all (length all) (omega arith)
+pub selected_within : (kept : List (Bool × List ℕ)) (rules : List Rule) (all : AllSeries) (numbers : List ℕ) → IsSelected kept rules all numbers → AllByRecursion (λ (n : ℕ). n < length all) numbers
+selected_within kept rules all numbers s = numbers_within (length all) numbers (λ n c. ((s.exact n).0 c).0)

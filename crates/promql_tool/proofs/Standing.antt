@@ -1,5 +1,5 @@
 -- Where the samples of a load stand once they are put.
-use Rattle.std.proofs.Common.{◌≡◌, ℕ, zero, suc, ◌+◌, Bool, true, false, cond, List, [], ◌∷◌, Option, None, Some, Result, Ok, Err, refl, sym, ap, subst, ◌∙◌, arith, ◌⊎◌, inl, inr, ⊎_elim, zero-add, slice_get, unwrap_or}
+use Rattle.std.proofs.Common.{◌≡◌, ℕ, zero, suc, ◌+◌, Bool, true, false, cond, List, [], ◌∷◌, Option, None, Some, Result, Ok, Err, refl, sym, ap, subst, ◌∙◌, arith, ◌⊎◌, inl, inr, ⊎_elim, zero-add, slice_get}
 use Rattle.std.specs.Prelude.{ℤ, pos, ◌*ℤ◌, ◌↔◌}
 use Rattle.std.specs.BTreeMap.{insert_entry, is_at}
 use Rattle.std.specs.Cmp.{IsTotalOrder, tied_itself}
@@ -12,8 +12,7 @@ use Rattle.label_set.specs.Labels.{labels_cmp}
 use Rattle.sample_store.specs.Samples.{AllSeries, Samples, held_in, is_same, limit_broken, refusal_beside, refusal_of, samples_of, time_cmp, with_sample}
 use Rattle.sample_store.specs.declared.refusal.StoreRefusal.{StoreRefusal}
 use Rattle.sample_store.specs.declared.refusal.StoreRefusal.TheVariants.{Conflict}
-use Rattle.sample_store.proofs.Halves.{time_cmp_total, time_cmp_ties}
-use Rattle.sample_store.proofs.Sameness.{held-same}
+use Rattle.sample_store.specs.Laws.{held_same, others_now, samples_now, time_cmp_total, time_cmp_ties}
 use Rattle.ticks.specs.declared.moment.Ms.{Ms}
 use Rattle.xfrac.specs.declared.value.Held.{Held}
 use Rattle.promql_tool.specs.Loads.{IsSaid, Slot, Empty, Filled, Outside, Stands, is_beyond, line_put, line_slots, slot_put, slots_put, unless_refused}
@@ -65,17 +64,8 @@ module _ (before : AllSeries) (labels : LabelList) (at : Ms) (held : Held) where
   abbrev now : AllSeries
   now = with_sample before labels at held
 
-  abbrev more : Samples
-  more = insert_entry time_cmp (samples_of before labels) at held
-
-  labels_now : samples_of now labels ≡ more
-  labels_now = ap (λ (o : Option Samples). unwrap_or o []) (found_here labels_cmp labels_cmp_total labels_cmp_ties before labels more)
-
-  others_now : (names : LabelList) → (labels ≡ names → ⊥) → samples_of now names ≡ samples_of before names
-  others_now names ne = ap (λ (o : Option Samples). unwrap_or o []) (found_there labels_cmp labels_cmp_total labels_cmp_ties before labels names more ne)
-
   pub put_stands : Stands now labels at held
-  put_stands = ap (λ (samples : Samples). held_in samples at) labels_now ∙ found_here time_cmp time_cmp_total time_cmp_ties (samples_of before labels) at held
+  put_stands = ap (λ (samples : Samples). held_in samples at) (samples_now before labels at held) ∙ found_here time_cmp time_cmp_total time_cmp_ties (samples_of before labels) at held
 
   -- another sample stands as it did
   other_stands : (names : LabelList) (t : Ms) → ((labels ≡ names) × (at ≡ t) → ⊥) → held_in (samples_of now names) t ≡ held_in (samples_of before names) t
@@ -83,8 +73,8 @@ module _ (before : AllSeries) (labels : LabelList) (at : Ms) (held : Held) where
     where
       by : (labels ≡ names) ⊎ (labels ≡ names → ⊥) → held_in (samples_of now names) t ≡ held_in (samples_of before names) t
       by (inl same) = subst (λ (n : LabelList). held_in (samples_of now n) t ≡ held_in (samples_of before n) t) same
-          (ap (λ (samples : Samples). held_in samples t) labels_now ∙ found_there time_cmp time_cmp_total time_cmp_ties (samples_of before labels) at t held (λ is. ne (same, is)))
-      by (inr other) = ap (λ (samples : Samples). held_in samples t) (others_now names other)
+          (ap (λ (samples : Samples). held_in samples t) (samples_now before labels at held) ∙ found_there time_cmp time_cmp_total time_cmp_ties (samples_of before labels) at t held (λ is. ne (same, is)))
+      by (inr other) = ap (λ (samples : Samples). held_in samples t) (others_now before labels names at held other)
 
   -- what stood is what is put, where nothing is refused
   agrees : (broken : Option StoreRefusal) (kept : Held) → refusal_beside (Some kept) broken held ≡ None → kept ≡ held
@@ -92,7 +82,7 @@ module _ (before : AllSeries) (labels : LabelList) (at : Ms) (held : Held) where
       by (is_same kept held) refl taken
     where
       by : (b : Bool) → is_same kept held ≡ b → cond {A = Option StoreRefusal} b None (Some (Conflict kept held)) ≡ None → kept ≡ held
-      by true h t = (held-same kept held).0 h
+      by true h t = (held_same kept held).0 h
       by false h t = absurd (cc)
 
   pub stands_on : refusal_of before labels at held ≡ None → (names : LabelList) (t : Ms) (h : Held)

@@ -1,5 +1,5 @@
 -- What reading, loading and running give, unless memory runs out.
-use Rattle.std.specs.Prelude.{◌≡◌, ℕ, ◌++◌, Result, Ok, Err, List, map}
+use Rattle.std.specs.Prelude.{◌≡◌, ℕ, ◌++◌, Option, None, Some, Result, Ok, Err, List, map}
 use Rattle.std.specs.Borrow.{Bor}
 use Rattle.promql_tool.specs.Lines.{Numbered}
 use Rattle.promql_tool.specs.Views.{numbered}
@@ -15,7 +15,7 @@ use Rattle.promql_tool.specs.declared.script.Script.{Script}
 use Rattle.promql_tool.specs.declared.script.ScriptRefusal.{ScriptRefusal}
 use Rattle.promql_tool.specs.declared.fault.ReadFault.{ReadFault}
 use Rattle.promql_tool.specs.declared.fault.ReadFault.TheVariants.{Refused, Memory}
-use Rattle.sample_store.specs.Samples.{AllSeries}
+use Rattle.sample_store.specs.Samples.{AllSeries, IsNumberOf}
 use Rattle.sample_store.specs.declared.refusal.StoreRefusal.{StoreRefusal}
 use Rattle.sample_store.specs.declared.refusal.StoreRefusal.TheVariants.{Memory as NoRoom}
 use Rattle.ticks.specs.declared.moment.Ms.{Ms}
@@ -36,6 +36,11 @@ abbrev pub Leaves : {X : Type 0} → Result X ReadFault → AllSeries → Result
 Leaves (Ok _) now said = said ≡ Ok now
 Leaves (Err (Refused refusal)) now said = said ≡ Err refusal
 Leaves (Err Memory) now said = Unit {0}
+
+-- a line's series has the number that is known of it, if one is
+abbrev pub IsKnown : AllSeries → LabelList → Option ℕ → Type 0
+IsKnown series labels None = Unit {0}
+IsKnown series labels (Some s) = IsNumberOf series labels s
 
 -- slots were put, and others behind them stand from the next place on; or they are refused, whatever stands behind them
 abbrev pub PutsOn : ℕ → LabelList → Ms → ℕ → List Slot → AllSeries → Result ℕ ReadFault → AllSeries → Type 0

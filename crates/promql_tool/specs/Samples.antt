@@ -2,7 +2,7 @@
 use Rattle.std.specs.Prelude.{ℕ, Bool, not, List, reverse, filter, Option, None, Some, ℤ, pos, ◌-ℤ◌, int_lt, bytes_eq, find, option_map, option_and_then, slice_get}
 use Rattle.std.specs.List.{filter_map}
 use Rattle.label_set.specs.Labels.{metric_name, value_of}
-use Rattle.sample_store.specs.Samples.{AllSeries, Names, Samples, later_than}
+use Rattle.sample_store.specs.Samples.{AllSeries, Names, Samples, by_labels, later_than}
 use Rattle.ticks.specs.declared.moment.Ms.{Ms}
 use Rattle.xfrac.specs.declared.value.Held.{Held}
 use Rattle.xfrac.specs.declared.value.Held.TheVariants.{Value, Stale}
@@ -43,4 +43,4 @@ row_numbered at all number = option_and_then (newest_row at) (slice_get all numb
 
 -- what a metric's name gives at a time: a row for each series of that name that has a newest value, in label order
 abbrev pub answer : AllSeries → List ℕ → Ms → List Row
-answer all name at = filter_map (newest_row at.0) (filter (is_named name) all)
+answer all name at = filter_map (newest_row at.0) (filter (is_named name) (by_labels all))

@@ -1,7 +1,8 @@
 //! Loading: the samples of a script's series lines, put into the store or refused.
 ghost use Rattle.promql_tool.specs.Loads.{Filled, is_beyond, left_by, left_by_all, line_put, lines_put, loads_judged, run_slots, sample_put, slot_put, slots_of};
-ghost use Rattle.promql_tool.specs.Readings.{Leaves, PutsOn, TakesLoads, fault_for};
-ghost use Rattle.std.specs.Prelude.{◌≡◌, ◌≤◌, ◌<◌, ◌+◌, ◌^◌, pos, ◌*ℤ◌, Ok, Err, false, true, IfOk, IsErr, MatchOption, MatchResult};
+ghost use Rattle.promql_tool.specs.Readings.{IsKnown, Leaves, PutsOn, TakesLoads, fault_for};
+ghost use Rattle.sample_store.specs.Samples.{refusal_of, with_sample};
+ghost use Rattle.std.specs.Prelude.{◌≡◌, ◌≤◌, ◌<◌, ◌+◌, ◌^◌, pos, ◌*ℤ◌, Ok, Err, false, true, IfOk, IsErr, IsOkUnless, MatchOption, MatchResult, OnErr, OnOk};
 ghost use Rattle.xfrac.specs.Arithmetic.{arithmetic};
 
 use crate::fault::ReadFault;
@@ -49,10 +50,56 @@ fn fault_for(line: u32, refusal: StoreRefusal) -> ReadFault
     }
 }
 
-fn append(store: &mut Store, target: Target<'_>, at: Ms, held: &Held) -> Result<(), ReadFault>
-    ensures { Leaves result store.new (sample_put target.entry.line target.entry.labels.now at held.now store.old) }
+/// Puts a sample into the series with these labels, whose number is told from then on.
+fn append_first(
+    store: &mut Store,
+    labels: &Labels,
+    series: &mut Option<u32>,
+    at: Ms,
+    held: &Held,
+) -> Result<(), StoreRefusal>
+    ensures refused { MatchOption (refusal_of store.old labels.now at held.now) (IsOkUnless result StoreRefusal.Memory) (λ e. result ≡ Err e) }
+    ensures ok { OnOk result (store.new ≡ with_sample store.old labels.now at held.now) }
+    ensures err { OnErr result (store.new ≡ store.old) }
+    ensures known { IsKnown store.new labels.now series.new }
 {
-    match store.append(target.labels, at, held) {
+    let answer = store.append(labels, at, held);
+    *series = store.find(labels);
+    answer
+}
+
+/// The same where the number may be known; then the labels aren't looked up.
+fn append_next(
+    store: &mut Store,
+    labels: &Labels,
+    series: &mut Option<u32>,
+    at: Ms,
+    held: &Held,
+) -> Result<(), StoreRefusal>
+    requires { IsKnown store.old labels.now series.old }
+    ensures refused { MatchOption (refusal_of store.old labels.now at held.now) (IsOkUnless result StoreRefusal.Memory) (λ e. result ≡ Err e) }
+    ensures ok { OnOk result (store.new ≡ with_sample store.old labels.now at held.now) }
+    ensures err { OnErr result (store.new ≡ store.old) }
+    ensures known { IsKnown store.new labels.now series.new }
+{
+    match *series {
+        Some(s) => store.append_to(s, at, held),
+        None => append_first(store, labels, series, at, held),
+    }
+}
+
+fn append(
+    store: &mut Store,
+    target: Target<'_>,
+    series: &mut Option<u32>,
+    at: Ms,
+    held: &Held,
+) -> Result<(), ReadFault>
+    requires { IsKnown store.old target.labels.now series.old }
+    ensures put { Leaves result store.new (sample_put target.entry.line target.entry.labels.now at held.now store.old) }
+    ensures known { IsKnown store.new target.entry.labels.now series.new }
+{
+    match append_next(store, target.labels, series, at, held) {
         Ok(()) => Ok(()),
         Err(refusal) => Err(fault_for(target.line, refusal)),
     }
@@ -68,13 +115,16 @@ fn out_of_range<T>(line: u32) -> Result<T, ReadFault>
 fn put_sample(
     store: &mut Store,
     target: Target<'_>,
+    series: &mut Option<u32>,
     place: u128,
     held: &Held,
 ) -> Result<(), ReadFault>
-    ensures { Leaves result store.new (slot_put target.entry.line target.entry.labels.now (pos place *ℤ target.entry.interval.0) (Filled held.now) store.old) }
+    requires { IsKnown store.old target.labels.now series.old }
+    ensures put { Leaves result store.new (slot_put target.entry.line target.entry.labels.now (pos place *ℤ target.entry.interval.0) (Filled held.now) store.old) }
+    ensures known { IsKnown store.new target.entry.labels.now series.new }
 {
     match time_of(place, target.interval) {
-        Some(at) => append(store, target, at, held),
+        Some(at) => append(store, target, series, at, held),
         None => out_of_range(target.line),
     }
 }
@@ -94,23 +144,26 @@ fn next_value(line: u32, value: &XFrac, by: &XFrac) -> Result<XFrac, ReadFault>
 fn put_run(
     store: &mut Store,
     target: Target<'_>,
+    series: &mut Option<u32>,
     start: u128,
     first: &XFrac,
     by: &XFrac,
     more: u32,
 ) -> Result<u128, ReadFault>
-    requires { start < 2 ^ 100 }
+    requires near { start < 2 ^ 100 }
+    requires known { IsKnown store.old target.labels.now series.old }
     ensures put { PutsOn target.entry.line target.entry.labels.now target.entry.interval start (run_slots more first.now by.now) store.old result store.new }
     ensures near { IfOk result (λ next. next ≤ start + 2 ^ 32) }
+    ensures known { IsKnown store.new target.entry.labels.now series.new }
 {
     let mut place = start;
     let mut value = *first;
     for _ in 0..more {
-        put_sample(store, target, place, &Held::Value(value))?;
+        put_sample(store, target, series, place, &Held::Value(value))?;
         value = next_value(target.line, &value, by)?;
         place += 1;
     }
-    put_sample(store, target, place, &Held::Value(value))?;
+    put_sample(store, target, series, place, &Held::Value(value))?;
     Ok(place + 1)
 }
 
@@ -118,20 +171,25 @@ fn put_run(
 fn put_item(
     store: &mut Store,
     target: Target<'_>,
+    series: &mut Option<u32>,
     place: u128,
     item: &SeriesItem,
 ) -> Result<u128, ReadFault>
-    requires { place < 2 ^ 100 }
+    requires near { place < 2 ^ 100 }
+    requires known { IsKnown store.old target.labels.now series.old }
     ensures put { PutsOn target.entry.line target.entry.labels.now target.entry.interval place (slots_of item.now) store.old result store.new }
     ensures near { IfOk result (λ next. next ≤ place + 2 ^ 32) }
+    ensures known { IsKnown store.new target.entry.labels.now series.new }
 {
     match item {
         SeriesItem::Gap(places) => Ok(place + u128::from(*places)),
         SeriesItem::Stale => {
-            put_sample(store, target, place, &Held::Stale)?;
+            put_sample(store, target, series, place, &Held::Stale)?;
             Ok(place + 1)
         }
-        SeriesItem::Run { first, by, more } => put_run(store, target, place, first, by, *more),
+        SeriesItem::Run { first, by, more } => {
+            put_run(store, target, series, place, first, by, *more)
+        },
     }
 }
 
@@ -143,9 +201,10 @@ fn put_line(store: &mut Store, interval: Ms, line: &SeriesLine) -> Result<(), Re
         labels: &line.labels,
         interval,
     };
+    let mut series = None;
     let mut place = 0;
     for item in line.items.as_slice() {
-        place = put_item(store, target, place, item)?;
+        place = put_item(store, target, &mut series, place, item)?;
     }
     Ok(())
 }

@@ -41,8 +41,8 @@ fn fresh(held: &Held) -> Option<XFrac>
 
 /// The value of the last sample up to a time, of those that come from a cursor.
 fn last_until<W: Ledger>(cursor: Cursor<'_>, at: Ms, work: &mut Work<W>) -> Option<XFrac>
-    requires { IsRising cursor }
-    ensures { result ≡ last_until at.0 cursor.entry }
+    requires { IsRising cursor.rest }
+    ensures { result ≡ last_until at.0 cursor.entry.rest }
 {
     let mut rest = cursor;
     let mut last = None;

@@ -9,12 +9,10 @@ use Rattle.std.proofs.lemmas.Int.{ints, by_lt_z}
 use Rattle.std.proofs.Math.Nat.{mul-le-mul_right, pow-le-pow_right, pow-succ'}
 use Rattle.ticks.specs.declared.moment.Ms.{Ms}
 use Rattle.xfrac.specs.declared.value.Held.{Held}
-use Rattle.label_set.specs.Entries.{insert_at_gap, later_key}
+use Rattle.sample_store.proofs.Entries.{insert_at_gap, later_key}
 use Rattle.std.proofs.lemmas.Map.Entries.{lookup_at_gap}
+use Rattle.sample_store.specs.Laws.{time_cmp_total}
 use Rattle.sample_store.specs.Samples.{IsRising, IsTimeGapAt, Samples, later_than, time_cmp}
-
-pub time_cmp_total : IsTotalOrder time_cmp
-time_cmp_total = on_total (λ (t : Ms). t.0) int_cmp_total
 
 -- what a search with so many probes has left
 pub record IsHalved (samples : Samples) (after : Ms) (low high old probed : ℕ) : Type 0 where
@@ -107,6 +105,33 @@ few count n h p l = let q : 2 ^ 65 ≤ 2 ^ count = pow-le-pow_right {n = 2} (ome
 by-count : (count : ℕ) (P : Type 0) → (count ≤ 64 → P) → (65 ≤ count → P) → P
 by-count count P f g = by_lt_z (pos count) (pos 65) (λ h. f (omega (arith, ints, h))) (λ h. g (omega (arith, ints, h)))
 
+few-32 : (count n : ℕ) → n ≤ 2000000 → 2 ^ count ≤ 2 * n + 1 → 33 ≤ count → ⊥
+few-32 count n h p l = let q : 2 ^ 33 ≤ 2 ^ count = pow-le-pow_right {n = 2} (omega arith) l in omega (arith, q, h, p)
+
+by-count-32 : (count : ℕ) (P : Type 0) → (count ≤ 32 → P) → (33 ≤ count → P) → P
+by-count-32 count P f g = by_lt_z (pos count) (pos 33) (λ h. f (omega (arith, ints, h))) (λ h. g (omega (arith, ints, h)))
+
+pub at_most_32 : (n old probed count : ℕ) → probed ≡ old + count → 2 ^ count ≤ 2 * n + 1 → n ≤ 2000000 → probed ≤ old + 32
+at_most_32 n old probed count p b h = by-count-32 count (probed ≤ old + 32) (λ f. omega (arith, p, f)) (λ g. absurd (few-32 count n h b g))
+
+-- what a search among n things has spent
+pub record IsSpent (n low high old probed : ℕ) : Type 0 where
+  pub count : ℕ
+  pub probes : probed ≡ old + count
+  pub spent : (high - low) * 2 ^ count ≤ n
+  pub paid : 2 ^ count ≤ 2 * n + 1
+
+pub spent_whole : (n old : ℕ) → IsSpent n 1 n old old
+spent_whole n old = record { count = 0; probes = omega arith; spent = (let h : (n - 1) * 1 ≤ n = omega arith in h); paid = (let h : 1 ≤ 2 * n + 1 = omega arith in h) }
+
+pub spent_on : (n low high nlow nhigh old probed now : ℕ) → IsSpent n low high old probed → low < high → (nhigh - nlow) * 2 ≤ high - low → now ≡ probed + 1 → IsSpent n nlow nhigh old now
+spent_on n low high nlow nhigh old probed now b l half e = let p = b.probes in record {
+  count = suc b.count;
+  probes = omega (arith, p, e);
+  spent = subst (λ (z : ℕ). (nhigh - nlow) * z ≤ n) (sym (pow-succ' 2 b.count)) (spent-half (high - low) (nhigh - nlow) (2 ^ b.count) n half b.spent);
+  paid = subst (λ (z : ℕ). z ≤ 2 * n + 1) (sym (pow-succ' 2 b.count)) (paid-half (high - low) (2 ^ b.count) n (omega (arith, l)) b.spent);
+}
+
 pub at-most-64 : (samples : Samples) (after : Ms) (low high old probed : ℕ) → IsHalved samples after low high old probed → length samples < 2 ^ 64 → probed ≤ old + 64
 at-most-64 samples after low high old probed b h = by-count b.count (probed ≤ old + 64) (λ f. let p = b.probes in omega (arith, p, f))
     (λ g. absurd (few b.count (length samples) h b.paid g))
@@ -128,14 +153,7 @@ drop-later after (x ∷ xs) (suc i) b f =
     is-not : (y z : ℤ) → z ≤ℤ y → int_lt y z ≡ false
     is-not y z h = grind (arith, ints)
 
-ms-same : (a b : Ms) → a.0 ≡ b.0 → a ≡ b
-ms-same a b e = ap (λ (z : ℤ). record { 0 = z }) e
-
--- times that tie are the same
-pub time_cmp_ties : (a b : Ms) → time_cmp a b ≡ Equal → a ≡ b
-time_cmp_ties a b e = ms-same a b (int_ranked a.0 b.0 Equal (sym e))
-
-is-greater : (x y : ℤ) → y <ℤ x → int_cmp x y ≡ Greater
+pub is-greater : (x y : ℤ) → y <ℤ x → int_cmp x y ≡ Greater
 is-greater x y h = grind (arith, ints)
 
 none-at-end : {X : Type 0} (xs : List X) (x : X) → slice_get xs (length xs) ≡ Some x → ⊥
@@ -157,3 +175,6 @@ past-last samples at last rising some there less =
       absent = lookup_at_gap time_cmp_total at samples (length samples) rising before after;
       added = λ v. insert_at_gap time_cmp at v samples (length samples) (omega arith) before after;
     }
+
+pub is-less : (x y : ℤ) → x <ℤ y → int_cmp x y ≡ Less
+is-less x y h = grind (arith, ints)

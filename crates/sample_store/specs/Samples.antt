@@ -1,17 +1,21 @@
--- What a store holds: series in the order of their labels, each with its samples in rising time (Prometheus, "Data
+-- What a store holds: series in the order of their first samples, each with its samples in rising time (Prometheus, "Data
 -- model"). That an equal sample is taken twice and another one refused, and the limits, are this project's own.
-use Rattle.std.specs.Prelude.{Bool, true, false, ◌&&◌, ◌==◌, nat_le, is_none, ⊤, if◌then◌else◌, ◌≡◌, ◌<◌, ◌≤◌, ◌+◌, slice_get, slice_set, insert, ℕ, List, [], ◌∷◌, length, Option, None, Some, int_lt, unwrap_or, filter}
+use Rattle.std.specs.Prelude.{Bool, true, false, ◌&&◌, ◌==◌, nat_le, is_none, ⊤, if◌then◌else◌, ◌≡◌, ◌<◌, ◌≤◌, ◌+◌, slice_get, slice_set, insert, ℕ, List, [], ◌∷◌, length, Option, None, Some, int_lt, unwrap_or, filter, Result, Ok, Err, MatchOption, map, Contains, ◌↔◌, ◌++◌, take, drop, ◌<ℤ◌}
 use Rattle.std.specs.BTreeMap.{insert_entry, is_at}
-use Rattle.std.specs.List.{AllByRecursion, list_all}
-use Rattle.std.specs.List.Sorted.{IsStrictlySortedBy}
+use Rattle.std.specs.List.{AllByRecursion, IsDistinct}
+pub use Rattle.indexmap.specs.IndexMap.{insert_entry as put_entry}
+use Rattle.indexmap.specs.Layout.{set_value_at}
+use Rattle.label_set.specs.LabelEquality.{labels_eq}
+use Rattle.std.specs.List.Sorted.{IsStrictlySortedBy, IsPermutation}
+use Rattle.std.specs.Option.{option_map}
 use Rattle.std.specs.Map.{keys_of, lookup}
 use Rattle.std.specs.Ordering.{int_cmp, int_eq, on}
 use Rattle.std.specs.declared.cmp.Ordering.{Ordering}
-use Rattle.label_set.specs.Labels.{labels_cmp, value_of}
+use Rattle.label_set.specs.Labels.{labels_cmp}
 use Rattle.label_set.specs.declared.rules.Rule.{Rule}
-use Rattle.match_rule.specs.Patterns.{HasItsPattern, kind_passes}
+use Rattle.match_rule.specs.Patterns.{labels_pass}
 use Rattle.sample_store.specs.declared.refusal.StoreRefusal.{StoreRefusal}
-use Rattle.sample_store.specs.declared.refusal.StoreRefusal.TheVariants.{Conflict, TooManySamples, TooManySeries}
+use Rattle.sample_store.specs.declared.refusal.StoreRefusal.TheVariants.{Conflict, TooManySamples, TooManySeries, Memory}
 use Rattle.ticks.specs.declared.moment.Ms.{Ms}
 use Rattle.xfrac.specs.Order.{rank}
 use Rattle.xfrac.specs.declared.value.Held.{Held}
@@ -36,34 +40,31 @@ time_cmp = on (λ t. t.0) int_cmp
 abbrev pub IsRising : Samples → Type 0
 IsRising samples = IsStrictlySortedBy time_cmp (keys_of samples)
 
--- no two series have equal labels, they stand in the order of their labels, and the times of each rise
-pub record IsOrdered (series : AllSeries) : Type 0 where
-  pub by_labels : IsStrictlySortedBy labels_cmp (keys_of series)
-  pub rising : AllByRecursion (λ s. IsRising s.1) series
-
 -- the samples of all series together
 abbrev pub sample_count : AllSeries → ℕ
 sample_count [] = 0
 sample_count (s ∷ series) = length s.1 + sample_count series
 
--- the store keeps the order and the limits, and counts its samples
+-- series in the order of their first samples: no two have equal labels, the times of each rise, the limits are kept, and
+-- the samples are counted
 pub record IsStore (series : AllSeries) (samples : ℕ) : Type 0 where
-  pub ordered : IsOrdered series
+  pub distinct : IsDistinct labels_eq (keys_of series)
+  pub rising : AllByRecursion (λ s. IsRising s.1) series
   pub counted : samples ≡ sample_count series
   pub few_series : length series ≤ 100000
   pub few_samples : samples ≤ 2000000
 
 -- the samples under some labels, none where there is no such series
 abbrev pub samples_of : AllSeries → Names → Samples
-samples_of series names = unwrap_or (lookup (is_at (labels_cmp names)) series) []
+samples_of series names = unwrap_or (lookup (labels_eq names) series) []
 
 -- what a series holds at a time
 abbrev pub held_in : Samples → Ms → Option Held
 held_in samples at = lookup (is_at (time_cmp at)) samples
 
--- the store with one more sample, in its place by labels and time; an equal one changes nothing
+-- the store with one more sample, in its place by time; a new series comes last; an equal sample changes nothing
 abbrev pub with_sample : AllSeries → Names → Ms → Held → AllSeries
-with_sample series names at held = insert_entry labels_cmp series names (insert_entry time_cmp (samples_of series names) at held)
+with_sample series names at held = put_entry labels_eq series names (insert_entry time_cmp (samples_of series names) at held)
 
 -- the samples of a series that are later than a time
 abbrev pub later_than : Ms → Samples → Samples
@@ -83,7 +84,7 @@ is_same a b = false
 -- which limit one more sample would break: a new series beyond 100,000, or a sample beyond 2,000,000
 abbrev pub limit_broken : AllSeries → Names → Option StoreRefusal
 limit_broken series names =
-    if is_none (lookup (is_at (labels_cmp names)) series) && nat_le 100000 (length series) then Some TooManySeries
+    if is_none (lookup (labels_eq names) series) && nat_le 100000 (length series) then Some TooManySeries
     else if nat_le 2000000 (sample_count series) then Some TooManySamples
     else None
 
@@ -98,17 +99,10 @@ refusal_of series names at held = refusal_beside (held_in (samples_of series nam
 
 -- the place of the series with some labels
 pub record IsFoundAt (series : AllSeries) (names : Names) (place : ℕ) : Type 0 where
-  pub within : place < length series
   pub samples : Samples
   pub there : slice_get series place ≡ Some (names, samples)
-  pub known : lookup (is_at (labels_cmp names)) series ≡ Some samples
-  pub changed : (more : Samples) → insert_entry labels_cmp series names more ≡ slice_set series place (names, more)
-
--- the place where a series with some labels would stand
-pub record IsGapAt (series : AllSeries) (names : Names) (place : ℕ) : Type 0 where
-  pub within : place ≤ length series
-  pub absent : lookup (is_at (labels_cmp names)) series ≡ None
-  pub added : (more : Samples) → insert_entry labels_cmp series names more ≡ insert series place (names, more)
+  pub known : lookup (labels_eq names) series ≡ Some samples
+  pub changed : (more : Samples) → put_entry labels_eq series names more ≡ set_value_at series place more
 
 -- the place of the sample at a time
 pub record IsTimeAt (samples : Samples) (at : Ms) (place : ℕ) : Type 0 where
@@ -133,17 +127,108 @@ IsRoomIn samples at held count (Some place) = IsTimeGapAt samples at place × (c
 abbrev pub refusal_in : Samples → Ms → Held → ℕ → Option StoreRefusal
 refusal_in samples at held count = refusal_beside (held_in samples at) (if nat_le 2000000 count then Some TooManySamples else None) held
 
--- each rule has its pattern
-abbrev pub HaveTheirPatterns : List (Bool × List ℕ) → List Rule → Type 0
-HaveTheirPatterns kept [] = ⊤
-HaveTheirPatterns kept (rule ∷ rules) = HasItsPattern kept rule.kind × HaveTheirPatterns kept rules
+-- what an answer to a sample says of the samples of its series, before and after, where there were `count` samples in all; it
+-- answers how many there are then
+abbrev pub Puts : Samples → Samples → Ms → Held → ℕ → Result ℕ StoreRefusal → Type 0
+Puts old new at held count (Ok total) = (refusal_in old at held count ≡ None) × (new ≡ insert_entry time_cmp old at held) × (length new + count ≡ length old + total) × (total ≤ 2000000) × IsRising new × (count ≤ total)
+Puts old new at held count (Err e) = (new ≡ old) × MatchOption (refusal_in old at held count) ((e ≡ Memory) × (held_in old at ≡ None)) (λ r. e ≡ r)
 
--- whether labels pass each of some rules; a missing label is the empty text
-abbrev pub labels_pass : List (Bool × List ℕ) → List Rule → Names → Bool
-labels_pass kept rules names = list_all (λ rule. kind_passes kept rule.kind (value_of names rule.label)) rules
+-- the same where the series stands at a place of the store
+pub record PutsAt (old new : AllSeries) (place : ℕ) (at : Ms) (held : Held) (count : ℕ) (result : Result ℕ StoreRefusal) : Type 0 where
+  pub names : Names
+  pub before : Samples
+  pub after : Samples
+  pub there : slice_get old place ≡ Some (names, before)
+  pub changed : new ≡ set_value_at old place after
+  pub puts : Puts before after at held count result
 
--- the numbers of the series that pass, where the first of these series has this number
-abbrev pub selected : List (Bool × List ℕ) → List Rule → ℕ → AllSeries → List ℕ
-selected kept rules number [] = []
-selected kept rules number (s ∷ series) =
-    if labels_pass kept rules s.0 then number ∷ selected kept rules (number + 1) series else selected kept rules (number + 1) series
+-- the same of the store
+abbrev pub Appends : AllSeries → AllSeries → Names → Ms → Held → Result (Unit {0}) StoreRefusal → Type 0
+Appends old new names at held (Ok done) = (refusal_of old names at held ≡ None) × (new ≡ with_sample old names at held)
+Appends old new names at held (Err e) = (new ≡ old) × MatchOption (refusal_of old names at held) ((e ≡ Memory) × (held_in (samples_of old names) at ≡ None)) (λ r. e ≡ r)
+
+-- the labels of a series that passes with its number, where the first of these series has this number
+abbrev pub passing : List (Bool × List ℕ) → List Rule → ℕ → AllSeries → List (Names × ℕ)
+passing kept rules number [] = []
+passing kept rules number (s ∷ series) =
+    if labels_pass kept rules s.0 then (s.0, number) ∷ passing kept rules (number + 1) series else passing kept rules (number + 1) series
+
+-- the labels of the series with a number
+abbrev pub labels_at : AllSeries → ℕ → Names
+labels_at series s = unwrap_or (option_map (λ (one : Names × Samples). one.0) (slice_get series s)) []
+
+-- a series with these labels has this number
+abbrev pub IsNumberOf : AllSeries → Names → ℕ → Type 0
+IsNumberOf series names s = (s < length series) × (labels_at series s ≡ names)
+
+-- a series with this number is there, and passes
+abbrev pub Passes : List (Bool × List ℕ) → List Rule → AllSeries → ℕ → Type 0
+Passes kept rules series s = (s < length series) × (labels_pass kept rules (labels_at series s) ≡ true)
+
+-- exactly the numbers of the series that pass, with their labels strictly rising, so each once
+pub record IsSelected (kept : List (Bool × List ℕ)) (rules : List Rule) (series : AllSeries) (places : List ℕ) : Type 0 where
+  pub exact : (s : ℕ) → Contains places s ↔ Passes kept rules series s
+  pub rising : IsStrictlySortedBy labels_cmp (map (labels_at series) places)
+
+-- series in the order of their labels
+abbrev pub by_labels : AllSeries → AllSeries
+by_labels [] = []
+by_labels (s ∷ series) = insert_entry labels_cmp (by_labels series) s.0 s.1
+
+-- the series that pass, in the order of their labels
+abbrev pub chosen : List (Bool × List ℕ) → List Rule → AllSeries → AllSeries
+chosen kept rules series = filter (λ s. labels_pass kept rules s.0) (by_labels series)
+
+-- how many series a selection looks at
+abbrev pub looked_at : List Rule → AllSeries → ℕ
+looked_at rules series = length series
+
+-- some pairs in the order of their labels
+pub record IsInOrder (pairs : List (Names × ℕ)) (places : List ℕ) : Type 0 where
+  pub sorted : List (Names × ℕ)
+  pub moved : IsPermutation pairs sorted
+  pub numbers : places ≡ map (λ (p : Names × ℕ). p.1) sorted
+  pub rising : IsDistinct labels_eq (keys_of pairs) → IsStrictlySortedBy labels_cmp (keys_of sorted)
+
+-- the samples of chunks, one behind another
+abbrev pub flat : List Samples → Samples
+flat [] = []
+flat (c ∷ chunks) = c ++ flat chunks
+
+-- no chunk is empty
+abbrev pub AreFilled : List Samples → Type 0
+AreFilled chunks = AllByRecursion (λ c. 0 < length c) chunks
+
+-- a time that is not among the samples of earlier and later chunks goes into this one
+pub record IsChunkOf (chunks : List Samples) (at : Ms) (k : ℕ) : Type 0 where
+  pub within : k < length chunks
+  pub before : AllByRecursion (λ s. s.0.0 <ℤ at.0) (flat (take k chunks))
+  pub behind : AllByRecursion (λ s. at.0 <ℤ s.0.0) (flat (drop (k + 1) chunks))
+
+-- what a cursor stands between
+pub record Between : Type 0 where
+  pub before : Samples
+  pub rest : Samples
+
+-- the samples of the chunk at a place, none where there is no chunk
+abbrev pub chunk_at : List Samples → ℕ → Samples
+chunk_at chunks k = unwrap_or (slice_get chunks k) []
+
+abbrev pub cursor_at : List Samples → ℕ → ℕ → Between
+cursor_at chunks k i = record { before = flat (take k chunks) ++ take i (chunk_at chunks k); rest = drop i (chunk_at chunks k) ++ flat (drop (k + 1) chunks) }
+
+-- a cursor stands at a sample, or behind the last one
+pub record IsCursor (chunks : List Samples) (k i place : ℕ) : Type 0 where
+  pub filled : AreFilled chunks
+  pub few : length (flat chunks) ≤ 2000000
+  pub within : k ≤ length chunks
+  pub stands : k < length chunks → i < length (chunk_at chunks k)
+  pub ended : length chunks ≤ k → i ≡ 0
+  pub counted : place ≡ length (flat (take k chunks)) + i
+
+-- where a sample with a number stands among chunks, or the end
+pub record IsPlace (chunks : List Samples) (place k i : ℕ) : Type 0 where
+  pub within : k ≤ length chunks
+  pub stands : k < length chunks → i < length (chunk_at chunks k)
+  pub ended : length chunks ≤ k → i ≡ 0
+  pub counted : place ≡ length (flat (take k chunks)) + i

@@ -1,60 +1,87 @@
-ghost use Rattle.sample_store.specs.Samples.{AllSeries, HaveTheirPatterns, labels_pass, selected};
-ghost use Rattle.std.specs.Prelude.{◌≡◌, ◌≤◌, ◌+◌, length, IfOk};
+ghost use Rattle.match_rule.specs.Patterns.{HaveTheirPatterns};
+ghost use Rattle.sample_store.specs.Samples.{IsInOrder, IsSelected, Names, looked_at, passing};
+ghost use Rattle.label_set.specs.LabelEquality.{labels_eq};
+ghost use Rattle.std.specs.List.{IsDistinct};
+ghost use Rattle.std.specs.Map.{keys_of};
+ghost use Rattle.std.specs.Prelude.{◌≡◌, ◌≤◌, ◌+◌, ℕ, length, map, IfOk};
+ghost use Rattle.std.specs.Borrow.{Bor};
 
+use crate::store::key_at;
 use crate::timeline::Timeline;
-use holders::{Boxed, Items};
+use holders::Items;
+use indexmap::IndexMap;
 use label_set::{Labels, Rule};
-use match_rule::{Patterns, passes};
+use match_rule::{Patterns, RuleMatchers};
 use std::alloc::{AllocError, Global};
 use std::sync::ledger::Ledger;
 use ticks::Work;
 
-/// Whether labels pass each of some rules; a missing label is the empty text.
-pub fn labels_pass(
-    rules: &[Rule],
-    patterns: &mut Patterns,
-    labels: &Labels,
-) -> Result<bool, AllocError>
-    requires { HaveTheirPatterns patterns.old rules.now }
-    ensures answer { IfOk result (λ b. b ≡ labels_pass patterns.old rules.now labels.now) }
-    ensures same { patterns.new ≡ patterns.old }
-{
-    match rules {
-        [] => Ok(true),
-        [first, rest @ ..] => {
-            if passes(first, patterns, labels.get(first.label.as_str()))? {
-                labels_pass(rest, patterns, labels)
-            } else {
-                Ok(false)
-            }
-        }
-    }
-}
-
-/// The numbers of the series whose labels pass, in their order.
-pub fn places_of<W: Ledger>(
+/// The series that pass, by labels and number, in the order of their numbers.
+#[tactic(auto, using(crate::proofs::Selects::missed, crate::proofs::Selects::passed, crate::proofs::Selects::passing_end))]
+fn passing_of<'a, W: Ledger>(
     alloc: Global,
-    series: &[Boxed<(Labels, Timeline)>],
-    rules: &[Rule],
-    patterns: &mut Patterns,
+    series: &'a IndexMap<Labels, Timeline>,
+    matchers: &mut RuleMatchers<'_>,
     work: &mut Work<W>,
-) -> Result<Items<u32>, AllocError>
-    requires rules { HaveTheirPatterns patterns.old rules.now }
-    requires few { length series.now ≤ 100000 }
-    ensures selected { IfOk result (λ places. places ≡ selected patterns.old rules.now 0 series.now) }
-    ensures tested { IfOk result (λ _. work.new.tested ≡ work.old.tested + length series.now) }
+) -> Result<Vec<(&'a Labels, u32)>, AllocError>
+    requires few { length series.now.entries ≤ 100000 }
+    ensures found { IfOk result (λ v. map (λ (p : Bor Names × ℕ). (p.0.now, p.1)) v.items ≡ passing matchers.old.patterns matchers.old.tests 0 series.now.entries) }
+    ensures tested { IfOk result (λ _. work.new.tested ≡ work.old.tested + length series.now.entries) }
     ensures tested_more { work.old.tested ≤ work.new.tested }
-    ensures tested_most { work.new.tested ≤ work.old.tested + length series.now }
+    ensures tested_most { work.new.tested ≤ work.old.tested + length series.now.entries }
     ensures fetched { work.new.fetched ≡ work.old.fetched }
     ensures probed { work.new.probed ≡ work.old.probed }
-    ensures same { patterns.new ≡ patterns.old }
+{
+    let mut found = Vec::new(alloc);
+    for place in 0..series.len() {
+        work.test();
+        let names = key_at(series, place);
+        if !matchers.passes(names) {
+            continue;
+        }
+        found.push((names, place as u32))?;
+    }
+    Ok(found)
+}
+
+/// The numbers in the order of their labels.
+#[tactic(auto, using(crate::proofs::Selects::ordered))]
+fn in_order(alloc: Global, mut found: Vec<(&Labels, u32)>) -> Result<Items<u32>, AllocError>
+    ensures { IfOk result (IsInOrder (map (λ (p : Bor Names × ℕ). (p.0.now, p.1)) found.entry.items)) }
+{
+    found.sort_unstable();
+    numbers_of(alloc, found.as_slice())
+}
+
+fn numbers_of(alloc: Global, found: &[(&Labels, u32)]) -> Result<Items<u32>, AllocError>
+    ensures { IfOk result (λ places. places ≡ map (λ (p : Bor Names × ℕ). p.1) found.now) }
 {
     let mut places = Items::new(alloc);
-    for (place, one) in series.iter().enumerate() {
-        work.test();
-        if labels_pass(rules, patterns, &one.get().0)? {
-            places.push(place as u32)?;
-        }
+    for one in found {
+        places.push(one.1)?;
     }
     Ok(places)
+}
+
+/// The numbers of the series that pass, in the order of their labels.
+#[tactic(auto, using(crate::proofs::Selects::selected_by))]
+pub fn places_of<W: Ledger>(
+    alloc: Global,
+    series: &IndexMap<Labels, Timeline>,
+    rules: &[Rule],
+    patterns: &Patterns,
+    work: &mut Work<W>,
+) -> Result<Items<u32>, AllocError>
+    requires rules { HaveTheirPatterns patterns.now rules.now }
+    requires few { length series.now.entries ≤ 100000 }
+    requires distinct { IsDistinct labels_eq (keys_of series.now.entries) }
+    ensures selected { IfOk result (IsSelected patterns.now rules.now series.now.entries) }
+    ensures tested { IfOk result (λ _. work.new.tested ≡ work.old.tested + looked_at rules.now series.now.entries) }
+    ensures tested_most { work.new.tested ≤ work.old.tested + looked_at rules.now series.now.entries }
+    ensures fetched { work.new.fetched ≡ work.old.fetched }
+    ensures probed { work.new.probed ≡ work.old.probed }
+{
+    let mut matchers = RuleMatchers::of(alloc, rules, patterns)?;
+    let found = passing_of(alloc, series, &mut matchers, work)?;
+    in_order(alloc, found)
 }

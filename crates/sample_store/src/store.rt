@@ -1,13 +1,16 @@
-ghost use Rattle.sample_store.specs.Samples.{IsFoundAt, HaveTheirPatterns, IsGapAt, IsRising, IsRoomIn, Names, Samples, held_in, later_than, refusal_in, refusal_of, sample_count, samples_of, selected, with_sample};
+ghost use Rattle.match_rule.specs.Patterns.{HaveTheirPatterns};
+ghost use Rattle.sample_store.specs.Samples.{Appends, IsFoundAt, IsNumberOf, IsRising, IsSelected, Names, PutsAt, Samples, chosen, held_in, labels_at, later_than, looked_at, refusal_of, sample_count, samples_of, with_sample};
+ghost use Rattle.label_set.specs.LabelEquality.{labels_eq};
+ghost use Rattle.std.specs.Map.{keys_of, lookup};
+ghost use Rattle.std.specs.List.{AllByRecursion, IsDistinct, filter_map};
 ghost use Rattle.std.specs.Option.{option_map};
-ghost use Rattle.std.specs.Prelude.{◌≡◌, ◌<◌, ◌≤◌, ◌+◌, ◌-◌, ◌*◌, ◌^◌, Some, [], ◌∷◌, length, insert, slice_get, IfOk, IsOk, IsOkUnless, MatchOption, MatchResult, OnErr, OnOk};
+ghost use Rattle.std.specs.Prelude.{◌≡◌, ◌<◌, ◌≤◌, ◌+◌, ◌++◌, ℕ, Some, None, [], ◌∷◌, length, slice_get, IfOk, IsOk, IsOkUnless, MatchOption, OnErr, OnOk};
 
-use crate::held::is_same;
-use crate::search::{find_series, find_time, first_later};
-use crate::select::places_of;
 use crate::timeline::Timeline;
 use crate::{Cursor, StoreRefusal};
-use holders::{Boxed, Items};
+use crate::select::places_of;
+use holders::Items;
+use indexmap::IndexMap;
 use label_set::{Labels, Rule};
 use match_rule::Patterns;
 use std::alloc::{AllocError, Global};
@@ -22,12 +25,15 @@ const MOST_SAMPLES: u32 = 2_000_000;
 /// The most series.
 const MOST_SERIES: usize = 100_000;
 
-/// Samples by series. Contracts see the list of the series in the order of their labels, each with its labels and its
-/// samples in rising time, held markers of staleness among them. Series are numbered from 0 in that order.
+/// Samples by series. Contracts see the list of the series in the order of their first samples, each with its labels and
+/// its samples in rising time, held markers of staleness among them. Series are numbered from 0 in that order.
 #[derive(Drop)]
 pub struct Store {
-    series: Vec<Boxed<(Labels, Timeline)>>,
+    series: IndexMap<Labels, Timeline>,
+    alloc: Global,
     samples: u32,
+    /// The place of the series that took the last sample.
+    latest: usize,
 }
 
 impl Model for Store {
@@ -35,9 +41,9 @@ impl Model for Store {
 
     ghost Value = { AllSeries };
 
-    ghost view = { λ s. s.series.items };
+    ghost view = { λ s. s.series.entries };
 
-    ghost invariant = { λ s. IsStore s.series.items s.samples };
+    ghost invariant = { λ s. IsStore s.series.entries s.samples };
 }
 
 impl Store {
@@ -47,8 +53,10 @@ impl Store {
         ensures { result ≡ [] }
     {
         Store {
-            series: Vec::new(alloc),
+            series: IndexMap::new(alloc),
+            alloc,
             samples: 0,
+            latest: 0,
         }
     }
 
@@ -59,18 +67,23 @@ impl Store {
     {
         self.series.clear();
         self.samples = 0;
+        self.latest = 0;
     }
 
     /// How many series there are. It takes no memory.
     pub fn series(&self) -> u32
-        ensures { result ≡ length self.now }
+        ensures count { result ≡ length self.now }
+        ensures few { result ≤ 100000 }
+        ensures distinct { IsDistinct labels_eq (keys_of self.now) }
+        ensures rising { AllByRecursion (λ (s : Names × Samples). IsRising s.1) self.now }
     {
         self.series.len() as u32
     }
 
     /// How many samples there are in all series. It takes no memory.
     pub fn samples(&self) -> u32
-        ensures { result ≡ sample_count self.now }
+        ensures count { result ≡ sample_count self.now }
+        ensures few { result ≤ 2000000 }
     {
         self.samples
     }
@@ -80,90 +93,24 @@ impl Store {
         requires { s < length self.now }
         ensures { option_map (λ one. one.0) (slice_get self.now s) ≡ Some result.now }
     {
-        &self.series[s as usize].get().0
+        key_at(&self.series, s as usize)
     }
 
-    /// Puts a sample into the series with these labels, in its place by time; where an equal one is there, nothing
-    /// changes and no memory is taken. It refuses, in this order, with Conflict another value at that time, with
-    /// TooManySeries a series beyond 100,000 and with TooManySamples a sample beyond 2,000,000; only where none of these
-    /// stands against it can memory run out. After an error the store is as it was.
-    pub fn append(&mut self, labels: &Labels, at: Ms, held: &Held) -> Result<(), StoreRefusal>
-        ensures refused { MatchOption (refusal_of self.old labels.now at held.now) (IsOkUnless result StoreRefusal.Memory) (λ e. result ≡ Err e) }
-        ensures taken { held_in (samples_of self.old labels.now) at ≡ Some held.now → IsOk result }
-        ensures same { held_in (samples_of self.old labels.now) at ≡ Some held.now → self.new ≡ self.old }
-        ensures ok { OnOk result (self.new ≡ with_sample self.old labels.now at held.now) }
-        ensures err { OnErr result (self.new ≡ self.old) }
+    /// The number of the series with these labels, if there is one. It takes no memory.
+    #[tactic(auto, using(crate::proofs::Stores::number_found))]
+    pub fn find(&self, labels: &Labels) -> Option<u32>
+        ensures { MatchOption result (lookup (labels_eq labels.now) self.now ≡ None) (IsNumberOf self.now labels.now) }
     {
-        match find_series(self.series.as_slice(), labels) {
-            Ok(place) => self.add_sample(place, labels, at, held),
-            Err(place) => self.add_series(place, labels, at, held),
+        match place_of(&self.series, self.latest, labels) {
+            Some(i) => Some(i as u32),
+            None => None,
         }
     }
 
-    /// Puts a sample into a series that is there.
-    fn add_sample(
-        &mut self,
-        place: usize,
-        labels: &Labels,
-        at: Ms,
-        held: &Held,
-    ) -> Result<(), StoreRefusal>
-        requires found { IsFoundAt self.old labels.now place }
-        ensures refused { MatchOption (refusal_of self.old labels.now at held.now) (IsOkUnless result StoreRefusal.Memory) (λ e. result ≡ Err e) }
-        ensures taken { held_in (samples_of self.old labels.now) at ≡ Some held.now → IsOk result }
-        ensures same { held_in (samples_of self.old labels.now) at ≡ Some held.now → self.new ≡ self.old }
-        ensures ok { OnOk result (self.new ≡ with_sample self.old labels.now at held.now) }
-        ensures err { OnErr result (self.new ≡ self.old) }
-    {
-        match weigh(self.series[place].get(), at, held, self.samples) {
-            Err(refusal) => Err(refusal),
-            Ok(None) => Ok(()),
-            Ok(Some(i)) => match put(&mut self.series[place], i, at, held) {
-                Err(_) => Err(StoreRefusal::Memory),
-                Ok(()) => {
-                    self.samples += 1;
-                    Ok(())
-                }
-            },
-        }
-    }
-
-    /// Puts in a series of one sample, at a place that keeps the order of labels.
-    fn add_series(
-        &mut self,
-        place: usize,
-        labels: &Labels,
-        at: Ms,
-        held: &Held,
-    ) -> Result<(), StoreRefusal>
-        requires gap { IsGapAt self.old labels.now place }
-        ensures refused { MatchOption (refusal_of self.old labels.now at held.now) (IsOkUnless result StoreRefusal.Memory) (λ e. result ≡ Err e) }
-        ensures taken { held_in (samples_of self.old labels.now) at ≡ Some held.now → IsOk result }
-        ensures same { held_in (samples_of self.old labels.now) at ≡ Some held.now → self.new ≡ self.old }
-        ensures ok { OnOk result (self.new ≡ with_sample self.old labels.now at held.now) }
-        ensures err { OnErr result (self.new ≡ self.old) }
-    {
-        if self.series.len() >= MOST_SERIES {
-            return Err(StoreRefusal::TooManySeries);
-        }
-        if self.samples >= MOST_SAMPLES {
-            return Err(StoreRefusal::TooManySamples);
-        }
-        match series_of(*self.series.allocator(), labels, at, held) {
-            Err(_) => Err(StoreRefusal::Memory),
-            Ok(one) => match self.series.insert(place, one) {
-                Err(_) => Err(StoreRefusal::Memory),
-                Ok(()) => {
-                    self.samples += 1;
-                    Ok(())
-                }
-            },
-        }
-    }
-
-    /// The numbers of the series whose labels pass each rule, in the order of labels; each series is counted as tested.
-    /// The patterns of the rules must be of `Patterns::whole`, from these patterns. The only error is want of memory;
-    /// then no series was counted twice.
+    /// The numbers of the series whose labels pass each rule, in the order of labels; each series that is looked at is
+    /// counted as tested. The patterns of the rules must be of `Patterns::whole`, from these patterns. The only error is
+    /// want of memory; then no series was counted twice.
+    #[tactic(auto, using(crate::proofs::Chosen::chosen_by))]
     pub fn select<W: Ledger>(
         &self,
         rules: &Items<Rule>,
@@ -171,91 +118,186 @@ impl Store {
         work: &mut Work<W>,
     ) -> Result<Items<u32>, AllocError>
         requires { HaveTheirPatterns patterns.old rules.now }
-        ensures selected { IfOk result (λ places. places ≡ selected patterns.old rules.now 0 self.now) }
-        ensures tested { IfOk result (λ _. work.new.tested ≡ work.old.tested + length self.now) }
-        ensures tested_more { work.old.tested ≤ work.new.tested }
-        ensures tested_most { work.new.tested ≤ work.old.tested + length self.now }
+        ensures selected { IfOk result (IsSelected patterns.old rules.now self.now) }
+        // So these are the series, one by one.
+        ensures chosen { IfOk result (λ places. filter_map (slice_get self.now) places ≡ chosen patterns.old rules.now self.now) }
+        ensures tested { IfOk result (λ _. work.new.tested ≡ work.old.tested + looked_at rules.now self.now) }
+        ensures tested_most { work.new.tested ≤ work.old.tested + looked_at rules.now self.now }
         ensures fetched { work.new.fetched ≡ work.old.fetched }
         ensures probed { work.new.probed ≡ work.old.probed }
         ensures same { patterns.new ≡ patterns.old }
     {
-        places_of(
-            *self.series.allocator(),
-            self.series.as_slice(),
-            rules.as_slice(),
-            patterns,
-            work,
-        )
+        places_of(self.alloc, &self.series, rules.as_slice(), patterns, work)
     }
 
-    /// A cursor over the samples of a series that are later than a time. It takes no memory, and looks at no more than
+    /// A cursor before the samples of a series that are later than a time. It takes no memory, and looks at no more than
     /// 64 times.
+    #[tactic(auto, using(crate::proofs::Stores::few_there, crate::proofs::Stores::rising_there, crate::proofs::Stores::rising_later))]
     pub fn seek<W: Ledger>(&self, s: u32, after: Ms, work: &mut Work<W>) -> Cursor<'_>
         requires { s < length self.now }
-        ensures later { (one : Names × Samples) → slice_get self.now s ≡ Some one → result ≡ later_than after one.1 }
-        ensures rising { IsRising result }
+        ensures whole { (one : Names × Samples) → slice_get self.now s ≡ Some one → result.before ++ result.rest ≡ one.1 }
+        ensures later { (one : Names × Samples) → slice_get self.now s ≡ Some one → result.rest ≡ later_than after one.1 }
+        ensures rising { IsRising result.rest }
         ensures probed { work.new.probed ≤ work.old.probed + 64 }
-        ensures more { work.old.probed ≤ work.new.probed }
-        // Each look halves what is left at best, so fewer could not have told the samples apart.
-        ensures counted { (one : Names × Samples) → slice_get self.now s ≡ Some one → length one.1 + 2 ≤ 2 * 2 ^ (work.new.probed - work.old.probed) }
         ensures fetched { work.new.fetched ≡ work.old.fetched }
         ensures tested { work.new.tested ≡ work.old.tested }
     {
-        let samples = &self.series[s as usize].get().1;
-        samples.from(first_later(samples, after, work))
+        samples_at(&self.series, s as usize).seek(after, work)
+    }
+
+    /// The cursor of a series before which so many samples lie. It takes no memory, shows no sample and counts nothing.
+    #[tactic(auto, using(crate::proofs::Stores::few_there))]
+    pub fn resume(&self, s: u32, place: u32) -> Cursor<'_>
+        requires there { s < length self.now }
+        requires within { (one : Names × Samples) → slice_get self.now s ≡ Some one → place ≤ length one.1 }
+        ensures whole { (one : Names × Samples) → slice_get self.now s ≡ Some one → result.before ++ result.rest ≡ one.1 }
+        ensures place { length result.before ≡ place }
+    {
+        samples_at(&self.series, s as usize).resume(place)
+    }
+
+    /// Puts a sample into the series with these labels, in its place by time; where an equal one is there, nothing
+    /// changes and no memory is taken. It refuses, in this order, with Conflict another value at that time, with
+    /// TooManySeries a series beyond 100,000 and with TooManySamples a sample beyond 2,000,000; only where none of these
+    /// stands against it can memory run out. After an error the store is as it was.
+    #[tactic(auto, using(crate::proofs::Stores::told_refused, crate::proofs::Stores::told_there, crate::proofs::Stores::told_done, crate::proofs::Stores::told_left, crate::proofs::Stores::told_same))]
+    pub fn append(&mut self, labels: &Labels, at: Ms, held: &Held) -> Result<(), StoreRefusal>
+        ensures refused { MatchOption (refusal_of self.old labels.now at held.now) (IsOkUnless result StoreRefusal.Memory) (λ e. result ≡ Err e) }
+        ensures taken { held_in (samples_of self.old labels.now) at ≡ Some held.now → IsOk result }
+        ensures same { held_in (samples_of self.old labels.now) at ≡ Some held.now → self.new ≡ self.old }
+        ensures ok { OnOk result (self.new ≡ with_sample self.old labels.now at held.now) }
+        ensures err { OnErr result (self.new ≡ self.old) }
+    {
+        self.append_one(labels, at, held)
+    }
+
+    /// The same for the series with a number, whose labels aren't looked up. No series changes its number.
+    #[tactic(auto, using(crate::proofs::Stores::told_refused, crate::proofs::Stores::told_there, crate::proofs::Stores::told_done, crate::proofs::Stores::told_left, crate::proofs::Stores::told_same))]
+    pub fn append_to(&mut self, s: u32, at: Ms, held: &Held) -> Result<(), StoreRefusal>
+        requires { s < length self.old }
+        ensures refused { MatchOption (refusal_of self.old (labels_at self.old s) at held.now) (IsOkUnless result StoreRefusal.Memory) (λ e. result ≡ Err e) }
+        ensures taken { held_in (samples_of self.old (labels_at self.old s)) at ≡ Some held.now → IsOk result }
+        ensures same { held_in (samples_of self.old (labels_at self.old s)) at ≡ Some held.now → self.new ≡ self.old }
+        ensures ok { OnOk result (self.new ≡ with_sample self.old (labels_at self.old s) at held.now) }
+        ensures err { OnErr result (self.new ≡ self.old) }
+        ensures many { length self.new ≡ length self.old }
+        ensures named { (k : ℕ) → labels_at self.new k ≡ labels_at self.old k }
+    {
+        self.add_sample(s as usize, at, held)
+    }
+
+    #[tactic(auto, using(crate::proofs::Stores::number_found))]
+    fn append_one(&mut self, labels: &Labels, at: Ms, held: &Held) -> Result<(), StoreRefusal>
+        ensures appends { Appends self.old self.new labels.now at held.now result }
+        ensures rising { AllByRecursion (λ (s : Names × Samples). IsRising s.1) self.old }
+    {
+        match place_of(&self.series, self.latest, labels) {
+            Some(place) => self.add_sample(place, at, held),
+            None => self.add_series(labels, at, held),
+        }
+    }
+
+    /// Puts a sample into a series that is there.
+    fn add_sample(&mut self, place: usize, at: Ms, held: &Held) -> Result<(), StoreRefusal>
+        requires { place < length self.old }
+        ensures appends { Appends self.old self.new (labels_at self.old place) at held.now result }
+        ensures rising { AllByRecursion (λ (s : Names × Samples). IsRising s.1) self.old }
+        ensures many { length self.new ≡ length self.old }
+        ensures named { (k : ℕ) → labels_at self.new k ≡ labels_at self.old k }
+    {
+        match put_at(&mut self.series, place, at, held, self.samples) {
+            Ok(total) => {
+                self.samples = total;
+                self.latest = place;
+                Ok(())
+            }
+            Err(e) => Err(e),
+        }
+    }
+
+    /// Puts in a series of one sample.
+    fn add_series(&mut self, labels: &Labels, at: Ms, held: &Held) -> Result<(), StoreRefusal>
+        requires absent { lookup (labels_eq labels.now) self.old ≡ None }
+        ensures { Appends self.old self.new labels.now at held.now result }
+    {
+        let place = self.series.len();
+        if place >= MOST_SERIES {
+            return Err(StoreRefusal::TooManySeries);
+        }
+        if self.samples >= MOST_SAMPLES {
+            return Err(StoreRefusal::TooManySamples);
+        }
+        match one_sample(self.alloc, labels, at, held) {
+            Err(_) => Err(StoreRefusal::Memory),
+            Ok((names, samples)) => match self.series.insert(names, samples) {
+                Err(_) => Err(StoreRefusal::Memory),
+                Ok(_) => {
+                    self.samples += 1;
+                    self.latest = place;
+                    Ok(())
+                }
+            },
+        }
     }
 }
 
-/// Where a sample goes into a series: nowhere if an equal one is there.
-fn weigh(
-    one: &(Labels, Timeline),
+pub fn key_at(series: &IndexMap<Labels, Timeline>, i: usize) -> &Labels
+    requires { i < length series.now.entries }
+    ensures { option_map (λ (one : Names × Samples). one.0) (slice_get series.now.entries i) ≡ Some result.now }
+{
+    series.get_index(i).unwrap().0
+}
+
+fn samples_at(series: &IndexMap<Labels, Timeline>, i: usize) -> &Timeline
+    requires { i < length series.now.entries }
+    ensures { option_map (λ (one : Names × Samples). one.1) (slice_get series.now.entries i) ≡ Some result.now }
+{
+    series.get_index(i).unwrap().1
+}
+
+/// Puts a sample into the series at a place.
+fn put_at(
+    series: &mut IndexMap<Labels, Timeline>,
+    place: usize,
     at: Ms,
     held: &Held,
     count: u32,
-) -> Result<Option<usize>, StoreRefusal>
-    requires { IsRising one.now.1 }
-    ensures { MatchResult result (IsRoomIn one.now.1 at held.now count) (λ e. refusal_in one.now.1 at held.now count ≡ Some e) }
+) -> Result<u32, StoreRefusal>
+    requires within { place < length series.old.entries }
+    requires rising { AllByRecursion (λ (s : Names × Samples). IsRising s.1) series.old.entries }
+    requires few { count ≤ 2000000 }
+    ensures { PutsAt series.old.entries series.new.entries place at held.now count result }
 {
-    match find_time(&one.1, at) {
-        Ok(i) => {
-            let kept = *one.1.held(i);
-            if is_same(&kept, held) {
-                Ok(None)
-            } else {
-                Err(StoreRefusal::Conflict { kept, given: *held })
-            }
-        }
-        Err(i) => {
-            if count >= MOST_SAMPLES {
-                Err(StoreRefusal::TooManySamples)
-            } else {
-                Ok(Some(i))
-            }
-        }
+    let (_, samples) = series.pair_mut(place);
+    samples.put(at, held, count)
+}
+
+/// The place of the series with these labels; that of the last sample is tried before any search.
+fn place_of(series: &IndexMap<Labels, Timeline>, latest: usize, labels: &Labels) -> Option<usize>
+    ensures { MatchOption result (lookup (labels_eq labels.now) series.now.entries ≡ None) (IsFoundAt series.now.entries labels.now) }
+{
+    if latest < series.len() && key_at(series, latest).is_same(labels) {
+        return Some(latest);
+    }
+    match series.get_full(labels) {
+        Some((i, _, _)) => Some(i),
+        None => None,
     }
 }
 
 /// A new series of one sample.
-fn series_of(
+#[tactic(auto, using(crate::proofs::Chunks::rising_none))]
+fn one_sample(
     alloc: Global,
     labels: &Labels,
     at: Ms,
     held: &Held,
-) -> Result<Boxed<(Labels, Timeline)>, AllocError>
+) -> Result<(Labels, Timeline), AllocError>
     ensures { IfOk result (λ one. one ≡ (labels.now, (at, held.now) ∷ [])) }
 {
     let mut samples = Timeline::new(alloc);
-    samples.insert(0, at, held)?;
-    let labels = labels.copy()?;
-    Boxed::new(alloc, (labels, samples))
-}
-
-/// Puts a sample at a place of a series.
-fn put(one: &mut Boxed<(Labels, Timeline)>, i: usize, at: Ms, held: &Held) -> Result<(), AllocError>
-    requires { i ≤ length one.old.1 }
-    ensures ok { OnOk result (one.new ≡ (one.old.0, insert one.old.1 i (at, held.now))) }
-    ensures err { OnErr result (one.new ≡ one.old) }
-{
-    let series = one.get_mut();
-    series.1.insert(i, at, held)
+    match samples.put(at, held, 0) {
+        Err(_) => Err(AllocError),
+        Ok(_) => Ok((labels.copy()?, samples)),
+    }
 }

@@ -1,5 +1,6 @@
 use Rattle.std.proofs.Common.{◌≡◌, ◌+◌, ◌-◌, List, ◌++◌}
 use Rattle.promql_tool.specs.Loads.{Slot, run_slots, slots_put}
+use Rattle.promql_tool.specs.Readings.{IsKnown}
 use Rattle.promql_tool.proofs.load.put_run.Given as goal
 
 -- the values that are left go on from here as all of them do from the start
@@ -8,4 +9,5 @@ invariant-loop l = record {
   goes : (rest : List Slot) → slots_put l.target.line l.target.labels.now l.target.interval l.start (run_slots l.more l.first l.by ++ rest) l.fn.store
       ≡ slots_put l.target.line l.target.labels.now l.target.interval l.place (run_slots (l.more - l.counter) l.value l.by ++ rest) l.store;
   here : l.place ≡ l.start + l.counter;
+  known : IsKnown l.store l.target.labels.now l.series;
 }

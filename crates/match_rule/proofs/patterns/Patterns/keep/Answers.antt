@@ -1,6 +1,6 @@
 use Rattle.std.proofs.Common.{◌≡◌, ◌<◌, ◌≤◌, ℕ, length, map, subst, rules, arith}
 use Rattle.match_rule.specs.Patterns.{number_of}
-use Rattle.match_rule.proofs.Numbers.{among_at_most, earlier_kept, last_kept, last_within, pattern_of, there_among}
+use Rattle.match_rule.proofs.Numbers.{among_at_most, earlier_kept, last_kept, last_within, pattern_of, readable_there, there_among}
 use Rattle.match_rule.proofs.patterns.Patterns.keep.Goals as goal
 
 pub returns-then-place-len-clause-there : goal.returns-then-place-len-clause-there
@@ -10,6 +10,13 @@ returns-then-place-len-clause-there c =
     let place : c.number_of-place.result ≡ number_of (c.args.whole, c.args.text.now) (map pattern_of ks) = search rules in
     let below : c.number_of-place.result < length ks = search rules in
     rw (view, place) (there_among (c.args.whole, c.args.text.now) ks (subst (λ (n : ℕ). n < length ks) place below))
+
+pub returns-then-place-len-clause-readable : goal.returns-then-place-len-clause-readable
+returns-then-place-len-clause-readable c =
+    let ks = c.self.inside.kept.items in
+    let place : c.number_of-place.result ≡ number_of (c.args.whole, c.args.text.now) (map pattern_of ks) = search rules in
+    let below : c.number_of-place.result < length ks = search rules in
+    readable_there (c.args.whole, c.args.text.now) ks _ (there_among (c.args.whole, c.args.text.now) ks (subst (λ (n : ℕ). n < length ks) place below))
 
 pub overflow_cast-result-2 : goal.overflow_cast-result-2
 overflow_cast-result-2 c =
