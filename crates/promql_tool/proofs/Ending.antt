@@ -1,5 +1,6 @@
 -- How a run ends, from how its parts end.
-use Rattle.std.proofs.Common.{◌≡◌, ℕ, List, Option, None, Some, refl, IfSome}
+use Rattle.std.proofs.Common.{◌≡◌, ℕ, List, [], ◌∷◌, Option, None, Some, refl, IfSome}
+use Rattle.edge_io.specs.Fetches.{FetchesFront}
 use Rattle.promql_tool.specs.Found.{IsFound}
 
 -- something may have been found
@@ -10,3 +11,10 @@ any_found (Some files) sound path = (files path, record { if_some = told (files 
     told : (found : Option (List ℕ)) → files path ≡ found → IfSome found (λ bytes. files path ≡ Some bytes)
     told None h = tt
     told (Some bytes) h = h
+
+-- one path was fetched, or none
+pub fetched_one : {L : Type 0} {fetch : L → List ℕ → L → Type 0} {path : List ℕ} {before now : L} → fetch before path now → FetchesFront fetch (path ∷ []) before now
+fetched_one {now} step = record { fetched = _ ∷ []; left = []; parts = refl; states = (now, step, refl) }
+
+pub fetched_none : {L : Type 0} {fetch : L → List ℕ → L → Type 0} {before : L} → FetchesFront fetch [] before before
+fetched_none = record { fetched = []; left = []; parts = refl; states = refl }
