@@ -438,13 +438,13 @@ fn fetches_the_file_of_the_words(rt: HostRuntime) -> Result<(), Fail> {
     let alloc = rt.alloc();
     let mut rows = 0u32;
     for row in RUNS.lines() {
-        let mut parts = row.split('|');
-        let mut part = || parts.next().unwrap_or("");
-        let (status, told, asked, words) = (part(), part(), part(), part());
-        let (fetch, write) = (part(), part());
-        if row.is_empty() {
+        let Some((status, row)) = row.split_once('|') else {
             continue;
-        }
+        };
+        let (told, row) = row.split_once('|').unwrap_or((row, ""));
+        let (asked, row) = row.split_once('|').unwrap_or((row, ""));
+        let (line, row) = row.split_once('|').unwrap_or((row, ""));
+        let (fetch, write) = row.split_once('|').unwrap_or((row, ""));
         let mut report = Vec::new(alloc);
         push_lines(&mut report, told, b';')?;
         let mut library = AskedLibrary {
@@ -452,11 +452,11 @@ fn fetches_the_file_of_the_words(rt: HostRuntime) -> Result<(), Fail> {
             asked: String::new(alloc),
         };
         let mut out = sink_of(alloc, write.parse::<u32>().unwrap_or(0))?;
-        let words = words_of(alloc, words)?;
+        let words = words_of(alloc, line)?;
         let ended = run_words(alloc, &words, &mut library, &mut out);
-        assert_eq!(rt; ended.0, status.parse::<u8>().unwrap_or(255), "{row:?}");
-        assert_eq!(rt; out.written(), report.as_slice(), "{row:?}");
-        assert_eq!(rt; library.asked.as_str(), asked, "{row:?}");
+        assert_eq!(rt; ended.0, status.parse::<u8>().unwrap_or(255), "{line:?}");
+        assert_eq!(rt; out.written(), report.as_slice(), "{line:?}");
+        assert_eq!(rt; library.asked.as_str(), asked, "{line:?}");
         rows = rows.saturating_add(1);
     }
     assert_eq!(rt; rows, 14);
