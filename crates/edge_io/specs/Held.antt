@@ -1,6 +1,7 @@
 -- What a library and a sink in memory hold. These are this project's own.
-use Rattle.std.specs.Prelude.{ℕ, ◌==◌, Bool, List, [], ◌∷◌, Option, None, Some, IsFalse, bytes_eq, if◌then◌else◌}
+use Rattle.std.specs.Prelude.{ℕ, ◌==◌, ◌||◌, Bool, List, [], ◌∷◌, Option, None, Some, IsFalse, bytes_eq, is_none, if◌then◌else◌}
 use Rattle.std.specs.List.{list_any}
+use Rattle.edge_io.specs.Causes.{counted}
 
 -- whether the number of a call, counted from 1, is among those that are to fail
 abbrev pub is_listed : List ℕ → ℕ → Bool
@@ -32,3 +33,17 @@ bytes_at (held ∷ paths) (found ∷ bytes) path = if bytes_eq held path then So
 abbrev pub NoneTwice : List (List ℕ) → Type 0
 NoneTwice [] = Unit {0}
 NoneTwice (path ∷ paths) = IsFalse (list_any (bytes_eq path) paths) × NoneTwice paths
+
+-- whether the next fetch, of this path, fails: its number is listed, or there is no such path
+abbrev pub fetch_fails : Files → List ℕ → Bool
+fetch_fails files path = is_listed files.failing (counted files.calls) || is_none (bytes_at files.paths files.bytes path)
+
+-- what a fetch of this path makes of the files: a call more, a fault more where it fails, and nothing else
+abbrev pub after_fetch : Files → List ℕ → Files
+after_fetch files path = record {
+  paths = files.paths;
+  bytes = files.bytes;
+  failing = files.failing;
+  calls = counted files.calls;
+  faults = if fetch_fails files path then counted files.faults else files.faults;
+}

@@ -1,4 +1,5 @@
 pub mod Causes
+pub mod Fetches
 pub mod Told
 pub mod Written
 pub mod Held

@@ -36,11 +36,16 @@ pub trait Library {
     /// No path that is there fails.
     ghost sound: { Self → Type 0 };
 
+    /// What a fetch of a path may make of the library: its state before, the path, and its state after. It is known only
+    /// by its fetches, so whoever was handed a library has no other way from one state to another.
+    ghost fetches: { Self → List ℕ → Self → Type 0 };
+
     /// Puts the bytes of the file at a path into an empty list, if it has at most `limit` bytes. The list stays empty
     /// after every other answer: `PastLimit` where the file has more bytes, `Failed` where it isn't there or can't be
     /// read, which counts as a fault, and `Memory` where there is none left.
     fn fetch(&mut self, path: &str, limit: usize, into: &mut Vec<u8>) -> Result<Fetched, Fetch>
         requires { into.old.items ≡ [] }
+        ensures fetched { fetches self.old path.now self.new }
         ensures told { told self.new ≡ told self.old }
         ensures sound { sound self.old → sound self.new }
         ensures cause { HasCause (faults self.old) (faults self.new) (IsErrOf result Failed) }

@@ -1,6 +1,6 @@
 ghost use Rattle.std.specs.Prelude.{◌≡◌, ◌≤◌, ◌↔◌, ◌+◌, ◌-◌, ◌^◌, [], ◌++◌, None, Some, length, min, option_map, IfOk, OnErr, IsTrue, IsFalse, IsErrOf};
-ghost use Rattle.edge_io.specs.Causes.{HasCause};
-ghost use Rattle.edge_io.specs.Held.{bytes_at, is_listed, NoneTwice};
+ghost use Rattle.edge_io.specs.Causes.{HasCause, counted};
+ghost use Rattle.edge_io.specs.Held.{after_fetch, bytes_at, fetch_fails, is_listed, NoneTwice};
 ghost use Rattle.edge_io.specs.Told.{Tells, IsEmptyUnlessWhole};
 
 use crate::{Fetch, Fetched, Library, Sink, SinkFail};
@@ -32,7 +32,7 @@ impl Plan {
 
     /// Counts a call, and answers whether it is one that is to fail.
     fn next_fails(&mut self) -> bool
-        ensures calls { self.new ≡ record self.old { calls = min (self.old.calls + 1) (2 ^ 64 - 1) } }
+        ensures calls { self.new ≡ record self.old { calls = counted self.old.calls } }
         ensures listed { result ≡ is_listed self.old.fails self.new.calls }
     {
         self.calls = self.calls.saturating_add(1);
@@ -42,7 +42,7 @@ impl Plan {
 
     /// Counts a fault.
     fn add_fault(&mut self)
-        ensures faults { self.new ≡ record self.old { faults = min (self.old.faults + 1) (2 ^ 64 - 1) } }
+        ensures faults { self.new ≡ record self.old { faults = counted self.old.faults } }
         ensures later { self.old.faults ≤ self.new.faults }
     {
         self.faults = self.faults.saturating_add(1);
@@ -105,20 +105,17 @@ impl Library for MemLibrary {
 
     ghost sound = { λ m. m.failing ≡ [] };
 
-    /// As every library's, and exact: a fetch fails where its number is listed or its path isn't there.
+    ghost fetches = { λ before path now. now ≡ after_fetch before path };
+
+    /// As every library's, and exact: a fetch fails where its number is listed or its path isn't there, and counts as a
+    /// call, and as a fault exactly where it fails.
     fn fetch(&mut self, path: &str, limit: usize, into: &mut Vec<u8>) -> Result<Fetched, Fetch>
         requires { into.old.items ≡ [] }
-        ensures paths { self.new.paths ≡ self.old.paths }
-        ensures bytes { self.new.bytes ≡ self.old.bytes }
-        ensures failing { self.new.failing ≡ self.old.failing }
-        ensures calls { self.new.calls ≡ min (self.old.calls + 1) (2 ^ 64 - 1) }
+        ensures after { self.new ≡ after_fetch self.old path.now }
+        ensures failed { IsTrue (fetch_fails self.old path.now) ↔ IsErrOf result Fetch.Failed }
         ensures cause { HasCause self.old.faults self.new.faults (IsErrOf result Fetch.Failed) }
         ensures empty { IsEmptyUnlessWhole result into.new.items }
         ensures tells { Tells (bytes_at self.old.paths self.old.bytes path.now) limit result into.new.items }
-        ensures listed { IsTrue (is_listed self.old.failing self.new.calls) → IsErrOf result Fetch.Failed }
-        ensures missing { bytes_at self.old.paths self.old.bytes path.now ≡ None → IsErrOf result Fetch.Failed }
-        ensures there { IsErrOf result Fetch.Failed → IsFalse (is_listed self.old.failing self.new.calls) →
-            bytes_at self.old.paths self.old.bytes path.now ≡ None }
     {
         if self.plan.next_fails() {
             self.plan.add_fault();
@@ -184,15 +181,18 @@ impl Sink for MemSink {
 
     ghost sound = { λ m. m.failing ≡ [] };
 
-    /// As every sink's, and exact: a piece is taken whole, and a write fails where its number is listed.
+    /// As every sink's, and exact: a piece is taken whole, a write fails where its number is listed, and a fault is
+    /// counted exactly where it fails.
     fn write(&mut self, piece: &[u8]) -> Result<usize, SinkFail>
         ensures whole { IfOk result (λ n. n ≡ length piece.now) }
         ensures took { IfOk result (λ _. self.new.bytes ≡ self.old.bytes ++ piece.now) }
         ensures nothing { OnErr result (self.new.bytes ≡ self.old.bytes) }
         ensures failing { self.new.failing ≡ self.old.failing }
-        ensures calls { self.new.calls ≡ min (self.old.calls + 1) (2 ^ 64 - 1) }
+        ensures calls { self.new.calls ≡ counted self.old.calls }
         ensures cause { HasCause self.old.faults self.new.faults (IsErrOf result SinkFail.Failed) }
         ensures listed { IsTrue (is_listed self.old.failing self.new.calls) ↔ IsErrOf result SinkFail.Failed }
+        ensures fault { IsErrOf result SinkFail.Failed → self.new.faults ≡ counted self.old.faults }
+        ensures no_fault { ¬ IsErrOf result SinkFail.Failed → self.new.faults ≡ self.old.faults }
     {
         if self.plan.next_fails() {
             self.plan.add_fault();

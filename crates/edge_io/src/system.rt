@@ -1,4 +1,5 @@
 ghost use Rattle.std.specs.Prelude.{◌≡◌, [], None, Some, IfSome};
+ghost use Rattle.edge_io.specs.Causes.{CountsAtMostOne};
 ghost use Rattle.edge_io.specs.Told.{Tells};
 
 use crate::{Fetch, Fetched, Library, Sink, SinkFail};
@@ -37,6 +38,8 @@ impl<R: Files> Library for StdLibrary<'_, R> {
     ghost faults = { λ faults. faults };
 
     ghost sound = { λ _. ⊥ };
+
+    ghost fetches = { λ before _ now. CountsAtMostOne before now };
 
     fn fetch(&mut self, path: &str, limit: usize, into: &mut Vec<u8>) -> Result<Fetched, Fetch> {
         let Ok(mut file) = fs::open(self.rt, path) else {

@@ -1,10 +1,18 @@
 -- The front of a text on a sink, after several pieces.
-use Rattle.std.proofs.Common.{◌≡◌, ◌<◌, ℕ, ◌+◌, List, [], ◌∷◌, ◌++◌, length, take, drop, get_or, Option, refl, sym, ap, ◌∙◌, append_assoc, take-append-drop}
-use Rattle.std.proofs.lemmas.List.{drop_more}
+use Rattle.std.proofs.Common.{◌≡◌, ◌<◌, ℕ, ◌+◌, List, [], ◌∷◌, ◌++◌, length, take, drop, get_or, Option, None, Some, Result, Ok, Err, OnErr, refl, sym, ap, ◌∙◌, append_assoc, take-append-drop}
+use Rattle.std.proofs.lemmas.List.{append-nil, drop_more}
 use Rattle.std.specs.List.{flat_map}
 use Rattle.std.proofs.lemmas.List.Concat.{flat_map-append}
 use Rattle.edge_io.specs.Written.{appended, WroteFront}
-use Rattle.edge_io.proofs.Fronts.{appended-appended, appended-nil}
+
+-- one piece behind another
+pub appended-appended : (before : Option (List ℕ)) (xs ys : List ℕ) → appended (appended before xs) ys ≡ appended before (xs ++ ys)
+appended-appended None xs ys = refl
+appended-appended (Some before) xs ys = ap (λ (l : List ℕ). Some l) (append_assoc before xs ys)
+
+pub appended-nil : (before : Option (List ℕ)) → appended before [] ≡ before
+appended-nil None = refl
+appended-nil (Some before) = ap (λ (l : List ℕ). Some l) (append-nil before)
 
 -- a front of a piece, behind what was there, and before the rest
 pub front_more : {before mid now : Option (List ℕ)} (sofar piece rest : List ℕ) → mid ≡ appended before sofar → WroteFront mid now piece → WroteFront before now (sofar ++ (piece ++ rest))
@@ -43,3 +51,8 @@ front_last {before} {mid} {now} sofar piece was wrote = record {
   parts = append_assoc sofar wrote.front wrote.left ∙ ap (λ l. sofar ++ l) wrote.parts;
   took = wrote.took ∙ ap (λ w. appended w wrote.front) was ∙ appended-appended before sofar wrote.front;
 }
+
+-- what holds anyway holds after a refusal
+pub on_err : {T E : Type 0} (r : Result T E) (P : Type 0) → P → OnErr r P
+on_err (Ok x) P h = tt
+on_err (Err e) P h = h

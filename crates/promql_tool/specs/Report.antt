@@ -23,6 +23,15 @@ abbrev pub path_of : List (List ℕ) → Option (List ℕ)
 path_of (word ∷ path ∷ []) = if (bytes_eq word (codes "promqltest") && names_file path) then Some path else None
 path_of words = None
 
+-- the path, if there is one
+abbrev pub path_alone : Option (List ℕ) → List (List ℕ)
+path_alone None = []
+path_alone (Some path) = path ∷ []
+
+-- the files of the words, in their order; words that are no command have none
+abbrev pub files_of : List (List ℕ) → List (List ℕ)
+files_of words = path_alone (path_of words)
+
 abbrev pub usage : List ℕ
 usage = codes "usage: promqltest [options] FILE.. or query [options] FILE EXPR\n"
 

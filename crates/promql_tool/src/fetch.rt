@@ -68,7 +68,9 @@ pub fn read_file<L: Library, W: Ledger>(
     library: &mut L,
     work: &mut Work<W>,
 ) -> Result<FileRead, AllocError>
+    ensures fetched { L.fetches library.old path.now library.new }
     ensures told { L.told library.new ≡ L.told library.old }
+    ensures sound { L.sound library.old → L.sound library.new }
     ensures gone { IfOk result (λ read. read ≡ Gone → Rose (L.faults library.old) (L.faults library.new)) }
     ensures read { IfOk result (IsReading (L.told library.old) (L.sound library.old) path.now) }
     ensures idle { IfOk result (λ read. IsUnjudged read → work.new ≡ work.old) }

@@ -25,6 +25,4 @@ pub use tool::run_tool;
 pub use verdict::{Reason, Verdict};
 
 #[cfg(test)]
-mod notation_tests;
-#[cfg(test)]
 mod tests;

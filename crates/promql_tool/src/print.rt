@@ -84,6 +84,7 @@ fn print_totals<S: Sink>(alloc: Global, totals: Totals, out: &mut S) -> Result<(
     ensures ok { OnOk result (S.written out.new ≡ appended (S.written out.old) (totals_text totals.passed totals.failed)) }
     ensures err { OnErr result (WroteFront (S.written out.old) (S.written out.new) (totals_text totals.passed totals.failed)) }
     ensures cause { HasCause (S.faults out.old) (S.faults out.new) (IsErrOf result SinkFail.Failed) }
+    ensures sound { S.sound out.old → S.sound out.new }
     ensures never { S.sound out.old → IsErrOf result SinkFail.Failed → ⊥ }
 {
     let line = totals_line(alloc, totals.passed, totals.failed)?;
@@ -101,6 +102,7 @@ fn print_judged<S: Sink>(
         × (S.written out.new ≡ appended (S.written out.old) (report_judged path.now verdicts.now).text)) }
     ensures err { OnErr result (WroteFront (S.written out.old) (S.written out.new) (report_judged path.now verdicts.now).text) }
     ensures cause { HasCause (S.faults out.old) (S.faults out.new) (IsErrOf result SinkFail.Failed) }
+    ensures sound { S.sound out.old → S.sound out.new }
     ensures never { S.sound out.old → IsErrOf result SinkFail.Failed → ⊥ }
 {
     let totals = totals_of(verdicts);
@@ -124,6 +126,7 @@ fn print_refusal<S: Sink>(
     ensures ok { IfOk result (λ status. (status.0 ≡ 6) × (S.written out.new ≡ appended (S.written out.old) (refusal_text path.now refusal))) }
     ensures err { OnErr result (WroteFront (S.written out.old) (S.written out.new) (refusal_text path.now refusal)) }
     ensures cause { HasCause (S.faults out.old) (S.faults out.new) (IsErrOf result SinkFail.Failed) }
+    ensures sound { S.sound out.old → S.sound out.new }
     ensures never { S.sound out.old → IsErrOf result SinkFail.Failed → ⊥ }
 {
     let text = refusal_line(alloc, path, refusal)?;
@@ -135,6 +138,7 @@ fn print_fault<S: Sink>(alloc: Global, path: &str, out: &mut S) -> Result<Status
     ensures ok { IfOk result (λ status. (status.0 ≡ 3) × (S.written out.new ≡ appended (S.written out.old) (fault_text path.now))) }
     ensures err { OnErr result (WroteFront (S.written out.old) (S.written out.new) (fault_text path.now)) }
     ensures cause { HasCause (S.faults out.old) (S.faults out.new) (IsErrOf result SinkFail.Failed) }
+    ensures sound { S.sound out.old → S.sound out.new }
     ensures never { S.sound out.old → IsErrOf result SinkFail.Failed → ⊥ }
 {
     let text = fault_line(alloc, path)?;
@@ -153,6 +157,7 @@ pub fn print_read<S: Sink>(
         × (S.written out.new ≡ appended (S.written out.old) (report_seen path.now read.now).text)) }
     ensures err { OnErr result (WroteFront (S.written out.old) (S.written out.new) (report_seen path.now read.now).text) }
     ensures cause { HasCause (S.faults out.old) (S.faults out.new) (IsErrOf result SinkFail.Failed) }
+    ensures sound { S.sound out.old → S.sound out.new }
     ensures never { S.sound out.old → IsErrOf result SinkFail.Failed → ⊥ }
 {
     match read {

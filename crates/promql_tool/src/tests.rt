@@ -1,10 +1,14 @@
-ghost use Rattle.std.specs.Prelude.{◌≡◌, [], Some};
+ghost use Rattle.std.specs.Prelude.{◌≡◌, None, Some};
 
+use crate::item::read_item;
+use crate::script::WordRefusal;
+use crate::series::read_series;
 use crate::{Status, loads_put_their_samples, passes_exactly_where_rows_agree, run_tool};
-use edge_io::{Library, MemLibrary, MemSink, Sink, SinkFail};
+use edge_io::{Fetch, Fetched, Library, MemLibrary, MemSink, Sink, SinkFail};
 use holders::{Items, Text};
 use std::alloc::{AllocError, Global};
 use std::marker::Brand;
+use std::process::Abort;
 use std::sync::ledger::{Blank, Ledger};
 use std::test::Fail;
 use ticks::Work;
@@ -14,164 +18,251 @@ const FIRST: &str =
 
 const FIRST_REPORT: &str = "PASS a.test:4\nFAIL a.test:7 up expected 3 got 2\npassed 1 failed 1\n";
 
-const USAGE: &str = "usage: promqltest [options] FILE.. or query [options] FILE EXPR\n";
-
-/// Each row is a report, its lines parted by `;`, and the lines of its script, each behind a `|`.
-const REPORTS: &str = "
+/// Each row is a report, its lines parted by `;`, and behind a `|` the script, whose line feeds are written `|`. Between
+/// two backquotes stands a byte in hexadecimal, or a number, `*` and a piece that is repeated, with its place for a `%`.
+const REPORTS: &str = r##"
 passed 0 failed 0|
-passed 0 failed 0| \t
-PASS a.test:1;passed 1 failed 0|eval instant at 1s b
-PASS a.test:4;FAIL a.test:7 up expected 3 got 2;passed 1 failed 1|load 5m|up 1 2||eval instant at 0 up|up 1||eval instant at 5m up|up 3
-PASS a.test:4;PASS a.test:7;passed 2 failed 0|load 5m|up 1||eval instant at 4m59s up|up 1||eval instant at 5m up
-FAIL a.test:4 up expected -2 got -1;passed 0 failed 1|load 5m|\tup -1 2||eval instant at 0 up|up -2
-FAIL a.test:5 missing c;passed 0 failed 1|load 1s|b 1|a 1||eval instant at 1s b|b 1|d 2|c 3
-FAIL a.test:4 unexpected series b;passed 0 failed 1|load 1s|b 1||eval instant at 1s b
-PASS a.test:4;FAIL a.test:7 b expected 1000003 got 1000000;passed 1 failed 1|load 1s|b 1000000||eval instant at 0 b|b 1000002||eval instant at 0 b|b 1000003
-PASS a.test:4;PASS a.test:7;PASS a.test:10;PASS a.test:13;PASS a.test:15;passed 5 failed 0|load 1.5|x 1e3 .5 -0 inf||eval instant at 0 x|x 1000||eval instant at 1500ms x|x 5e-1||eval instant at 3 x|x 0||eval instant at 1h x||eval instant at -1m x
-FAIL a.test:4 x expected 0.3333 got 0.3333333333333333;PASS a.test:7;FAIL a.test:10 x expected -Inf got NaN;passed 1 failed 2|load 1|x 0.3333333333333333 NaN||eval instant at 0 x|x 0.3333||eval instant at 1 x|x nan||eval instant at 1 x|x -Inf
-PASS a.test:4;FAIL a.test:7 x expected 0.33333 got 0.3333333333333333;passed 1 failed 1|load 1|x 0.3333333333333333||eval instant at 0 x|x 0.333333||eval instant at 0 x|x 0.33333
-PASS a.test:4;passed 1 failed 0|load 999999m|_:a 123456789012345678||eval instant at 0 _:a|_:a 123456789012345678
+passed 0 failed 0||
+passed 0 failed 0| `09`|
+PASS a.test:1;passed 1 failed 0|eval instant at 1s b|
+PASS a.test:4;FAIL a.test:7 up expected 3 got 2;passed 1 failed 1|load 5m|up 1 2||eval instant at 0 up|up 1||eval instant at 5m up|up 3|
+PASS a.test:4;PASS a.test:7;passed 2 failed 0|load 5m|up 1||eval instant at 4m59s up|up 1||eval instant at 5m up|
+FAIL a.test:4 up expected -2 got -1;passed 0 failed 1|load 5m|`09`up -1 2||eval instant at 0 up|up -2|
+FAIL a.test:5 missing c;passed 0 failed 1|load 1s|b 1|a 1||eval instant at 1s b|b 1|d 2|c 3|
+FAIL a.test:4 unexpected series b;passed 0 failed 1|load 1s|b 1||eval instant at 1s b|
+PASS a.test:4;FAIL a.test:7 b expected 1000003 got 1000000;passed 1 failed 1|load 1s|b 1000000||eval instant at 0 b|b 1000002||eval instant at 0 b|b 1000003|
+PASS a.test:4;PASS a.test:7;PASS a.test:10;PASS a.test:13;PASS a.test:15;passed 5 failed 0|load 1.5|x 1e3 .5 -0 inf||eval instant at 0 x|x 1000||eval instant at 1500ms x|x 5e-1||eval instant at 3 x|x 0||eval instant at 1h x||eval instant at -1m x|
+FAIL a.test:4 x expected 0.3333 got 0.3333333333333333;PASS a.test:7;FAIL a.test:10 x expected -Inf got NaN;passed 1 failed 2|load 1|x 0.3333333333333333 NaN||eval instant at 0 x|x 0.3333||eval instant at 1 x|x nan||eval instant at 1 x|x -Inf|
+PASS a.test:4;FAIL a.test:7 x expected 0.33333 got 0.3333333333333333;passed 1 failed 1|load 1|x 0.3333333333333333||eval instant at 0 x|x 0.333333||eval instant at 0 x|x 0.33333|
+PASS a.test:4;passed 1 failed 0|load 999999m|_:a 123456789012345678||eval instant at 0 _:a|_:a 123456789012345678|
+PASS a.test:4;PASS a.test:7;PASS a.test:9;PASS a.test:11;passed 4 failed 0|load 5m|up 1 _ stale 3||eval instant at 4m59s up|up 1||eval instant at 5m up||eval instant at 10m up||eval instant at 15m up|up 3|
+PASS a.test:4;PASS a.test:6;passed 2 failed 0|load 1m|z 1 stale||eval instant at 1m z||eval instant at 0 z|z 1|
+FAIL a.test:4 missing z;passed 0 failed 1|load 1m|z 1 stale||eval instant at 1m z|z 1|
+PASS a.test:4;PASS a.test:7;PASS a.test:9;PASS a.test:11;passed 4 failed 0|load 6m|x 1 _x2 4||eval instant at 0 x|x 1||eval instant at 6m x||eval instant at 12m x||eval instant at 18m x|x 4|
+PASS a.test:4;PASS a.test:7;PASS a.test:10;PASS a.test:13;passed 4 failed 0|load 10m|c 0+60x2 5x1 10-2x1 1+-2x01||eval instant at 20m c|c 120||eval instant at 40m c|c 5||eval instant at 60m c|c 8||eval instant at 80m c|c -1|
+PASS a.test:6;passed 1 failed 0|load 5m|x{a="1"} 1|x{ b = "2" , a="1", } 2|{__name__="x",c="}#,é"} 3||eval instant at 0 x|x{a="1"} 1|x {b="2",a="1"} 2|x{c="}#,é"} 3|
+PASS a.test:6;passed 1 failed 0|load 5m|y 5|x{} 1|x{a="2"} 2 # behind||eval instant at 0 x|x{a="2"} 2|x 1|
+FAIL a.test:4 unexpected series x{a="1"};passed 0 failed 1|load 5m|x{a="1"} 1||eval instant at 0 x|
+FAIL a.test:4 missing x{a="2"};passed 0 failed 1|load 5m|x{a="1"} 1||eval instant at 0 x|x{a="2"} 1|
+FAIL a.test:4 x{a="1"} expected 3 got 1;passed 0 failed 1|load 5m|x{a="1"} 1||eval instant at 0 x|x{a="1"} 3|
+PASS a.test:5;passed 1 failed 0|# a comment|load 5m|  x 1 2 # the samples|# ends the block|eval instant at 0 x|x 1|  # the end|
+passed 0 failed 0|# one|  # two|
+PASS a.test:8;passed 1 failed 0|load 5m|x 1||clear|load 5m|x 2||eval instant at 0 x|x 2|
+PASS a.test:4;PASS a.test:9;passed 2 failed 0|load 5m|x 1||eval instant at 0 x|x 1||clear||eval instant at 0 x|
+PASS a.test:7;passed 1 failed 0|load 5m|x 1||load 5m|x 1 2||eval instant at 5m x|x 2|
+REFUSED a.test:5 Conflict|load 5m|x 1||load 5m|x 2||eval instant at 0 x|x 1|
+REFUSED a.test:5 Conflict|eval instant at 0 x||load 5m|x 1|x 2|
+REFUSED a.test:3 Conflict|load 5m|x 1|x stale|
+REFUSED a.test:3 Conflict|load 5m|x 1|x 1.0000001|
+passed 0 failed 0|load 5m|x NaN stale|x nan stale|
+REFUSED a.test:2 NumberRange|load 1m|x 1e30+1x1|
+REFUSED a.test:2 NumberRange|load 1m|x 1e30-1e30x1|
+REFUSED a.test:2 NumberRange|load 1m|x 1 1e31|
+REFUSED a.test:3 Malformed|load 1m|x 1e30+1x1|x{|
+passed 0 failed 0|load 100y|x 1 _x30 1|
+REFUSED a.test:2 NumberRange|load 100y|x 1 _x31 1|
+passed 0 failed 0|load 1s|x _x4294967295 1|
+REFUSED a.test:2 BadLabels|load 1m|x{a="1",a="2"} 1|
+REFUSED a.test:2 BadLabels|load 1m|x{__name__="y"} 1|
+REFUSED a.test:2 BadLabels|eval instant at 0 x|x{a="1",a="1"} 1|
+REFUSED a.test:2 NumberRange|eval instant at 0 x|x 1e31|
+FAIL a.test:4 unexpected series x;passed 0 failed 1|load 5m|x 1 2||eval instant at 0 x|
+FAIL a.test:4 unexpected series x;passed 0 failed 1|load 5m|x{} 1||eval instant at 0 x|
+FAIL a.test:4 unexpected series x{a="b"};passed 0 failed 1|load 5m|x{a="b",} 1||eval instant at 0 x|
+FAIL a.test:4 unexpected series x{a="b",c="d"};passed 0 failed 1|load 5m|x { c = "d" , a = "b" }`09`1||eval instant at 0 x|
+FAIL a.test:4 unexpected series x{a="}"};passed 0 failed 1|load 5m|x{a="}"} 1||eval instant at 0 x|
+FAIL a.test:4 unexpected series x{a=","};passed 0 failed 1|load 5m|x{a=","} 1||eval instant at 0 x|
+FAIL a.test:4 unexpected series x;passed 0 failed 1|load 5m|x{a=""} 1||eval instant at 0 x|
+FAIL a.test:4 unexpected series y;passed 0 failed 1|load 5m|{__name__="y"} 1||eval instant at 0 y|
+FAIL a.test:4 unexpected series x{on="é"};passed 0 failed 1|load 5m|x{on="é"} 1||eval instant at 0 x|
+FAIL a.test:4 unexpected series x{a="#"};passed 0 failed 1|load 5m|x{a="#"} 1 #"#||eval instant at 0 x|
+REFUSED a.test:2 Malformed|load 5m|{,} 1|
+REFUSED a.test:2 Malformed|load 5m|x{a="b"|
+REFUSED a.test:2 Malformed|load 5m|x{a:b="c"}|
+REFUSED a.test:2 Malformed|load 5m|x{inf="c"} 1|
+REFUSED a.test:2 Malformed|load 5m|x{a="\""} 1|
+REFUSED a.test:2 Malformed|load 5m|x{a='b'} 1 2|
+REFUSED a.test:2 BadLabels|load 5m|x{a="b",a="c"} 1|
+REFUSED a.test:2 BadLabels|load 5m|x{a="b",a="c",d} 1|
+PASS a.test:4;passed 1 failed 0|load 5m|x 1 # 2||eval instant at 5m x|
+passed 0 failed 0|load 5m|# x|
+PASS a.test:4;passed 1 failed 0|load 1m|x -1.5e3||eval instant at 0 x|x -1500|
+PASS a.test:4;passed 1 failed 0|load 1m|x Inf||eval instant at 0 x|x inf|
+PASS a.test:4;passed 1 failed 0|load 1m|x nan||eval instant at 0 x|x NaN|
+PASS a.test:4;passed 1 failed 0|load 1m|x _ 7||eval instant at 1m x|x 7|
+PASS a.test:4;passed 1 failed 0|load 1m|x _x0 7||eval instant at 0 x|x 7|
+PASS a.test:4;PASS a.test:6;passed 2 failed 0|load 1s|x _x000000000000000000000007 5||eval instant at 6s x||eval instant at 7s x|x 5|
+PASS a.test:8;PASS a.test:11;PASS a.test:14;PASS a.test:17;PASS a.test:20;PASS a.test:23;passed 6 failed 0|load 10m|a 1x3|b 10-2x5|c 1+-2x3|d 1--2x3|e 1e-2+1E+1x007||eval instant at 30m a|a 1||eval instant at 50m b|b 0||eval instant at 30m c|c -5||eval instant at 30m d|d 7||eval instant at 70m e|e 70.01||eval instant at 40m a|
+REFUSED a.test:2 NumberRange|load 5m|x 1e31x2|
+passed 0 failed 0|load 5|
+passed 0 failed 0|load 1h30m|
+passed 0 failed 0|load 100y|
+passed 0 failed 0|load 0.001|
+passed 0 failed 0|load 5m|x 1.5 +1 -.5 2. 1E-3 iNF -inf nAn|
+passed 0 failed 0|load 5m|x 1234567890123456789 1e-2+1E+1x007|
+passed 0 failed 0|load 5m||load 5m|
+passed 0 failed 0|load 5m|and 1|sum 1|eval 1|load 1|
+passed 0 failed 0|load 5m|x{on="1",bool="2",sum="3"} 1|x{a="b"} _x0 1|
+passed 0 failed 0|clear|clear|load 5m|x 1|
+FAIL a.test:1 missing {};passed 0 failed 1|eval instant at 0 x|{} 1|
+PASS a.test:1;PASS a.test:3;passed 2 failed 0|eval instant at +5 x||eval instant at -5 x||
+REFUSED a.test:1 Malformed|x|
+REFUSED a.test:1 Malformed|load|
+REFUSED a.test:1 Malformed|load 0|
+REFUSED a.test:1 Malformed|load 0s|
+REFUSED a.test:1 Malformed|load 30m1h|
+REFUSED a.test:1 Malformed|load 0.0001|
+REFUSED a.test:1 Malformed|load 101y|
+REFUSED a.test:1 Malformed|load -5m|
+REFUSED a.test:1 Malformed|load 5m 5m|
+REFUSED a.test:1 Malformed|LOAD 5m|
+REFUSED a.test:1 Malformed|load_with_nhcb 5m|
+REFUSED a.test:1 Malformed|clear all|
+REFUSED a.test:1 Malformed|Clear|
+REFUSED a.test:2 Malformed|load 5m|load 5m|
+REFUSED a.test:2 Malformed|load 5m|x|
+REFUSED a.test:2 Malformed|load 5m|x # 1|
+REFUSED a.test:2 Malformed|load 5m|x#1 2|
+REFUSED a.test:2 Malformed|load 1m|x{a="b|
+REFUSED a.test:2 Malformed|load 5m|x{a="b" 1|
+REFUSED a.test:2 Malformed|load 5m|x{a=b} 1|
+REFUSED a.test:2 Malformed|load 5m|x{a='b'} 1|
+REFUSED a.test:2 Malformed|load 5m|x{a="b\"} 1|
+REFUSED a.test:2 Malformed|load 5m|x{a:b="c"} 1|
+REFUSED a.test:2 Malformed|load 5m|x{5="c"} 1|
+REFUSED a.test:2 Malformed|load 5m|x{Inf="c"} 1|
+REFUSED a.test:2 Malformed|load 5m|x{a="b"c="d"} 1|
+REFUSED a.test:2 Malformed|load 5m|x{a="b",,} 1|
+REFUSED a.test:2 Malformed|load 5m|x{,} 1|
+REFUSED a.test:2 Malformed|load 5m|x{a} 1|
+REFUSED a.test:2 Malformed|load 5m|x{="b"} 1|
+REFUSED a.test:2 Malformed|load 5m|x{a=~"b"} 1|
+REFUSED a.test:2 Malformed|load 5m|x{a="b"}1|
+REFUSED a.test:2 Malformed|load 5m|x{a="b"}|
+REFUSED a.test:2 Malformed|load 5m|{} 1|
+REFUSED a.test:2 Malformed|load 5m|{a=""} 1|
+REFUSED a.test:2 Malformed|load 5m|{"x"} 1|
+REFUSED a.test:2 Malformed|load 5m|x {{sum:1}}|
+REFUSED a.test:2 Malformed|load 5m|5 1|
+REFUSED a.test:2 Malformed|load 5m|nan 1|
+REFUSED a.test:2 Malformed|load 5m|BOOL 1|
+REFUSED a.test:2 Malformed|load 5m|on{a="b"} 1|
+REFUSED a.test:2 Malformed|load 5m|x 1 y|
+REFUSED a.test:2 Malformed|load 5m|x 007|
+REFUSED a.test:2 Malformed|load 5m|x 0x8f|
+REFUSED a.test:2 Malformed|load 5m|x 1_000|
+REFUSED a.test:2 Malformed|load 5m|x 1/3|
+REFUSED a.test:2 Malformed|load 5m|x 1e|
+REFUSED a.test:2 Malformed|load 5m|x ++1|
+REFUSED a.test:2 Malformed|load 5m|x _x|
+REFUSED a.test:2 Malformed|load 5m|x _x-1|
+REFUSED a.test:2 Malformed|load 5m|x _x4294967296|
+REFUSED a.test:2 Malformed|load 5m|x __|
+REFUSED a.test:2 Malformed|load 5m|x stalex2|
+REFUSED a.test:2 Malformed|load 5m|x Stale|
+REFUSED a.test:2 Malformed|load 5m|x 1x|
+REFUSED a.test:2 Malformed|load 5m|x 1x1.5|
+REFUSED a.test:2 Malformed|load 5m|x x3|
+REFUSED a.test:2 Malformed|load 5m|x 1+x3|
+REFUSED a.test:2 Malformed|load 5m|x 1+1|
+REFUSED a.test:2 Malformed|load 5m|x 1+2x4294967296|
+REFUSED a.test:2 Malformed|load 5m|x 1 2,3|
+REFUSED a.test:2 Malformed|load 5m|é 1|
+REFUSED a.test:2 Malformed|load 5m|x 1`c2``a0`|
+REFUSED a.test:3 Malformed|load 5m|x 1|y|
+REFUSED a.test:1 Malformed|eval|
+REFUSED a.test:1 Malformed|eval instant at 0|
+REFUSED a.test:1 Malformed|eval instant at 1e15 x|
+REFUSED a.test:1 Malformed|eval range at 0 x|
+REFUSED a.test:1 Malformed|eval instant in 0 x|
+REFUSED a.test:1 Malformed|eval_fail instant at 0 x|
+REFUSED a.test:1 Malformed|eval instant at 0 5x|
+REFUSED a.test:1 Malformed|eval instant at 0 nan|
+REFUSED a.test:1 Malformed|eval instant at 0 x y|
+REFUSED a.test:2 Malformed|eval instant at 0 x|x|
+REFUSED a.test:2 Malformed|eval instant at 0 x|x 1 2|
+REFUSED a.test:2 Malformed|eval instant at 0 x|x _|
+REFUSED a.test:2 Malformed|eval instant at 0 x|x 1x2|
+REFUSED a.test:2 Malformed|eval instant at 0 x|x 1 # behind|
+REFUSED a.test:2 Malformed|eval instant at 0 x|1|
+REFUSED a.test:3 Malformed|eval instant at 0 x|x 1|x 1|
+REFUSED a.test:3 Malformed|eval instant at 0 x|x{a="1",b="2"} 1|x{b="2",a="1"} 1|
+REFUSED a.test:4 Malformed|eval instant at 0 x|||x 1|
+REFUSED a.test:1 NotUtf8|`ff`|load 5m|
+REFUSED a.test:4 NotUtf8|load 5m|x 1||# `c3`(||eval instant at 0 x|
+REFUSED a.test:2 NotUtf8|load 5m|x 1 `e2``82`
+REFUSED a.test:2 NotUtf8|nonsense|`f0``9f`
+REFUSED a.test:2 NotUtf8|load 5m`0d`|x{a="`ed``a0``80`"} 1`0d`|
+REFUSED a.test:1 NotUtf8|`80`
+passed 0 failed 0|load 1|y 1|x 1`30*0`
+REFUSED a.test:3 NumberRange|load 1|y 1|x 1`31*0`
+REFUSED a.test:2 NumberRange|eval instant at 0 x|x 1e-31
+passed 0 failed 0|load 1|`4096*n` 1
+REFUSED a.test:2 BadLabels|load 1|`4097*n` 1
+REFUSED a.test:2 BadLabels|load 1|x{a="`4097*n`"} 1
+passed 0 failed 0|load 1|x{`63*l%="v",`} 1
+REFUSED a.test:2 BadLabels|load 1|x{`64*l%="v",`} 1
+"##;
+
+/// The same, for long files.
+const BYTES: &str = "
+passed 0 failed 0|`4194304*|`
+REFUSED a.test:0 TooLarge|`4194305*|`
 ";
 
-/// The same, for what a load may say.
-const LOADS: &str = r##"
-PASS a.test:4;PASS a.test:7;PASS a.test:9;PASS a.test:11;passed 4 failed 0|load 5m|up 1 _ stale 3||eval instant at 4m59s up|up 1||eval instant at 5m up||eval instant at 10m up||eval instant at 15m up|up 3
-PASS a.test:4;PASS a.test:6;passed 2 failed 0|load 1m|z 1 stale||eval instant at 1m z||eval instant at 0 z|z 1
-FAIL a.test:4 missing z;passed 0 failed 1|load 1m|z 1 stale||eval instant at 1m z|z 1
-PASS a.test:4;PASS a.test:7;PASS a.test:9;PASS a.test:11;passed 4 failed 0|load 6m|x 1 _x2 4||eval instant at 0 x|x 1||eval instant at 6m x||eval instant at 12m x||eval instant at 18m x|x 4
-PASS a.test:4;PASS a.test:7;PASS a.test:10;PASS a.test:13;passed 4 failed 0|load 10m|c 0+60x2 5x1 10-2x1 1+-2x01||eval instant at 20m c|c 120||eval instant at 40m c|c 5||eval instant at 60m c|c 8||eval instant at 80m c|c -1
-PASS a.test:6;passed 1 failed 0|load 5m|x{a="1"} 1|x{ b = "2" , a="1", } 2|{__name__="x",c="}#,é"} 3||eval instant at 0 x|x{a="1"} 1|x {b="2",a="1"} 2|x{c="}#,é"} 3
-PASS a.test:6;passed 1 failed 0|load 5m|y 5|x{} 1|x{a="2"} 2 # behind||eval instant at 0 x|x{a="2"} 2|x 1
-FAIL a.test:4 unexpected series x{a="1"};passed 0 failed 1|load 5m|x{a="1"} 1||eval instant at 0 x
-FAIL a.test:4 missing x{a="2"};passed 0 failed 1|load 5m|x{a="1"} 1||eval instant at 0 x|x{a="2"} 1
-FAIL a.test:4 x{a="1"} expected 3 got 1;passed 0 failed 1|load 5m|x{a="1"} 1||eval instant at 0 x|x{a="1"} 3
-PASS a.test:5;passed 1 failed 0|# a comment|load 5m|  x 1 2 # the samples|# ends the block|eval instant at 0 x|x 1|  # the end
-passed 0 failed 0|# one|  # two
-PASS a.test:8;passed 1 failed 0|load 5m|x 1||clear|load 5m|x 2||eval instant at 0 x|x 2
-PASS a.test:4;PASS a.test:9;passed 2 failed 0|load 5m|x 1||eval instant at 0 x|x 1||clear||eval instant at 0 x
-PASS a.test:7;passed 1 failed 0|load 5m|x 1||load 5m|x 1 2||eval instant at 5m x|x 2
-REFUSED a.test:5 Conflict|load 5m|x 1||load 5m|x 2||eval instant at 0 x|x 1
-REFUSED a.test:5 Conflict|eval instant at 0 x||load 5m|x 1|x 2
-REFUSED a.test:3 Conflict|load 5m|x 1|x stale
-REFUSED a.test:3 Conflict|load 5m|x 1|x 1.0000001
-passed 0 failed 0|load 5m|x NaN stale|x nan stale
-REFUSED a.test:2 NumberRange|load 1m|x 1e30+1x1
-REFUSED a.test:2 NumberRange|load 1m|x 1e30-1e30x1
-REFUSED a.test:2 NumberRange|load 1m|x 1 1e31
-REFUSED a.test:3 Malformed|load 1m|x 1e30+1x1|x{
-passed 0 failed 0|load 100y|x 1 _x30 1
-REFUSED a.test:2 NumberRange|load 100y|x 1 _x31 1
-passed 0 failed 0|load 1s|x _x4294967295 1
-REFUSED a.test:2 BadLabels|load 1m|x{a="1",a="2"} 1
-REFUSED a.test:2 BadLabels|load 1m|x{__name__="y"} 1
-REFUSED a.test:2 BadLabels|eval instant at 0 x|x{a="1",a="1"} 1
-REFUSED a.test:2 NumberRange|eval instant at 0 x|x 1e31
-"##;
+/// The same, for many samples.
+const SAMPLES: &str = "
+passed 0 failed 0|load 1s|x 0x1999999
+REFUSED a.test:2 TooManySamples|load 1s|x 0x2000000
+REFUSED a.test:2 TooManySamples|load 0.001|x 0x4294967295
+";
 
-/// Each row is the number of the first malformed line, and the lines of a script.
-const MALFORMED: &str = r##"
-1|x
-1|load
-1|load 0
-1|load 0s
-1|load 30m1h
-1|load 0.0001
-1|load 101y
-1|load -5m
-1|load 5m 5m
-1|LOAD 5m
-1|load_with_nhcb 5m
-1|clear all
-1|Clear
-2|load 5m|load 5m
-2|load 5m|x
-2|load 5m|x # 1
-2|load 5m|x#1 2
-2|load 1m|x{a="b
-2|load 5m|x{a="b" 1
-2|load 5m|x{a=b} 1
-2|load 5m|x{a='b'} 1
-2|load 5m|x{a="b\"} 1
-2|load 5m|x{a:b="c"} 1
-2|load 5m|x{5="c"} 1
-2|load 5m|x{Inf="c"} 1
-2|load 5m|x{a="b"c="d"} 1
-2|load 5m|x{a="b",,} 1
-2|load 5m|x{,} 1
-2|load 5m|x{a} 1
-2|load 5m|x{="b"} 1
-2|load 5m|x{a=~"b"} 1
-2|load 5m|x{a="b"}1
-2|load 5m|x{a="b"}
-2|load 5m|{} 1
-2|load 5m|{a=""} 1
-2|load 5m|{"x"} 1
-2|load 5m|x {{sum:1}}
-2|load 5m|5 1
-2|load 5m|nan 1
-2|load 5m|BOOL 1
-2|load 5m|on{a="b"} 1
-2|load 5m|x 1 y
-2|load 5m|x 007
-2|load 5m|x 0x8f
-2|load 5m|x 1_000
-2|load 5m|x 1/3
-2|load 5m|x 1e
-2|load 5m|x ++1
-2|load 5m|x _x
-2|load 5m|x _x-1
-2|load 5m|x _x4294967296
-2|load 5m|x __
-2|load 5m|x stalex2
-2|load 5m|x Stale
-2|load 5m|x 1x
-2|load 5m|x 1x1.5
-2|load 5m|x x3
-2|load 5m|x 1+x3
-2|load 5m|x 1+1
-2|load 5m|x 1+2x4294967296
-2|load 5m|x 1 2,3
-2|load 5m|é 1
-2|load 5m|x 1 
-3|load 5m|x 1|y
-1|eval
-1|eval instant at 0
-1|eval instant at 1e15 x
-1|eval range at 0 x
-1|eval instant in 0 x
-1|eval_fail instant at 0 x
-1|eval instant at 0 5x
-1|eval instant at 0 nan
-1|eval instant at 0 x y
-2|eval instant at 0 x|x
-2|eval instant at 0 x|x 1 2
-2|eval instant at 0 x|x _
-2|eval instant at 0 x|x 1x2
-2|eval instant at 0 x|x 1 # behind
-2|eval instant at 0 x|1
-3|eval instant at 0 x|x 1|x 1
-3|eval instant at 0 x|x{a="1",b="2"} 1|x{b="2",a="1"} 1
-4|eval instant at 0 x|||x 1
-"##;
+/// Each row is a status, a text with its line feeds written `;`, the paths that were fetched, the words, and the numbers
+/// of the fetch and of the write that fail, of the file of `FIRST`.
+const RUNS: &str = "
+1|PASS a.test:4;FAIL a.test:7 up expected 3 got 2;passed 1 failed 1;|a.test |promqltest a.test|0|0
+2|usage: promqltest [options] FILE.. or query [options] FILE EXPR;|||0|0
+2|usage: promqltest [options] FILE.. or query [options] FILE EXPR;||promqltest|0|0
+2|usage: promqltest [options] FILE.. or query [options] FILE EXPR;||query a.test|0|0
+2|usage: promqltest [options] FILE.. or query [options] FILE EXPR;||Promqltest a.test|0|0
+2|usage: promqltest [options] FILE.. or query [options] FILE EXPR;||promqltest -a.test|0|0
+2|usage: promqltest [options] FILE.. or query [options] FILE EXPR;||promqltest --help|0|0
+2|usage: promqltest [options] FILE.. or query [options] FILE EXPR;||promqltest a.test b.test|0|0
+2|usage: promqltest [options] FILE.. or query [options] FILE EXPR;||a.test promqltest|0|0
+3|FAULT read -;|- |promqltest -|0|0
+3|FAULT read b.test;|b.test |promqltest b.test|0|0
+3|FAULT read a.test;|a.test |promqltest a.test|1|0
+4|PASS a.test:4;|a.test |promqltest a.test|0|2
+4|||promqltest|0|1
+";
 
-/// Each row is the lines of a script that is taken.
-const TAKEN: &str = r##"
-|load 5
-|load 1h30m
-|load 100y
-|load 0.001
-|load 5m|x 1.5 +1 -.5 2. 1E-3 iNF -inf nAn
-|load 5m|x 1234567890123456789 1e-2+1E+1x007
-|load 5m||load 5m
-|load 5m|and 1|sum 1|eval 1|load 1
-|load 5m|x{on="1",bool="2",sum="3"} 1|x{a="b"} _x0 1
-|clear|clear|load 5m|x 1
-|eval instant at 0 x|{} 1
-|eval instant at +5 x||eval instant at -5 x|
-"##;
+/// Appends a text with a line feed for each sign.
+fn push_lines(text: &mut Vec<u8>, written: &str, sign: u8) -> Result<(), AllocError> {
+    for byte in written.as_bytes() {
+        text.push(if *byte == sign { b'\n' } else { *byte })?;
+    }
+    Ok(())
+}
 
-/// A library of one file, `a.test`. With `fails` its first fetch fails.
-fn library_of(alloc: Global, text: &[u8], fails: bool) -> Result<MemLibrary, AllocError> {
+/// Appends what stands between two backquotes.
+fn push_special(alloc: Global, text: &mut Vec<u8>, special: &str) -> Result<(), AllocError> {
+    let Some((times, piece)) = special.split_once('*') else {
+        text.push(u8::from_str_radix(special, 16).unwrap_or(b'?'))?;
+        return Ok(());
+    };
+    let (front, back) = piece.split_once('%').unwrap_or((piece, ""));
+    for place in 0..times.parse::<u32>().unwrap_or(0) {
+        push_lines(text, front, b'|')?;
+        if front.len() < piece.len() {
+            text.extend_from_slice(format!(in alloc; "{place}")?.as_bytes())?;
+        }
+        push_lines(text, back, b'|')?;
+    }
+    Ok(())
+}
+
+/// A library of one file, `a.test`. With a number other than 0 that fetch fails.
+fn library_of(alloc: Global, text: &[u8], fails: u32) -> Result<MemLibrary, AllocError> {
     let mut paths = Items::new(alloc);
     paths.push(Text::of(alloc, "a.test")?)?;
     let mut file: Items<u8> = Items::new(alloc);
@@ -181,18 +272,24 @@ fn library_of(alloc: Global, text: &[u8], fails: bool) -> Result<MemLibrary, All
     let mut bytes = Items::new(alloc);
     bytes.push(file)?;
     let mut failing = Items::new(alloc);
-    if fails {
-        failing.push(1)?;
-    }
+    failing.push(fails)?;
     Ok(MemLibrary::of(paths, bytes, failing))
 }
 
-fn words_of(alloc: Global, words: &[&str]) -> Result<Vec<String>, AllocError> {
-    let mut all = Vec::new(alloc);
-    for word in words {
-        all.push(String::from_str(alloc, word)?)?;
+fn sink_of(alloc: Global, fails: u32) -> Result<MemSink, AllocError> {
+    let mut failing = Items::new(alloc);
+    failing.push(fails)?;
+    Ok(MemSink::of(alloc, failing))
+}
+
+fn words_of(alloc: Global, line: &str) -> Result<Vec<String>, AllocError> {
+    let mut words = Vec::new(alloc);
+    for word in line.split(' ') {
+        if !word.is_empty() {
+            words.push(String::from_str(alloc, word)?)?;
+        }
     }
-    Ok(all)
+    Ok(words)
 }
 
 /// Runs words with counters of their own.
@@ -220,29 +317,10 @@ fn run_words<L: Library, S: Sink>(
     run_counted::<Brand, L, S>(alloc, Blank::new(3), words, library, out)
 }
 
-/// The status and the text of `promqltest a.test` over a file of these bytes.
-fn run(alloc: Global, text: &[u8]) -> Result<(Status, MemSink), AllocError> {
-    let words = words_of(alloc, &["promqltest", "a.test"])?;
-    let mut library = library_of(alloc, text, false)?;
-    let mut out = MemSink::of(alloc, Items::new(alloc));
-    let status = run_words(alloc, &words, &mut library, &mut out);
-    Ok((status, out))
-}
-
-/// Pieces as lines, each with a line feed behind it.
-fn lines_of(alloc: Global, pieces: &str, sign: char) -> Result<String, AllocError> {
-    let mut text = String::new(alloc);
-    for piece in pieces.split(sign) {
-        text.push_str(piece)?;
-        text.push_str("\n")?;
-    }
-    Ok(text)
-}
-
-fn status_of(report: &str) -> u8 {
-    if report.starts_with("REFUSED") {
+fn status_of(report: &[u8]) -> u8 {
+    if report.starts_with(b"REFUSED") {
         6
-    } else if report.ends_with("failed 0\n") {
+    } else if report.ends_with(b"failed 0\n") {
         0
     } else {
         1
@@ -273,256 +351,122 @@ impl Sink for SlowSink {
     }
 }
 
+/// A library that keeps the paths that it was asked for, each with a blank behind it.
+#[derive(Drop)]
+struct AskedLibrary {
+    files: MemLibrary,
+    asked: String,
+}
+
+impl Library for AskedLibrary {
+    ghost told = { λ _. None };
+
+    ghost faults = { λ l. l.files.faults };
+
+    ghost sound = { λ _. ⊥ };
+
+    ghost fetches = { λ _ _ _. Unit {0} };
+
+    fn fetch(&mut self, path: &str, limit: usize, into: &mut Vec<u8>) -> Result<Fetched, Fetch> {
+        if self.asked.push_str(path).is_err() || self.asked.push_str(" ").is_err() {
+            return Err(Fetch::Memory);
+        }
+        self.files.fetch(path, limit, into)
+    }
+}
+
+/// The bytes of a row's script.
+fn script_of(alloc: Global, written: &str) -> Result<Vec<u8>, AllocError> {
+    let mut text = Vec::new(alloc);
+    let mut is_special = false;
+    for piece in written.split('`') {
+        if is_special {
+            push_special(alloc, &mut text, piece)?;
+        } else {
+            push_lines(&mut text, piece, b'|')?;
+        }
+        is_special = !is_special;
+    }
+    Ok(text)
+}
+
+/// Runs each row of a table, and answers how many there are.
+fn run_rows(rt: &impl Abort, alloc: Global, table: &str) -> Result<u32, Fail> {
+    let words = words_of(alloc, "promqltest a.test")?;
+    let mut rows = 0u32;
+    for row in table.lines() {
+        if let Some((told, script)) = row.split_once('|') {
+            let mut report = Vec::new(alloc);
+            push_lines(&mut report, told, b';')?;
+            report.push(b'\n')?;
+            let text = script_of(alloc, script)?;
+            let mut library = library_of(alloc, &text, 0)?;
+            let mut out = sink_of(alloc, 0)?;
+            let status = run_words(alloc, &words, &mut library, &mut out);
+            assert_eq!(rt; out.written(), report.as_slice(), "{row:?}");
+            assert_eq!(rt; status.0, status_of(&report), "{row:?}");
+            rows = rows.saturating_add(1);
+        }
+    }
+    Ok(rows)
+}
+
 #[test]
 fn reports(rt: HostRuntime) -> Result<(), Fail> {
     passes_exactly_where_rows_agree();
     loads_put_their_samples();
-    let alloc = rt.alloc();
-    let mut rows = 0u32;
-    for row in REPORTS.lines().chain(LOADS.lines()) {
-        if let Some((report, script)) = row.split_once('|') {
-            let report = lines_of(alloc, report, ';')?;
-            let script = lines_of(alloc, script, '|')?;
-            let (ended, out) = run(alloc, script.as_bytes())?;
-            assert_eq!(rt; out.written(), report.as_bytes(), "{row:?}");
-            assert_eq!(rt; ended.0, status_of(report.as_str()), "{row:?}");
-            rows = rows.saturating_add(1);
-        }
-    }
-    assert_eq!(rt; rows, 44);
+    assert_eq!(rt; run_rows(&rt, rt.alloc(), REPORTS)?, 181);
+    assert_eq!(rt; read_item(b""), Err(WordRefusal::NoForm));
+    assert!(rt; read_series(rt.alloc(), b"")?.is_err());
     Ok(())
-}
-
-#[test]
-fn refuses_the_first_line_that_is_malformed(rt: HostRuntime) -> Result<(), Fail> {
-    let alloc = rt.alloc();
-    let mut rows = 0u32;
-    for row in MALFORMED.lines() {
-        if let Some((line, script)) = row.split_once('|') {
-            let report = format!(in alloc; "REFUSED a.test:{line} Malformed\n")?;
-            let script = lines_of(alloc, script, '|')?;
-            let (ended, out) = run(alloc, script.as_bytes())?;
-            assert_eq!(rt; out.written(), report.as_bytes(), "{row:?}");
-            assert_eq!(rt; ended.0, 6, "{row:?}");
-            rows = rows.saturating_add(1);
-        }
-    }
-    assert_eq!(rt; rows, 82);
-    Ok(())
-}
-
-#[test]
-fn takes_what_is_a_script(rt: HostRuntime) -> Result<(), Fail> {
-    let alloc = rt.alloc();
-    let mut rows = 0u32;
-    for row in TAKEN.lines() {
-        if let Some((_, script)) = row.split_once('|') {
-            let script = lines_of(alloc, script, '|')?;
-            let (ended, _) = run(alloc, script.as_bytes())?;
-            assert!(rt; ended.0 < 2, "{row:?}");
-            rows = rows.saturating_add(1);
-        }
-    }
-    assert_eq!(rt; rows, 12);
-    Ok(())
-}
-
-#[test]
-fn takes_text_alone(rt: HostRuntime) -> Result<(), Fail> {
-    let alloc = rt.alloc();
-    let cases: [(&[u8], u8); 6] = [
-        (b"\xff\nload 5m\n", 1),
-        (b"load 5m\nx 1\n\n# \xc3(\n\neval instant at 0 x\n", 4),
-        (b"load 5m\nx 1 \xe2\x82", 2),
-        (b"nonsense\n\xf0\x9f", 2),
-        (b"load 5m\r\nx{a=\"\xed\xa0\x80\"} 1\r\n", 2),
-        (b"\x80", 1),
-    ];
-    for (text, line) in cases {
-        let (ended, out) = run(alloc, text)?;
-        let report = format!(in alloc; "REFUSED a.test:{line} NotUtf8\n")?;
-        assert_eq!(rt; out.written(), report.as_bytes());
-        assert_eq!(rt; ended.0, 6);
-    }
-    Ok(())
-}
-
-/// A text of so many pieces between a front and an end.
-fn repeated(
-    alloc: Global,
-    front: &str,
-    piece: &str,
-    times: u32,
-    end: &str,
-) -> Result<String, AllocError> {
-    let mut text = String::from_str(alloc, front)?;
-    for _ in 0..times {
-        text.push_str(piece)?;
-    }
-    text.push_str(end)?;
-    Ok(text)
-}
-
-#[test]
-fn keeps_the_limits(rt: HostRuntime) -> Result<(), Fail> {
-    let alloc = rt.alloc();
-    let cases = [
-        // Numbers end at 10^30, and so do their denominators.
-        ("load 1\ny 1\nx 1", "0", 30, "", "passed 0 failed 0\n"),
-        (
-            "load 1\ny 1\nx 1",
-            "0",
-            31,
-            "",
-            "REFUSED a.test:3 NumberRange\n",
-        ),
-        (
-            "eval instant at 0 x\nx 1e-3",
-            "1",
-            1,
-            "",
-            "REFUSED a.test:2 NumberRange\n",
-        ),
-        // A text has at most 4,096 bytes.
-        ("load 1\n", "n", 4096, " 1", "passed 0 failed 0\n"),
-        ("load 1\n", "n", 4097, " 1", "REFUSED a.test:2 BadLabels\n"),
-        (
-            "load 1\nx{a=\"",
-            "n",
-            4097,
-            "\"} 1",
-            "REFUSED a.test:2 BadLabels\n",
-        ),
-    ];
-    for (front, piece, times, end, report) in cases {
-        let text = repeated(alloc, front, piece, times, end)?;
-        let (_, out) = run(alloc, text.as_bytes())?;
-        assert_eq!(rt; out.written(), report.as_bytes(), "{front:?} {times}");
-    }
-    Ok(())
-}
-
-/// What a file of so many line feeds comes to.
-fn report_of_feeds(alloc: Global, feeds: u32) -> Result<MemSink, AllocError> {
-    let text = repeated(alloc, "", "\n", feeds, "")?;
-    let (_, out) = run(alloc, text.as_bytes())?;
-    Ok(out)
 }
 
 #[test]
 fn takes_4194304_bytes(rt: HostRuntime) -> Result<(), Fail> {
-    let out = report_of_feeds(rt.alloc(), 4_194_304)?;
-    assert_eq!(rt; out.written(), b"passed 0 failed 0\n".as_slice());
-    let out = report_of_feeds(rt.alloc(), 4_194_305)?;
-    assert_eq!(rt; out.written(), b"REFUSED a.test:0 TooLarge\n".as_slice());
+    assert_eq!(rt; run_rows(&rt, rt.alloc(), BYTES)?, 2);
     Ok(())
 }
 
 #[test]
 fn takes_2000000_samples(rt: HostRuntime) -> Result<(), Fail> {
-    let alloc = rt.alloc();
-    let (_, out) = run(alloc, b"load 1s\nx 0x1999999")?;
-    assert_eq!(rt; out.written(), b"passed 0 failed 0\n".as_slice());
-    let (_, out) = run(alloc, b"load 1s\nx 0x2000000")?;
-    assert_eq!(rt;
-        out.written(),
-        b"REFUSED a.test:2 TooManySamples\n".as_slice()
-    );
+    assert_eq!(rt; run_rows(&rt, rt.alloc(), SAMPLES)?, 3);
     Ok(())
 }
 
 #[test]
-fn refuses_a_long_run_at_once(rt: HostRuntime) -> Result<(), Fail> {
-    let (_, out) = run(rt.alloc(), b"load 0.001\nx 0x4294967295")?;
-    assert_eq!(rt;
-        out.written(),
-        b"REFUSED a.test:2 TooManySamples\n".as_slice()
-    );
-    Ok(())
-}
-
-/// A load of so many labels beside the metric's name.
-fn labelled(alloc: Global, labels: u32) -> Result<String, AllocError> {
-    let mut text = String::from_str(alloc, "load 1\nx{")?;
-    for label in 0..labels {
-        text.push_str(format!(in alloc; "l{label}=\"v\",")?.as_str())?;
+fn fetches_the_file_of_the_words(rt: HostRuntime) -> Result<(), Fail> {
+    let alloc = rt.alloc();
+    let mut rows = 0u32;
+    for row in RUNS.lines() {
+        let Some((status, row)) = row.split_once('|') else {
+            continue;
+        };
+        let (told, row) = row.split_once('|').unwrap_or((row, ""));
+        let (asked, row) = row.split_once('|').unwrap_or((row, ""));
+        let (line, row) = row.split_once('|').unwrap_or((row, ""));
+        let (fetch, write) = row.split_once('|').unwrap_or((row, ""));
+        let mut report = Vec::new(alloc);
+        push_lines(&mut report, told, b';')?;
+        let mut library = AskedLibrary {
+            files: library_of(alloc, FIRST.as_bytes(), fetch.parse::<u32>().unwrap_or(0))?,
+            asked: String::new(alloc),
+        };
+        let mut out = sink_of(alloc, write.parse::<u32>().unwrap_or(0))?;
+        let words = words_of(alloc, line)?;
+        let ended = run_words(alloc, &words, &mut library, &mut out);
+        assert_eq!(rt; ended.0, status.parse::<u8>().unwrap_or(255), "{line:?}");
+        assert_eq!(rt; out.written(), report.as_slice(), "{line:?}");
+        assert_eq!(rt; library.asked.as_str(), asked, "{line:?}");
+        rows = rows.saturating_add(1);
     }
-    text.push_str("} 1")?;
-    Ok(text)
-}
+    assert_eq!(rt; rows, 14);
 
-#[test]
-fn takes_64_labels(rt: HostRuntime) -> Result<(), Fail> {
-    let alloc = rt.alloc();
-    for (labels, report) in [
-        (63, "passed 0 failed 0\n"),
-        (64, "REFUSED a.test:2 BadLabels\n"),
-    ] {
-        let text = labelled(alloc, labels)?;
-        let (_, out) = run(alloc, text.as_bytes())?;
-        assert_eq!(rt; out.written(), report.as_bytes());
-    }
-    Ok(())
-}
-
-#[test]
-fn answers_faults(rt: HostRuntime) -> Result<(), Fail> {
-    let alloc = rt.alloc();
-    let words = words_of(alloc, &["promqltest", "a.test"])?;
-
-    let mut out = MemSink::of(alloc, Items::new(alloc));
-    let mut library = library_of(alloc, FIRST.as_bytes(), true)?;
-    assert_eq!(rt; run_words(alloc, &words, &mut library, &mut out).0, 3);
-    assert_eq!(rt; out.written(), b"FAULT read a.test\n".as_slice());
-
-    let mut failing = Items::new(alloc);
-    failing.push(2)?;
-    let mut out = MemSink::of(alloc, failing);
-    let mut library = library_of(alloc, FIRST.as_bytes(), false)?;
-    assert_eq!(rt; run_words(alloc, &words, &mut library, &mut out).0, 4);
-    assert_eq!(rt; out.written(), b"PASS a.test:4\n".as_slice());
-
+    let words = words_of(alloc, "promqltest a.test")?;
+    let mut library = library_of(alloc, FIRST.as_bytes(), 0)?;
     let mut slow = SlowSink {
         taken: Vec::new(alloc),
     };
     assert_eq!(rt; run_words(alloc, &words, &mut library, &mut slow).0, 1);
     assert_eq!(rt; slow.taken.as_slice(), FIRST_REPORT.as_bytes());
-    Ok(())
-}
-
-#[test]
-fn takes_one_command(rt: HostRuntime) -> Result<(), Fail> {
-    let alloc = rt.alloc();
-    let cases: [&[&str]; 8] = [
-        &[],
-        &["promqltest"],
-        &["query", "a.test"],
-        &["Promqltest", "a.test"],
-        &["promqltest", "-a.test"],
-        &["promqltest", "--help"],
-        &["promqltest", "a.test", "b.test"],
-        &["a.test", "promqltest"],
-    ];
-    for case in cases {
-        let words = words_of(alloc, case)?;
-        let mut library = library_of(alloc, FIRST.as_bytes(), false)?;
-        let mut out = MemSink::of(alloc, Items::new(alloc));
-        assert_eq!(rt;
-            run_words(alloc, &words, &mut library, &mut out).0,
-            2,
-            "{case:?}"
-        );
-        assert_eq!(rt; out.written(), USAGE.as_bytes());
-    }
-    for path in ["-", "b.test"] {
-        let words = words_of(alloc, &["promqltest", path])?;
-        let mut library = library_of(alloc, FIRST.as_bytes(), false)?;
-        let mut out = MemSink::of(alloc, Items::new(alloc));
-        assert_eq!(rt;
-            run_words(alloc, &words, &mut library, &mut out).0,
-            3,
-            "{path:?}"
-        );
-    }
     Ok(())
 }

@@ -1,9 +1,10 @@
 //! The whole program, over the words after its name.
 ghost use Rattle.edge_io.specs.Causes.{Rose};
+ghost use Rattle.edge_io.specs.Fetches.{FetchesFront};
 ghost use Rattle.edge_io.specs.Written.{appended, WroteFront};
 ghost use Rattle.promql_tool.specs.Grammar.{reading};
 ghost use Rattle.promql_tool.specs.Found.{IsFound};
-ghost use Rattle.promql_tool.specs.Report.{Report, fault_text, names_file, path_of, refusal_text, report, report_found, usage};
+ghost use Rattle.promql_tool.specs.Report.{Report, fault_text, files_of, names_file, path_of, refusal_text, report, report_found, usage};
 ghost use Rattle.promql_tool.specs.Ends.{Ends, IsCut, IsOneOf, IsRefused, Reports, RunsPath, RunsWords, usage_report};
 ghost use Rattle.std.specs.Prelude.{◌≡◌, ◌⊎◌, ℕ, List, [], ◌∷◌, None, Some, Err, Ok, Option, map, option_map, string_bytes, IfSome, IsErr, IsSomeAnd};
 
@@ -54,7 +55,8 @@ fn cut_status(cause: SinkFail) -> Status
 }
 
 fn print_usage<S: Sink>(out: &mut S) -> Status
-    ensures { Ends (record { before = S.written out.old; now = S.written out.new; faults_before = S.faults out.old; faults_now = S.faults out.new; sound = S.sound out.old }) usage_report result.0 }
+    ensures stays_sound { S.sound out.old → S.sound out.new }
+    ensures ends { Ends (record { before = S.written out.old; now = S.written out.new; faults_before = S.faults out.old; faults_now = S.faults out.new; sound = S.sound out.old }) usage_report result.0 }
 {
     match write_all(out, USAGE.as_bytes()) {
         Ok(()) => Status(2),
@@ -69,6 +71,10 @@ fn run_path<L: Library, S: Sink, W: Ledger>(
     out: &mut S,
     work: &mut Work<W>,
 ) -> Status
+    ensures fetched { L.fetches library.old path.now library.new }
+    ensures told { L.told library.new ≡ L.told library.old }
+    ensures library_sound { L.sound library.old → L.sound library.new }
+    ensures sink_sound { S.sound out.old → S.sound out.new }
     ensures idle { IsOneOf (3 ∷ 6 ∷ []) result.0 → work.new ≡ work.old }
     ensures runs { RunsPath (record { told = L.told library.old; faults_before = L.faults library.old; faults_now = L.faults library.new; sound = L.sound library.old })
         (record { before = S.written out.old; now = S.written out.new; faults_before = S.faults out.old; faults_now = S.faults out.new; sound = S.sound out.old })
@@ -91,6 +97,10 @@ fn run_words<L: Library, S: Sink, W: Ledger>(
     out: &mut S,
     work: &mut Work<W>,
 ) -> Status
+    ensures fetched { FetchesFront L.fetches (files_of (map string_bytes words.now)) library.old library.new }
+    ensures told { L.told library.new ≡ L.told library.old }
+    ensures library_sound { L.sound library.old → L.sound library.new }
+    ensures sink_sound { S.sound out.old → S.sound out.new }
     ensures idle { IsOneOf (2 ∷ 3 ∷ 6 ∷ []) result.0 → work.new ≡ work.old }
     ensures runs { RunsWords (map string_bytes words.now)
         (record { told = L.told library.old; faults_before = L.faults library.old; faults_now = L.faults library.new; sound = L.sound library.old })
@@ -123,6 +133,13 @@ pub fn run_tool<L: Library, S: Sink, W: Ledger>(
     // Where nothing can fail, the status is the report's, unless memory runs out.
     ensures answered { IfSome (L.told library.old) (λ files. L.sound library.old → S.sound out.old →
         (result.0 ≡ (report (map string_bytes words.now) files).status) ⊎ (result.0 ≡ 7)) }
+
+    // The files of the words were fetched, from the first on, each at most once, and nothing else: of words that are no
+    // command nothing. What library and sink tell of themselves stays.
+    ensures fetched { FetchesFront L.fetches (files_of (map string_bytes words.now)) library.old library.new }
+    ensures told { L.told library.new ≡ L.told library.old }
+    ensures library_sound { L.sound library.old → L.sound library.new }
+    ensures sink_sound { S.sound out.old → S.sound out.new }
 
     // 2: exactly where the words are no command; then the usage line is written.
     ensures usage { result.0 ≡ 2 → (path_of (map string_bytes words.now) ≡ None) × (S.written out.new ≡ appended (S.written out.old) usage) }

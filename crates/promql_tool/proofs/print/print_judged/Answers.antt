@@ -1,9 +1,8 @@
 use Rattle.std.proofs.Common.{subst, ap, ◌∙◌}
 use Rattle.std.specs.List.{flat_map}
 use Rattle.edge_io.specs.Written.{WroteFront}
-use Rattle.edge_io.proofs.Fronts.{on_err}
 use Rattle.promql_tool.specs.Report.{verdict_text, totals_text, passed_in, failed_in}
-use Rattle.promql_tool.proofs.Pieces.{front_first, front_last}
+use Rattle.promql_tool.proofs.Pieces.{front_first, front_last, on_err}
 use Rattle.promql_tool.proofs.print.print_judged.Goals as goal
 
 pub returns-in_err-print_verdicts-clause-err : goal.returns-in_err-print_verdicts-clause-err

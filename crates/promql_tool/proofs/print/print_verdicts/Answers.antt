@@ -1,9 +1,8 @@
 use Rattle.std.proofs.Common.{◌+◌, take, drop, get_or, subst, ap}
 use Rattle.std.specs.List.{flat_map}
 use Rattle.edge_io.specs.Written.{WroteFront}
-use Rattle.edge_io.proofs.Fronts.{on_err}
 use Rattle.promql_tool.specs.Report.{verdict_text}
-use Rattle.promql_tool.proofs.Pieces.{front_more, flat_parted}
+use Rattle.promql_tool.proofs.Pieces.{front_more, flat_parted, on_err}
 use Rattle.promql_tool.proofs.print.print_verdicts.Goals as goal
 
 pub returns-in_err-print_verdict-clause-err : goal.returns-in_err-print_verdict-clause-err

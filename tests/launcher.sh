@@ -1,0 +1,235 @@
+#!/usr/bin/env bash
+# Tries bin/promqltest over a small checkout with a stand-in for the toolchain's rt, whose builds take a second. Run it by
+# hand: tests/launcher.sh. It takes about a minute, prints a line for each part, and ends with 0 where all passed.
+set -u
+export LC_ALL=C
+here=$(cd -- "$(dirname -- "${BASH_SOURCE[0]}")" && pwd)
+launcher=$here/../bin/promqltest
+room=$(mktemp -d) && chmod 755 "$room"
+[ -n "${KEEP:-}" ] || trap 'chmod -R u+w "$room"; rm -rf "$room"' EXIT
+export HOME=$room/home XDG_CACHE_HOME=
+unset TMPDIR
+mkdir "$HOME"
+failed=0
+
+part() { echo "== $1"; }
+
+# wanted WHAT IS: says where two texts differ.
+wanted() {
+    [ "$2" = "$3" ] && return
+    failed=1
+    printf 'FAILED %s: wanted %q, got %q\n' "$1" "$2" "$3"
+}
+
+# The stand-in: it counts what it is asked for, and builds a program that is written in two pieces.
+mkdir "$room/kit" "$room/kit/bin" && cat >"$room/kit/bin/rt" <<'RT'
+#!/usr/bin/env bash
+tool=$(dirname -- "$(readlink -f -- "$0")")/..
+if [ "$1" = version ]; then cat "$tool/version"; exit; fi
+echo "$1 $(basename -- "$PWD")" >>"${RT_LOG:-/dev/null}"
+mode=$(cat "$tool/mode")
+sleep 0.1
+[ "$1" = run ] || exit 0
+[ "$mode" != slow ] || sleep 2
+mkdir -p out
+if [ "$mode" = half ]; then
+    echo '#!/usr/bin/env bash' >out/promql
+    chmod +x out/promql
+    exit 2
+fi
+{
+    echo '#!/usr/bin/env bash'
+    echo "told='$(grep -o 'answer [0-9]*' src/main.rt)'"
+    seq 30000 | sed 's/^/# /'
+    sleep 0.3
+    echo '[ $# -eq 2 ] || { echo "usage: promqltest [options] FILE.."; exit 2; }'
+    echo '[ ! -p "$2" ] || read -r _ <"$2"; echo "$1 $2 $told"; exit ${STATUS:-0}'
+} >out/promql
+chmod +x out/promql
+./out/promql
+RT
+chmod -R a+rX "$room/kit"
+chmod +x "$room/kit/bin/rt"
+export PATH=$room/kit/bin:$PATH RT_LOG=$room/log
+echo 'stand-in 1' >"$room/kit/version"
+echo good >"$room/kit/mode"
+
+# A fresh checkout of three crates, of which the program stands on two.
+checkout() {
+    rm -rf -- "$1"
+    mkdir -p -- "$1/bin" "$1/docs" "$1"/crates/{low,side,promql}/src
+    cp -- "$launcher" "$1/bin/promqltest"
+    printf '# crates\nlow: kit_crate\nside: low\npromql: low # the program\n' >"$1/crates.txt"
+    echo 'Handles allowed: none.' >"$1/HANDLES"
+    printf 'pub mod part;\n\n#[cfg(test)]\nmod tests;\n' | tee "$1/crates/low/src/lib.rt" >"$1/crates/side/src/lib.rt"
+    echo '// a part' >"$1/crates/low/src/part.rt"
+    echo '// a test' >"$1/crates/low/src/tests.rt"
+    echo '// answer 1' >"$1/crates/promql/src/main.rt"
+    : >"$RT_LOG"
+    echo good >"$room/kit/mode"
+}
+
+# How often the program was built.
+builds() { grep -c '^run promql$' "$RT_LOG"; }
+
+# report CHECKOUT: what a call prints on standard output, and its status.
+report() { "$1/bin/promqltest" a.test 2>"$room/said"; echo "status $?"; }
+
+good='promqltest a.test answer 1
+status 0'
+at=$room/checkout
+
+part 'forty calls at once on a fresh checkout'
+checkout "$at"
+for i in $(seq 40); do report "$at" >"$room/out$i" 2>&1 & done
+wait
+for i in $(seq 40); do wanted "call $i" "$good" "$(cat "$room/out$i")"; done
+wanted 'builds' 1 "$(builds)"
+wanted 'what stays in the folder' 'lock promql toolchain' "$(ls -A "$at/bin/.cache" | sed 's/-.*//' | xargs)"
+
+part 'what is printed while it builds'
+checkout "$at"
+wanted 'the report' "$good" "$(report "$at")"
+wanted 'the lines' 'promqltest: the crates are proved first, once: about 20 minutes on four processors
+promqltest: proved low, 1 of 2
+promqltest: proved promql, 2 of 2' "$(cat "$room/said")"
+wanted 'the second report' "$good" "$(report "$at")"
+wanted 'its lines' '' "$(cat "$room/said")"
+wanted 'builds' 1 "$(builds)"
+wanted 'another status' 3 "$(STATUS=3 "$at/bin/promqltest" a.test >/dev/null; echo $?)"
+wanted 'no words' 2 "$("$at/bin/promqltest" >/dev/null; echo $?)"
+
+part 'what builds again'
+echo '// another test' >"$at/crates/low/src/tests.rt"
+echo '# a document' >"$at/docs/new.md"
+echo '// a crate that the program does not stand on' >"$at/crates/side/src/lib.rt"
+touch "$at"/crates/*/src/*.rt
+report "$at" >/dev/null
+wanted 'after a test and a document' 1 "$(builds)"
+echo '// an older part' >"$at/crates/low/src/part.rt"
+touch -d '2001-01-01' "$at/crates/low/src/part.rt"
+report "$at" >/dev/null
+wanted 'after a source with an old date' 2 "$(builds)"
+echo 'stand-in 2' >"$room/kit/version"
+touch -d '2001-01-01' "$room/kit/bin/rt"
+report "$at" >/dev/null
+wanted 'after a change of the toolchain' 3 "$(builds)"
+echo '// answer 2' >"$at/crates/promql/src/main.rt"
+wanted 'after a change of the program' 'promqltest a.test answer 2
+status 0' "$(report "$at")"
+
+part 'a rebuild while an older run goes on'
+checkout "$at"
+report "$at" >/dev/null
+mkfifo "$room/pipe"
+"$at/bin/promqltest" "$room/pipe" >"$room/older" &
+older=$!
+sleep 0.3
+echo '// answer 2' >"$at/crates/promql/src/main.rt"
+wanted 'the newer run' 'promqltest a.test answer 2
+status 0' "$(report "$at")"
+timeout 5 bash -c "echo >'$room/pipe'"
+wait "$older"
+wanted 'the older run' "0 promqltest $room/pipe answer 1" "$? $(cat "$room/older")"
+
+part 'a source that changes while it builds'
+checkout "$at"
+echo slow >"$room/kit/mode"
+report "$at" >"$room/out" &
+sleep 1.5
+echo '// another part' >"$at/crates/low/src/part.rt"
+wait
+wanted 'the report' "$good" "$(cat "$room/out")"
+wanted 'builds' 2 "$(builds)"
+
+part 'a killed build, alone and with calls that wait'
+for waiting in 0 5; do
+    checkout "$at"
+    echo slow >"$room/kit/mode"
+    setsid "$at/bin/promqltest" a.test >/dev/null 2>&1 &
+    killed=$!
+    sleep 1
+    for i in $(seq "$waiting"); do report "$at" >"$room/out$i" & done
+    sleep 0.5
+    kill -9 -- "-$killed"
+    wait 2>/dev/null
+    for i in $(seq "$waiting"); do wanted "call $i" "$good" "$(cat "$room/out$i")"; done
+    wanted 'the next call' "$good" "$(report "$at")"
+    sleep 2
+    wanted 'the call after it' "$good" "$(report "$at")"
+done 2>/dev/null
+
+part 'an interrupted build'
+checkout "$at"
+echo slow >"$room/kit/mode"
+setsid "$at/bin/promqltest" a.test >/dev/null 2>&1 &
+sleep 1
+kill -TERM -- "-$!"
+wait 2>/dev/null
+wanted 'what stays in the folder' 'lock toolchain' "$(ls -A "$at/bin/.cache" | xargs)"
+wanted 'the next call' "$good" "$(report "$at")"
+
+part 'a program that was built by half, and an empty one'
+checkout "$at"
+echo half >"$room/kit/mode"
+wanted 'the report' 'status 70' "$(report "$at")"
+wanted 'the last line' 'promqltest: the program is not built' "$(tail -n 1 "$room/said")"
+wanted 'usage lines' 0 "$(grep -c '^usage:' "$room/said")"
+echo good >"$room/kit/mode"
+wanted 'the next call' "$good" "$(report "$at")"
+: >"$(echo "$at"/bin/.cache/promql-*)"
+wanted 'the call after it was emptied' "$good" "$(report "$at")"
+
+part 'a full disk'
+checkout "$at"
+wanted 'the report' 'status 70' "$(ulimit -f 30; report "$at" 2>/dev/null)"
+wanted 'programs' 0 "$(ls "$at/bin/.cache" | grep -c promql)"
+wanted 'the next call' "$good" "$(report "$at")"
+checkout "$at"
+if unshare -m true 2>/dev/null; then
+    mkdir "$at/bin/.cache"
+    wanted 'the report on a full file system' 'status 70' "$(
+        export at room RT_LOG
+        unshare -m bash -c 'mount -t tmpfs -o size=64k none "$at/bin/.cache" && "$at/bin/promqltest" a.test 2>"$room/said"; echo "status $?"')"
+    wanted 'the last line' 'promqltest: the program is not built' "$(tail -n 1 "$room/said")"
+fi
+
+part 'a checkout that is only to be read'
+checkout "$at"
+chmod -R a-w "$at"
+chmod a+w "$RT_LOG" "$room/said" "$HOME"
+run=()
+[ "$(id -u)" -ne 0 ] || run=(setpriv --reuid=65534 --regid=65534 --clear-groups)
+wanted 'the report' 'promqltest a.test answer 1' "$("${run[@]}" "$at/bin/promqltest" a.test 2>"$room/said")"
+wanted 'the second report' 'promqltest a.test answer 1' "$("${run[@]}" "$at/bin/promqltest" a.test 2>"$room/said")"
+wanted 'its lines' '' "$(cat "$room/said")"
+wanted 'builds' 1 "$(builds)"
+wanted 'no folder to write' 70 "$(HOME=/proc/none "${run[@]}" "$at/bin/promqltest" a.test >/dev/null 2>"$room/said"; echo $?)"
+wanted 'its lines' 1 "$(grep -c 'no folder for it can be written' "$room/said")"
+chmod -R u+w "$at"
+
+part 'a path with blanks, and links'
+blank="$room/a  path with 'blanks'"
+checkout "$blank"
+wanted 'the report' "$good" "$(report "$blank")"
+mkdir "$room/links"
+ln -s "$blank/bin/promqltest" "$room/links/first"
+ln -s first "$room/links/query"
+wanted 'the first word' 'query a b.test answer 1' "$(cd / && "$room/links/query" 'a b.test' 2>&1)"
+wanted 'the first word by PATH' 'first a.test answer 1' "$(cd / && PATH=$room/links:$PATH && first a.test 2>&1)"
+wanted 'builds' 1 "$(builds)"
+
+part 'no toolchain'
+checkout "$at"
+less=$room/less
+mkdir "$less"
+for tool in bash env awk basename cat chmod cp cut dirname find flock grep id mkdir mv nproc readlink rm sed seq sha256sum sleep sort stat sync tail tr xargs; do
+    ln -s "$(command -v "$tool")" "$less/$tool"
+done
+wanted 'the report' 'status 70' "$(PATH=$less report "$at")"
+wanted 'its lines' 1 "$(grep -c "the toolchain's command rt is not there" "$room/said")"
+report "$at" >/dev/null
+wanted 'the report once it is built' "$good" "$(PATH=$less report "$at")"
+
+[ "$failed" = 0 ] && echo 'all passed'
+exit "$failed"
