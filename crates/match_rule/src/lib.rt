@@ -13,6 +13,5 @@ pub use patterns::{PatternRefusal, Patterns};
 pub use rules::{RuleMatchers, labels_pass, passes};
 pub use spans::Spans;
 
-
 #[cfg(test)]
 mod tests;

@@ -126,11 +126,7 @@ fn matcher_of<'a>(
     }
 }
 
-fn all_pass(
-    rules: &[Rule],
-    matchers: &mut Vec<Option<PatternMatcher<'_>>>,
-    labels: &Labels,
-) -> bool
+fn all_pass(rules: &[Rule], matchers: &mut Vec<Option<PatternMatcher<'_>>>, labels: &Labels) -> bool
     requires { length matchers.old.items ≡ length rules.now }
     ensures answer { (kept : List (Bool × List ℕ)) → matchers.old.items ≡ map (pattern_named kept) rules.now → result ≡ labels_pass kept rules.now labels.now }
     ensures same { matchers.new.items ≡ matchers.old.items }

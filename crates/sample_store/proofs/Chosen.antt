@@ -19,7 +19,7 @@ use Rattle.label_set.specs.LabelOrder.{labels_cmp_total, labels_cmp_ties}
 use Rattle.label_set.specs.LabelEquality.{labels_eq, labels_decide}
 use Rattle.label_set.specs.declared.rules.Rule.{Rule}
 use Rattle.match_rule.specs.Patterns.{labels_pass}
-use Rattle.sample_store.proofs.Entries.{keys_filter, later_key, sorted_insert}
+use Rattle.label_set.specs.Entries.{keys_filter, later_key, sorted_insert}
 use Rattle.sample_store.specs.Samples.{AllSeries, IsSelected, Names, Samples, by_labels, chosen, labels_at}
 
 -- ---- an item stands in a list

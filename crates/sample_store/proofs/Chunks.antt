@@ -13,7 +13,7 @@ use Rattle.std.specs.declared.cmp.Ordering.TheVariants.{Less, Equal, Greater}
 use Rattle.std.proofs.lemmas.Int.{ints, by_lt_z}
 use Rattle.ticks.specs.declared.moment.Ms.{Ms}
 use Rattle.xfrac.specs.declared.value.Held.{Held}
-use Rattle.sample_store.proofs.Entries.{sorted_insert}
+use Rattle.label_set.specs.Entries.{sorted_insert}
 use Rattle.sample_store.specs.Samples.{AreFilled, IsChunkOf, IsRising, Puts, Samples, flat, held_in, refusal_beside, refusal_in, time_cmp}
 use Rattle.sample_store.specs.declared.refusal.StoreRefusal.{StoreRefusal}
 use Rattle.sample_store.specs.declared.refusal.StoreRefusal.TheVariants.{Memory, TooManySamples}

@@ -9,7 +9,7 @@ use Rattle.std.proofs.lemmas.Int.{ints, by_lt_z}
 use Rattle.std.proofs.Math.Nat.{mul-le-mul_right, pow-le-pow_right, pow-succ'}
 use Rattle.ticks.specs.declared.moment.Ms.{Ms}
 use Rattle.xfrac.specs.declared.value.Held.{Held}
-use Rattle.sample_store.proofs.Entries.{insert_at_gap, later_key}
+use Rattle.label_set.specs.Entries.{insert_at_gap, later_key}
 use Rattle.std.proofs.lemmas.Map.Entries.{lookup_at_gap}
 use Rattle.sample_store.specs.Laws.{time_cmp_total}
 use Rattle.sample_store.specs.Samples.{IsRising, IsTimeGapAt, Samples, later_than, time_cmp}

@@ -12,7 +12,7 @@ use Rattle.std.proofs.lemmas.Map.Entries.{lookup_at_gap}
 use Rattle.std.proofs.lemmas.Option.{slice_get_within}
 use Rattle.ticks.specs.declared.moment.Ms.{Ms}
 use Rattle.xfrac.specs.declared.value.Held.{Held}
-use Rattle.sample_store.proofs.Entries.{at_above_earlier, insert_at_gap, insert_at_place, later_key, lookup_at_place}
+use Rattle.label_set.specs.Entries.{at_above_earlier, insert_at_gap, insert_at_place, later_key, lookup_at_place}
 use Rattle.sample_store.specs.Laws.{time_cmp_total, time_cmp_ties}
 use Rattle.sample_store.specs.Samples.{IsRising, IsTimeAt, IsTimeGapAt, Samples, time_cmp}
 

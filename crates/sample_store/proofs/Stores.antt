@@ -15,7 +15,7 @@ use Rattle.std.specs.Option.{option_map}
 use Rattle.std.specs.Ordering.{is_eq, match_ordering}
 use Rattle.std.specs.declared.cmp.Ordering.{Ordering}
 use Rattle.std.specs.declared.cmp.Ordering.TheVariants.{Less, Equal, Greater}
-use Rattle.sample_store.proofs.Entries.{recursion_map, sorted_insert}
+use Rattle.label_set.specs.Entries.{recursion_map, sorted_insert}
 use Rattle.ticks.specs.declared.moment.Ms.{Ms}
 use Rattle.xfrac.specs.declared.value.Held.{Held}
 use Rattle.sample_store.specs.Samples.{AllSeries, IsFoundAt, IsRising, Puts, PutsAt, Appends, IsRoomIn, IsStore, IsTimeAt, IsTimeGapAt, Names, Samples, IsNumberOf, held_in, is_same, labels_at, later_than, limit_broken, refusal_beside, refusal_in, refusal_of, sample_count, samples_of, time_cmp, with_sample}
