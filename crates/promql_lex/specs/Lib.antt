@@ -1,0 +1,7 @@
+pub mod Gaps
+pub mod Names
+pub mod Numbers
+pub mod Pieces
+pub mod Quoted
+pub mod Signs
+pub mod Tokens

@@ -1,0 +1,20 @@
+//! The tokens of a query's text.
+#![tactic(auto)]
+
+mod cut;
+mod escape;
+mod fault;
+mod name;
+mod number;
+mod piece;
+mod sign;
+mod string;
+mod token;
+
+pub use cut::tokens;
+pub use fault::LexFault;
+pub use std::alloc::AllocError as Memory;
+pub use token::{Token, TokenKind};
+
+#[cfg(test)]
+mod tests;
