@@ -19,7 +19,7 @@ decoded_wait (suc wait) quote at [] = refl
 decoded_wait zero quote at (byte ∷ bytes) = ap (λ n. decoded 0 quote n (byte ∷ bytes)) (omega arith)
 decoded_wait (suc wait) quote at (byte ∷ bytes) = decoded_wait wait quote (at + 1) bytes ∙ ap (λ n. decoded 0 quote n (drop wait bytes)) (omega arith)
 
-drop_behind : (n byte : ℕ) (bytes : List ℕ) → 0 < n → drop n (byte ∷ bytes) ≡ drop (n - 1) bytes
+pub drop_behind : (n byte : ℕ) (bytes : List ℕ) → 0 < n → drop n (byte ∷ bytes) ≡ drop (n - 1) bytes
 drop_behind zero byte bytes some = absurd (omega (arith, some))
 drop_behind (suc n) byte bytes some = ap (λ k. drop k bytes) (omega arith)
 

@@ -1,4 +1,5 @@
 pub mod Gaps
+pub mod Laws
 pub mod Names
 pub mod Numbers
 pub mod Pieces

@@ -4,6 +4,7 @@
 mod cut;
 mod escape;
 mod fault;
+mod law;
 mod name;
 mod number;
 mod piece;
@@ -13,6 +14,7 @@ mod token;
 
 pub use cut::tokens;
 pub use fault::LexFault;
+pub use law::{refused_spellings_are_last, spans_lie_in_order};
 pub use std::alloc::AllocError as Memory;
 pub use token::{Token, TokenKind};
 

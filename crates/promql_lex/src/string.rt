@@ -1,5 +1,5 @@
 //! Strings.
-ghost use Rattle.promql_lex.specs.Pieces.{decoded_kind, raw_at, string_at, text_kind};
+ghost use Rattle.promql_lex.specs.Pieces.{decoded_kind, open_piece, raw_at, string_at, text_kind};
 ghost use Rattle.promql_lex.specs.Quoted.{body_len, decoded, raw_len};
 ghost use Rattle.std.specs.Prelude.{◌≡◌, ◌≤◌, ◌<◌, ◌+◌, ◌++◌, ◌^◌, encode_utf8, false, length, IfOk, IfSome, OnOk};
 
@@ -113,6 +113,16 @@ fn decoded_kind(
     }
 }
 
+/// A string without its end, from behind its opening quote.
+fn open_piece(at: u32, text: &[u8]) -> Piece
+    ensures { result ≡ open_piece at text.now }
+{
+    Piece {
+        size: 1 + text.len(),
+        kind: Some(TokenKind::Bad(QueryRefusal::Unterminated(at))),
+    }
+}
+
 /// A string in quotes, from behind its opening quote.
 pub fn string_at(alloc: Global, quote: u8, at: u32, text: &[u8]) -> Result<Piece, AllocError>
     requires { at + 1 + length text.now < 2 ^ 32 }
@@ -120,10 +130,7 @@ pub fn string_at(alloc: Global, quote: u8, at: u32, text: &[u8]) -> Result<Piece
     ensures within { IfOk result (λ piece. (0 < piece.size) × (piece.size ≤ 1 + length text.now)) }
 {
     match body_len(quote, text) {
-        None => Ok(Piece {
-            size: 1 + text.len(),
-            kind: Some(TokenKind::Bad(QueryRefusal::Unterminated(at))),
-        }),
+        None => Ok(open_piece(at, text)),
         Some(size) => {
             let read = decoded(alloc, quote, at + 1, text.split_at(size).0)?;
             Ok(Piece {
@@ -140,10 +147,7 @@ pub fn raw_at(alloc: Global, at: u32, text: &[u8]) -> Result<Piece, AllocError>
     ensures within { IfOk result (λ piece. (0 < piece.size) × (piece.size ≤ 1 + length text.now)) }
 {
     match raw_len(text) {
-        None => Ok(Piece {
-            size: 1 + text.len(),
-            kind: Some(TokenKind::Bad(QueryRefusal::Unterminated(at))),
-        }),
+        None => Ok(open_piece(at, text)),
         Some(size) => Ok(Piece {
             size: size + 2,
             kind: Some(text_kind(alloc, at, text.split_at(size).0)?),

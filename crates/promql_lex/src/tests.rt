@@ -1,4 +1,4 @@
-use crate::{LexFault, Token, TokenKind, tokens};
+use crate::{LexFault, Token, TokenKind, refused_spellings_are_last, spans_lie_in_order, tokens};
 use frac_text::write_number;
 use promql_ast::QueryRefusal;
 use std::alloc::{AllocError, Global};
@@ -398,11 +398,15 @@ fn described(alloc: Global, tokens: &[Token]) -> Result<String, Fail> {
 #[test]
 fn texts_have_their_tokens(rt: HostRuntime) -> Result<(), Fail> {
     let alloc = rt.alloc();
+    refused_spellings_are_last();
+    spans_lie_in_order();
     let mut rows = 0u32;
     for line in TEXTS.lines() {
         let (text, wanted) = line.split_once(" => ").ok_or("a row without its tokens")?;
         let text = unescaped(alloc, text)?;
-        let found = tokens(alloc, text.as_str())?;
+        let text = text.as_str();
+        assert!(rt; text.len() <= 65_536);
+        let found = tokens(alloc, text)?;
         let copy = found.copy()?;
         let answer = described(alloc, copy.as_slice())?;
         assert_eq!(rt; answer.as_str(), wanted, "{line}");
