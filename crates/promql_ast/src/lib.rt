@@ -1,0 +1,14 @@
+//! The tree of a query, and why a query's text is refused.
+#![tactic(auto)]
+
+mod equal;
+mod law;
+mod refusal;
+mod tree;
+
+pub use law::depths_are_by_nodes;
+pub use refusal::QueryRefusal;
+pub use tree::{Expr, Fixed, Moment, Node, Selector};
+
+#[cfg(test)]
+mod tests;

@@ -1,0 +1,22 @@
+//! The tokens of a query's text.
+#![tactic(auto)]
+
+mod cut;
+mod escape;
+mod fault;
+mod law;
+mod name;
+mod number;
+mod piece;
+mod sign;
+mod string;
+mod token;
+
+pub use cut::tokens;
+pub use fault::LexFault;
+pub use law::{refused_spellings_are_last, spans_lie_in_order};
+pub use std::alloc::AllocError as Memory;
+pub use token::{Token, TokenKind};
+
+#[cfg(test)]
+mod tests;
