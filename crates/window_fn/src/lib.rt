@@ -1,0 +1,12 @@
+//! The functions over the samples in a window, and the aggregations over values, on exact numbers.
+#![tactic(auto)]
+
+pub mod aggregates;
+mod frame;
+mod increases;
+mod points;
+mod slopes;
+mod steps;
+mod sums;
+
+pub use frame::{WindowFault, WindowFrame};
