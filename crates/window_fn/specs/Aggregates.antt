@@ -76,19 +76,22 @@ variance values = do
 
 -- NaN before all others, and these by the total order
 abbrev pub nan_first : XFrac → XFrac → Ordering
-nan_first NaN NaN = Equal
-nan_first NaN b = Less
-nan_first a NaN = Greater
-nan_first a b = total_order a b
+nan_first a b =
+    if is_not_a_number a then if is_not_a_number b then Equal else Less
+    else if is_not_a_number b then Greater
+    else total_order a b
 
--- a sorted list with one more value, before the first that isn't below it
-abbrev pub placed : List XFrac → XFrac → List XFrac
-placed [] value = value ∷ []
-placed (x ∷ xs) value = if is_lt (nan_first x value) then x ∷ placed xs value else value ∷ x ∷ xs
+abbrev pub is_before : XFrac → XFrac → Bool
+is_before a b = is_lt (nan_first a b)
+
+-- one more item in a sorted list, before the first that is above it
+abbrev pub inserted : {A : Type 0} → (A → A → Bool) → List A → A → List A
+inserted below [] item = item ∷ []
+inserted below (x ∷ xs) item = if below item x then item ∷ x ∷ xs else x ∷ inserted below xs item
 
 -- the values sorted, NaN before all others
 abbrev pub ascending : List XFrac → List XFrac
-ascending values = fold placed [] values
+ascending values = fold (inserted is_before) [] values
 
 -- the magnitude of a number that is whole
 abbrev pub place_of : XFrac → ℕ

@@ -32,10 +32,13 @@ change is_counter values = total (parts_of_change is_counter values)
 
 -- ---- where the samples lie in the window
 
+abbrev pub mean_gap : List Ms → XFrac → Result XFrac NumFault
+mean_gap times sampled = arithmetic Div sampled (whole_number (length times - 1))
+
 -- the way from the first sample to the last, the mean gap between two, and the ways from the window's start to the first and from the last to its end
 unfoldable pub layout_of : List Ms → WindowFrame → Result Layout NumFault
 layout_of times frame = do
-  gap ← arithmetic Div (milliseconds (ended times -ℤ begun times)) (whole_number (length times - 1))
+  gap ← mean_gap times (milliseconds (ended times -ℤ begun times))
   Ok (record {
     sampled = milliseconds (ended times -ℤ begun times);
     gap = gap;

@@ -1,5 +1,5 @@
 -- A sum that is formed as its numbers come: nothing is kept from the first overflow on. (This project's own.)
-use Rattle.std.specs.Prelude.{◌≡◌, Bool, List, Option, None, Some, Result, is_ok}
+use Rattle.std.specs.Prelude.{◌≡◌, ◌+◌, ◌<◌, ◌^◌, Bool, List, IfSome, Option, None, Some, Result, is_ok}
 use Rattle.std.specs.Bool.{MatchBool}
 use Rattle.std.specs.List.{All, list_all, filter_map}
 use Rattle.std.specs.Result.{result_ok}
@@ -21,3 +21,7 @@ pub record IsSumOf (sum : Option Totals) (xs : List XFrac) : Type 0 where
 pub record IsSumOfAnswers (sum : Option Totals) (answers : List (Result XFrac NumFault)) : Type 0 where
   pub numbers : All IsNumber (filter_map result_ok answers)
   pub kept : MatchBool (list_all is_ok answers) (KeepsSum sum (filter_map result_ok answers)) (sum ≡ None)
+
+-- a sum has room for one more number
+abbrev pub HasRoom : Option Totals → Type 0
+HasRoom sum = IfSome sum (λ s. s.count + 1 < 2 ^ 96)

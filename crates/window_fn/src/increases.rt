@@ -1,15 +1,18 @@
 //! rate, increase and delta: the change over a window, carried on to the window's edges.
-ghost use Rattle.std.specs.Prelude.{◌≡◌, ◌<◌, ◌≤◌, ◌-ℤ◌, length, true};
+ghost use Rattle.std.specs.Prelude.{◌≡◌, ◌<◌, ◌≤◌, ◌-ℤ◌, ◌++◌, ◌∷◌, [], List, length, true, if◌then◌else◌};
 ghost use Rattle.std.specs.List.{All};
 ghost use Rattle.ticks.specs.Walks.{IsTime};
 ghost use Rattle.window_fn.specs.Aggregates.{total};
-ghost use Rattle.window_fn.specs.Increases.{at_most, carried, change, covered, eleven_tenths, extrapolated, increase, layout_of, parts_of_change, rate, start_way, way_back, way_to_edge, way_to_zero};
+ghost use Rattle.window_fn.specs.Increases.{at_most, carried, change, covered, eleven_tenths, extrapolated, increase, layout_of, mean_gap, parts_of_change, rate, start_way, way_back, way_to_edge, way_to_zero};
+ghost use Rattle.window_fn.specs.Totals.{HasRoom, IsSumOf};
 ghost use Rattle.window_fn.specs.Windows.{IsFrame, IsInFrame};
+ghost use Rattle.xfrac.specs.Order.{compares};
+ghost use Rattle.xfrac.specs.declared.value.XFrac.{XFrac};
 ghost use Rattle.xfrac.specs.declared.value.XFrac.TheVariants.{Fin};
 
 use crate::WindowFrame;
 use crate::points::{between, in_seconds, start_of, time_at};
-use crate::sums::{no_sum, sum_of, with_value};
+use crate::sums::{Sum, no_sum, sum_of, with_value};
 use ticks::Ms;
 use xfrac::{ArithOp, CompareOp, NumFault, XFrac, arith, compare, neg, of, whole};
 
@@ -75,11 +78,21 @@ fn counter_change(values: &[XFrac]) -> Result<XFrac, NumFault>
     let mut sum = with_value(no_sum(), &values[values.len() - 1]);
     sum = with_value(sum, &neg(&values[0]));
     for i in 1..values.len() {
-        if compare(CompareOp::Lt, &values[i], &values[i - 1]) {
-            sum = with_value(sum, &values[i - 1]);
-        }
+        sum = with_loss(sum, &values[i - 1], &values[i]);
     }
     sum_of(&sum)
+}
+
+/// The sum with what a counter stood at, where it is reset to the next value.
+fn with_loss(sum: Sum, before: &XFrac, value: &XFrac) -> Sum
+    requires { HasRoom sum }
+    ensures { (xs : List XFrac) → IsSumOf sum xs → IsSumOf result (xs ++ (if compares CompareOp.Lt value.now before.now then before.now ∷ [] else [])) }
+{
+    if compare(CompareOp::Lt, value, before) {
+        with_value(sum, before)
+    } else {
+        sum
+    }
 }
 
 /// How the samples lie in the window.
@@ -92,13 +105,21 @@ fn layout_of(times: &[Ms], frame: &WindowFrame) -> Result<Layout, NumFault>
 {
     let begun = time_at(times, 0, frame);
     let ended = time_at(times, times.len() - 1, frame);
-    let gap = arith(ArithOp::Div, &between(begun, ended), &whole((times.len() - 1) as i64))?;
+    let gap = mean_gap(times, &between(begun, ended))?;
     Ok(Layout {
         sampled: between(begun, ended),
         gap,
         to_start: between(start_of(frame), begun),
         to_end: between(ended, frame.moment),
     })
+}
+
+/// The way from the first sample to the last, by how many gaps there are.
+fn mean_gap(times: &[Ms], sampled: &XFrac) -> Result<XFrac, NumFault>
+    requires { 2 ≤ length times.now }
+    ensures { result ≡ mean_gap times.now sampled.now }
+{
+    arith(ArithOp::Div, sampled, &whole((times.len() - 1) as i64))
 }
 
 /// The change carried on over the ways to both edges.

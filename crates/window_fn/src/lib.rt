@@ -5,8 +5,12 @@ pub mod aggregates;
 mod frame;
 mod increases;
 mod points;
+mod quantiles;
 mod slopes;
 mod steps;
 mod sums;
+mod windows;
 
 pub use frame::{WindowFault, WindowFrame};
+pub use quantiles::quantile;
+pub use windows::over;

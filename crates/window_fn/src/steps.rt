@@ -90,11 +90,6 @@ fn resets_among(values: &[XFrac]) -> usize
     ensures value { result ≡ count_by (λ p. compares CompareOp.Lt p.1 p.0) (neighbours values.now) }
     ensures few { result < length values.now }
 {
-    let mut count = 0;
-    for i in 1..values.len() {
-        if compare(CompareOp::Lt, &values[i], &values[i - 1]) {
-            count += 1;
-        }
-    }
-    count
+    let next = values.split_at(1).1;
+    values.iter().zip(next).filter(|p| compare(CompareOp::Lt, p.1, p.0)).count()
 }

@@ -1,7 +1,7 @@
 //! Sums that are formed as their numbers come.
-ghost use Rattle.std.specs.Prelude.{◌≡◌, ◌+◌, ◌<◌, ◌^◌, ◌++◌, ◌∷◌, [], List, length, Result, IfSome, IfNone, Some, None};
+ghost use Rattle.std.specs.Prelude.{◌≡◌, ◌+◌, ◌<◌, ◌^◌, ◌++◌, ◌∷◌, [], List, Result, IfNone, Some, None};
 ghost use Rattle.window_fn.specs.Aggregates.{total, total_of_answers};
-ghost use Rattle.window_fn.specs.Totals.{IsSumOf, IsSumOfAnswers};
+ghost use Rattle.window_fn.specs.Totals.{HasRoom, IsSumOf, IsSumOfAnswers};
 ghost use Rattle.xfrac.specs.declared.value.NumFault.{NumFault};
 ghost use Rattle.xfrac.specs.declared.value.XFrac.{XFrac};
 
@@ -21,7 +21,7 @@ pub fn no_sum() -> Sum
 
 /// The sum with one more number.
 pub fn with_value(sum: Sum, value: &XFrac) -> Sum
-    requires { IfSome sum (λ s. s.count + 1 < 2 ^ 96) }
+    requires { HasRoom sum }
     ensures sum { (xs : List XFrac) → IsSumOf sum xs → IsSumOf result (xs ++ value.now ∷ []) }
     ensures none { IfNone sum (result ≡ None) }
 {
@@ -48,7 +48,7 @@ fn added(mut sum: SumAcc, value: &XFrac) -> Sum
 
 /// The sum with one more answer; none where it is a fault.
 pub fn with_answer(sum: Sum, answer: Result<XFrac, NumFault>) -> Sum
-    requires { IfSome sum (λ s. s.count + 1 < 2 ^ 96) }
+    requires { HasRoom sum }
     ensures sum { (rs : List (Result XFrac NumFault)) → IsSumOfAnswers sum rs → IsSumOfAnswers result (rs ++ answer ∷ []) }
 {
     match answer {
