@@ -3,13 +3,24 @@ use Rattle.std.proofs.Common.{◌≡◌, ◌∙◌, ℕ, zero, suc, ◌+◌, ◌
 use Rattle.std.specs.List.{All}
 use Rattle.std.proofs.lemmas.List.Elements.{All-head, All-tail, All-cons, All-nil}
 use Rattle.window_fn.specs.Aggregates.{inserted}
-use Rattle.window_fn.proofs.Permuting.{IsOrderless}
+use Rattle.std.specs.Prelude.{⊤}
+use Rattle.window_fn.proofs.Permuting.{IsOrderless, fold-last}
 
 -- one way, carried over, and two that are in neither way are one
 pub record IsStrictOrder {A : Type 0} (P : A → Type 0) (lt : A → A → Bool) : Type 0 where
   pub one_way : (x y : A) → P x → P y → lt x y ≡ true → lt y x ≡ false
   pub carries : (x y z : A) → P x → P y → P z → lt x y ≡ true → lt y z ≡ true → lt x z ≡ true
   pub same : (x y : A) → P x → P y → lt x y ≡ false → lt y x ≡ false → x ≡ y
+
+-- none is below the one before it
+abbrev pub Rises : {A : Type 0} → (A → A → Bool) → List A → Type 0
+Rises lt [] = ⊤
+Rises lt (x ∷ []) = ⊤
+Rises lt (x ∷ y ∷ ys) = (lt y x ≡ false) × Rises lt (y ∷ ys)
+
+rises-tail : {A : Type 0} (lt : A → A → Bool) (x : A) (xs : List A) → Rises lt (x ∷ xs) → Rises lt xs
+rises-tail lt x [] up = tt
+rises-tail lt x (y ∷ ys) up = up.1
 
 module _ {A : Type 0} (P : A → Type 0) (lt : A → A → Bool) (o : IsStrictOrder P lt) where
   here : (x y : A) (ys : List A) → lt x y ≡ true → inserted lt (y ∷ ys) x ≡ x ∷ y ∷ ys
@@ -57,7 +68,25 @@ module _ {A : Type 0} (P : A → Type 0) (lt : A → A → Bool) (o : IsStrictOr
     either = λ b x y q px py. either_way b x y q px py (lt x y) (lt y x) refl refl;
   }
 
-  -- an item that is below none of a list goes to its end
-  pub inserted-last : (ys : List A) (x : A) → All (λ y. lt x y ≡ false) ys → inserted lt ys x ≡ ys ++ x ∷ []
-  inserted-last [] x above = refl
-  inserted-last (y ∷ ys) x above = later x y ys (All-head (λ w. lt x w ≡ false) y ys above) ∙ ap (λ l. y ∷ l) (inserted-last ys x (All-tail (λ w. lt x w ≡ false) y ys above))
+  rises-same : (x y : A) (ys : List A) → x ≡ y → Rises lt (y ∷ ys) → Rises lt (x ∷ ys)
+  rises-same x y ys e up = subst (λ w. Rises lt (w ∷ ys)) (sym e) up
+
+  at_front : (y : A) (ys : List A) (x : A) → P x → P y → lt y x ≡ false → (x ≡ y → inserted lt ys x ≡ x ∷ ys) → (b : Bool) → lt x y ≡ b → inserted lt (y ∷ ys) x ≡ x ∷ y ∷ ys
+  at_front y ys x px py up rest true e = here x y ys e
+  at_front y ys x px py up rest false e =
+      let same : x ≡ y = o.same x y px py e up in
+      later x y ys e ∙ (ap (λ l. y ∷ l) (rest same) ∙ (ap (λ w. w ∷ x ∷ ys) (sym same) ∙ ap (λ w. x ∷ w ∷ ys) same))
+
+  -- an item that none of a sorted list is below goes to its front
+  inserted-first : (ys : List A) (x : A) → P x → All P ys → Rises lt (x ∷ ys) → inserted lt ys x ≡ x ∷ ys
+  inserted-first [] x px all up = refl
+  inserted-first (y ∷ ys) x px all up =
+      at_front y ys x px (All-head P y ys all) up.0 (λ e. inserted-first ys x px (All-tail P y ys all) (rises-same x y ys e up.1)) (lt x y) refl
+
+  pub sorted_stays : (xs : List A) → All P xs → Rises lt xs → fold (inserted lt) [] xs ≡ xs
+  sorted_stays [] all up = refl
+  sorted_stays (x ∷ xs) all up =
+      let px = All-head P x xs all in
+      let rest = All-tail P x xs all in
+      fold-last P (All P) (inserted lt) insertion_is_orderless xs x [] (All-nil P) px rest
+      ∙ (ap (λ l. inserted lt l x) (sorted_stays xs rest (rises-tail lt x xs up)) ∙ inserted-first xs x px rest up)

@@ -3,6 +3,7 @@ pub mod Fitting
 pub mod Insertion
 pub mod Lost
 pub mod Permuting
+pub mod Places
 pub mod Ranking
 pub mod Sorting
 pub mod Tenths

@@ -41,3 +41,10 @@ module _ {A B : Type 0} (P : A → Type 0) (Q : B → Type 0) (f : B → A → B
       (IsPermutation-keeps xs (λ l. All P l × (fold f b l ≡ fold f b xs)) (all, refl)
         (λ l i j li lj h. (All-permutation P l (swap l i j) (IsPermutation-swap l (swap l i j) i j li lj refl) h.0, after_swap l i j b li lj q h.0 ∙ h.1))
         ys moved).1
+
+  -- the first item taken last
+  pub fold-last : (xs : List A) (x : A) (b : B) → Q b → P x → All P xs → fold f (f b x) xs ≡ f (fold f b xs) x
+  fold-last [] x b q p all = refl
+  fold-last (y ∷ ys) x b q p all =
+      let py = All-head P y ys all in
+      ap (λ r. fold f r ys) (o.either b x y q p py) ∙ fold-last ys x (f b y) (o.keeps b y q py) p (All-tail P y ys all)

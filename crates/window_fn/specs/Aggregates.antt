@@ -128,10 +128,15 @@ interpolated q sorted = do
   rank ← arithmetic Mul q (whole_number (length sorted - 1))
   at_rank rank sorted
 
+-- what has no power in it has no fault but that it overflows
+abbrev pub overflow_alone : Result XFrac NumFault → Result XFrac NumFault
+overflow_alone (Ok value) = Ok value
+overflow_alone (Err fault) = Err Overflow
+
 -- the quantile: NaN at NaN, -Inf below 0, +Inf above 1, else interpolated
 abbrev pub quantile_of : XFrac → List XFrac → Result XFrac NumFault
 quantile_of q values =
     if is_not_a_number q then Ok NaN
     else if compares Lt q (whole_number 0) then Ok NegInf
     else if compares Gt q (whole_number 1) then Ok PosInf
-    else interpolated q (ascending values)
+    else overflow_alone (interpolated q (ascending values))

@@ -10,7 +10,7 @@ use Rattle.func_table.specs.declared.table.Window.TheVariants.{Rate, Increase, D
 use Rattle.ticks.specs.Walks.{IsTime}
 use Rattle.ticks.specs.declared.moment.Ms.{Ms}
 use Rattle.window_fn.specs.declared.frame.WindowFrame.{WindowFrame}
-use Rattle.window_fn.specs.Aggregates.{total, average, count_of, greatest, least, variance, quantile_of}
+use Rattle.window_fn.specs.Aggregates.{overflow_alone, total, average, count_of, greatest, least, variance, quantile_of}
 use Rattle.window_fn.specs.Increases.{increase, rate}
 use Rattle.window_fn.specs.Points.{last_of}
 use Rattle.window_fn.specs.Slopes.{derivative, prediction}
@@ -66,4 +66,4 @@ has_no_row f values = wants_two f && nat_lt (length values) 2
 -- what a function gives of the samples of a window: a value, no row, or that it overflows
 abbrev pub over_of : Window → List Ms → List XFrac → WindowFrame → XFrac → Result (Option XFrac) NumFault
 over_of f times values frame arg =
-    if has_no_row f values then Ok None else value_over f times values frame arg >>= λ value. Ok (Some value)
+    if has_no_row f values then Ok None else overflow_alone (value_over f times values frame arg) >>= λ value. Ok (Some value)

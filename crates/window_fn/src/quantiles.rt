@@ -38,7 +38,8 @@ pub fn quantile(alloc: Global, phi: &XFrac, values: &[XFrac]) -> Result<XFrac, W
 
 /// The values sorted, NaN before all others. The only error is want of memory.
 fn ascending(alloc: Global, values: &[XFrac]) -> Result<Vec<XFrac>, AllocError>
-    ensures { IfOk result (λ sorted. sorted.items ≡ ascending values.now) }
+    ensures items { IfOk result (λ sorted. sorted.items ≡ ascending values.now) }
+    ensures len { IfOk result (λ sorted. length sorted.items ≡ length values.now) }
 {
     let mut sorted = copied(alloc, values)?;
     order_is_total();
