@@ -148,7 +148,7 @@ below-number a b na nb = ap (λ v. is_before v (tidy b)) (tidy-number a na) ∙ 
 rises_from : {A : Type 0} (lt : A → A → Bool) (xs : List A) → IsSortedBy lt xs → Rises lt xs
 rises_from lt [] up = tt
 rises_from lt (x ∷ []) up = tt
-rises_from lt (x ∷ y ∷ ys) up =
+rises_from {A = A} lt (x ∷ y ∷ ys) up =
     (up 0 x (omega arith) (omega arith),
      rises_from lt (y ∷ ys) (λ k d low high. next k d (up (suc k) d (omega arith) (omega arith))))
   where

@@ -1,6 +1,7 @@
 pub mod Aggregates
 pub mod Fits
 pub mod Increases
+pub mod Laws
 pub mod Points
 pub mod Slopes
 pub mod Steps

@@ -4,11 +4,14 @@
 pub mod aggregates;
 mod frame;
 mod increases;
+pub mod laws;
 mod points;
 mod quantiles;
 mod slopes;
 mod steps;
 mod sums;
+#[cfg(test)]
+mod tests;
 mod windows;
 
 pub use frame::{WindowFault, WindowFrame};
