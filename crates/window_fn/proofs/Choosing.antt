@@ -1,7 +1,6 @@
 -- The least and the greatest of some values, and what doesn't depend on their order.
-use Rattle.std.proofs.Common.{◌≡◌, ◌∙◌, ℕ, Bool, true, false, cond, ◌||◌, List, [], ◌∷◌, length, fold, Option, Some, None, Ok, refl, sym, ap, subst, arith}
+use Rattle.std.proofs.Common.{◌≡◌, ◌∙◌, ℕ, Bool, true, false, cond, List, [], length, Option, Ok, refl, sym, ap, subst}
 use Rattle.std.specs.List.{All}
-use Rattle.std.specs.List.Sorted.{IsPermutation}
 use Rattle.std.specs.Option.{ok_or, option_and_then}
 use Rattle.std.specs.Ordering.{is_gt, is_lt, ordering_reverse}
 use Rattle.std.specs.declared.cmp.Ordering.{Ordering}
@@ -18,7 +17,7 @@ use Rattle.xfrac.specs.declared.value.NumFault.TheVariants.{Overflow}
 use Rattle.xfrac.specs.declared.value.XFrac.{XFrac}
 use Rattle.xfrac.specs.declared.value.XFrac.TheVariants.{Fin, PosInf, NegInf, NaN}
 use Rattle.window_fn.specs.Aggregates.{ascending, greater, inserted, interpolated, is_before, lesser, overflow_alone, quantile_of}
-use Rattle.window_fn.specs.Laws.{AreAggregatedAlike, OrderDoesntMatter}
+use Rattle.window_fn.specs.Laws.{OrderDoesntMatter}
 use Rattle.window_fn.proofs.Insertion.{IsStrictOrder, insertion_is_orderless}
 use Rattle.window_fn.proofs.Permuting.{IsOrderless, fold-permutation}
 use Rattle.window_fn.proofs.Ranking.{before_is_strict, equal_is, less_is, ranked-one_way}

@@ -1,9 +1,9 @@
 -- A fold that takes any two items in either order doesn't depend on the order of its list.
-use Rattle.std.proofs.Common.{◌≡◌, ◌∙◌, ℕ, zero, suc, ◌<◌, List, [], ◌∷◌, length, get_or, set, fold, refl, sym, ap, subst, arith}
+use Rattle.std.proofs.Common.{◌≡◌, ◌∙◌, ℕ, zero, suc, ◌<◌, List, [], ◌∷◌, length, get_or, set, fold, refl, ap, arith}
 use Rattle.std.specs.List.{All, swap}
 use Rattle.std.specs.List.Sorted.{IsPermutation}
 use Rattle.std.proofs.lemmas.List.Sorted.{IsPermutation-keeps, IsPermutation-swap, All-permutation}
-use Rattle.std.proofs.lemmas.List.Elements.{All-head, All-tail, All-get_or, All-set}
+use Rattle.std.proofs.lemmas.List.Elements.{All-head, All-tail, All-get_or}
 
 -- items and results of a kind, a step that keeps the kind, and two steps in either order
 pub record IsOrderless {A B : Type 0} (P : A → Type 0) (Q : B → Type 0) (f : B → A → B) : Type 0 where

@@ -1,6 +1,6 @@
 -- The rank of a quantile lies among the places of the values.
-use Rattle.std.proofs.Common.{◌≡◌, ◌∙◌, ℕ, zero, suc, ◌+◌, ◌*◌, ◌/◌, ◌<◌, ◌≤◌, Bool, true, false, cond, Option, Some, None, Result, Ok, Err, refl, sym, ap, subst, arith, ltb}
-use Rattle.std.specs.Prelude.{ℤ, pos, negsuc, ◌*ℤ◌, int_lt, unsigned_abs}
+use Rattle.std.proofs.Common.{◌≡◌, ◌∙◌, ℕ, suc, ◌*◌, ◌/◌, ◌<◌, ◌≤◌, Bool, true, false, cond, Some, None, Ok, refl, sym, ap, subst, arith, ltb}
+use Rattle.std.specs.Prelude.{pos, negsuc, ◌*ℤ◌, int_lt, unsigned_abs}
 use Rattle.std.specs.Option.{ok_or}
 use Rattle.std.specs.Ordering.{is_gt, is_lt}
 use Rattle.std.specs.declared.cmp.Ordering.TheVariants.{Less, Equal, Greater}
@@ -8,7 +8,7 @@ use Rattle.std.proofs.lemmas.Bool.{false≢true, ltb-false, ltb-true}
 use Rattle.std.proofs.Math.Nat.{div-le_of_le-mul, mul-le-mul_right, le_of_mul-le-mul_right}
 use Rattle.xfrac.specs.Arithmetic.{arithmetic, whole_number}
 use Rattle.xfrac.specs.Divisors.{gcd}
-use Rattle.xfrac.specs.Forming.{floor_of, formed}
+use Rattle.xfrac.specs.Forming.{floor_of}
 use Rattle.xfrac.specs.Fractions.{lowest, is_within}
 use Rattle.xfrac.specs.Kinds.{is_not_a_number}
 use Rattle.xfrac.specs.Laws.{IsNumber, LowestIsEqual}

@@ -1,5 +1,5 @@
 -- A counter that is never reset, and aggregations over windows.
-use Rattle.std.proofs.Common.{◌≡◌, ◌∙◌, ℕ, Bool, true, false, List, [], ◌∷◌, length, map, filter, refl, sym, ap, arith}
+use Rattle.std.proofs.Common.{◌≡◌, ◌∙◌, ℕ, true, List, [], ◌∷◌, length, map, filter, refl, ap}
 use Rattle.std.specs.Prelude.{count_by}
 use Rattle.std.proofs.lemmas.List.{nil_from_length}
 use Rattle.std.proofs.lemmas.List.Sums.{length-filter}
@@ -11,16 +11,15 @@ use Rattle.xfrac.specs.Sequencing.{◌>>=◌}
 use Rattle.xfrac.specs.declared.value.ArithOp.TheVariants.{Sub}
 use Rattle.xfrac.specs.declared.value.CompareOp.TheVariants.{Lt}
 use Rattle.xfrac.specs.declared.value.XFrac.{XFrac}
-use Rattle.func_table.specs.declared.table.Window.{Window}
 use Rattle.func_table.specs.declared.table.Window.TheVariants.{Rate, Increase, Delta, Irate, Idelta, Deriv, PredictLinear, Changes, Resets, AvgOver, MinOver, MaxOver, SumOver, CountOver, StdvarOver, QuantileOver, LastOver, PresentOver}
-use Rattle.window_fn.specs.Aggregates.{total}
+use Rattle.window_fn.specs.Aggregates.{place_of, total}
 use Rattle.window_fn.specs.Increases.{carried, change, increase, layout_of, lost}
 use Rattle.window_fn.specs.Laws.{IncreaseWithoutResets, TimesDontMatter}
 use Rattle.window_fn.specs.Points.{first_of, last_of, neighbours}
 use Rattle.window_fn.specs.Steps.{resets}
 
 none_counted : (n : ℕ) → whole_number n ≡ whole_number 0 → n ≡ 0
-none_counted n e = cc
+none_counted n e = ap place_of e
 
 nothing_lost : (values : List XFrac) → resets values ≡ whole_number 0 → lost values ≡ []
 nothing_lost values e =

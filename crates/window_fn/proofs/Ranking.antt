@@ -1,8 +1,6 @@
 -- The order that values are sorted by: NaN before all others.
-use Rattle.std.proofs.Common.{◌≡◌, ◌∙◌, ℕ, zero, suc, ◌+◌, ◌*◌, ◌<◌, ◌≤◌, Bool, true, false, cond, List, refl, sym, ap, subst, arith, ltb}
-use Rattle.std.specs.Prelude.{ℤ, pos, negsuc, neg_ℤ, ◌*ℤ◌, int_lt}
-use Rattle.std.specs.Cmp.{IsStrictWeakOrder}
-use Rattle.std.specs.Ordering.{int_cmp, nat_cmp, is_lt, ordering_reverse}
+use Rattle.std.proofs.Common.{◌≡◌, Bool, true, false, cond, refl, ap}
+use Rattle.std.specs.Ordering.{is_lt, ordering_reverse}
 use Rattle.std.specs.declared.cmp.Ordering.{Ordering}
 use Rattle.std.specs.declared.cmp.Ordering.TheVariants.{Less, Equal, Greater}
 use Rattle.xfrac.specs.Kinds.{is_not_a_number}
@@ -10,7 +8,7 @@ use Rattle.xfrac.specs.Laws.{IsNumber, EqualIsSame, OrderIsReversed, LessIsTrans
 use Rattle.xfrac.specs.Order.{total_order}
 use Rattle.xfrac.specs.declared.value.XFrac.{XFrac}
 use Rattle.xfrac.specs.declared.value.XFrac.TheVariants.{Fin, PosInf, NegInf, NaN}
-use Rattle.window_fn.specs.Aggregates.{nan_first, is_before}
+use Rattle.window_fn.specs.Aggregates.{is_before}
 use Rattle.window_fn.proofs.Insertion.{IsStrictOrder}
 
 -- ---- by whether the values are NaN, and how they stand else
@@ -18,7 +16,7 @@ use Rattle.window_fn.proofs.Insertion.{IsStrictOrder}
 abbrev ranked : Bool → Bool → Ordering → Ordering
 ranked a b o = cond a (cond b Equal Less) (cond b Greater o)
 
-less_is : (o : Ordering) → is_lt o ≡ true → o ≡ Less
+pub less_is : (o : Ordering) → is_lt o ≡ true → o ≡ Less
 less_is Less h = refl
 less_is Equal h = absurd (cc)
 less_is Greater h = absurd (cc)
@@ -50,7 +48,7 @@ ranked-chain false false false o p q f h k = f h k
 
 -- ---- of numbers
 
-equal_is : (o r : Ordering) → r ≡ ordering_reverse o → is_lt o ≡ false → is_lt r ≡ false → o ≡ Equal
+pub equal_is : (o r : Ordering) → r ≡ ordering_reverse o → is_lt o ≡ false → is_lt r ≡ false → o ≡ Equal
 equal_is Less r e h k = absurd (cc)
 equal_is Equal r e h k = refl
 equal_is Greater r e h k = let less : is_lt r ≡ true = ap is_lt e in absurd (cc)

@@ -1,6 +1,6 @@
 -- The aggregations over the values of a group or of a window. (Prometheus querying, "Aggregation operators", on exact numbers; where they overflow is this project's own.)
-use Rattle.std.specs.Prelude.{◌≡◌, ℕ, zero, ◌-◌, ◌+◌, ◌<◌, pos, Bool, true, ◌&&◌, ◌||◌, List, [], ◌∷◌, length, map, fold, Option, Some, None, Result, Ok, Err, is_ok, if◌then◌else◌, slice_index_or, unsigned_abs, min}
-use Rattle.std.specs.List.{All, Contains, list_all, filter_map}
+use Rattle.std.specs.Prelude.{ℕ, ◌-◌, ◌+◌, Bool, ◌||◌, List, [], ◌∷◌, length, map, fold, Result, Ok, Err, is_ok, if◌then◌else◌, slice_index_or, unsigned_abs, min}
+use Rattle.std.specs.List.{list_all, filter_map}
 use Rattle.std.specs.Option.{ok_or}
 use Rattle.std.specs.Ordering.{is_lt}
 use Rattle.std.specs.Result.{result_ok}

@@ -1,6 +1,5 @@
 -- rate, increase and delta: the change from the first sample of a window to its last, carried on to the window's edges. (Prometheus' extrapolation; the order of its operations on exact numbers, and so where it overflows, is this project's own.)
-use Rattle.std.specs.Prelude.{◌≡◌, ℕ, ◌-◌, ℤ, pos, ◌-ℤ◌, Bool, true, ◌&&◌, List, [], ◌∷◌, ◌++◌, length, map, filter, drop, Option, None, Some, Result, Ok, Err, if◌then◌else◌, slice_index_or}
-use Rattle.std.specs.List.{zip}
+use Rattle.std.specs.Prelude.{◌-◌, pos, ◌-ℤ◌, Bool, true, ◌&&◌, List, [], ◌∷◌, length, map, filter, Result, Ok, if◌then◌else◌}
 use Rattle.xfrac.specs.Arithmetic.{arithmetic, whole_number}
 use Rattle.xfrac.specs.Forming.{negated}
 use Rattle.xfrac.specs.Order.{compares}
@@ -9,7 +8,7 @@ use Rattle.xfrac.specs.declared.value.ArithOp.TheVariants.{Add, Mul, Div}
 use Rattle.xfrac.specs.declared.value.CompareOp.TheVariants.{Lt, Gt, Ge}
 use Rattle.xfrac.specs.declared.value.NumFault.{NumFault}
 use Rattle.xfrac.specs.declared.value.XFrac.{XFrac}
-use Rattle.xfrac.specs.declared.value.XFrac.TheVariants.{Fin, NaN}
+use Rattle.xfrac.specs.declared.value.XFrac.TheVariants.{Fin}
 use Rattle.ticks.specs.declared.moment.Ms.{Ms}
 use Rattle.window_fn.specs.declared.frame.WindowFrame.{WindowFrame}
 use Rattle.window_fn.specs.declared.increases.Layout.{Layout}

@@ -1,14 +1,11 @@
 -- What readers of alerts rely on. (Prometheus querying, "Functions" and "Aggregation operators".)
-use Rattle.std.specs.Prelude.{◌≡◌, ℕ, ◌<◌, Bool, true, false, List, [], ◌∷◌, length, Result, Ok}
-use Rattle.std.specs.List.{All, Contains}
+use Rattle.std.specs.Prelude.{◌≡◌, Bool, true, false, List, [], ◌∷◌}
+use Rattle.std.specs.List.{All}
 use Rattle.std.specs.List.Sorted.{IsPermutation}
 use Rattle.xfrac.specs.Arithmetic.{arithmetic, whole_number}
-use Rattle.xfrac.specs.Kinds.{is_not_a_number}
 use Rattle.xfrac.specs.Laws.{IsNumber}
-use Rattle.xfrac.specs.Order.{compares}
 use Rattle.xfrac.specs.Sequencing.{◌>>=◌}
 use Rattle.xfrac.specs.declared.value.ArithOp.TheVariants.{Sub}
-use Rattle.xfrac.specs.declared.value.CompareOp.TheVariants.{Lt, Gt}
 use Rattle.xfrac.specs.declared.value.XFrac.{XFrac}
 use Rattle.func_table.specs.declared.table.Window.{Window}
 use Rattle.func_table.specs.declared.table.Window.TheVariants.{AvgOver, MinOver, MaxOver, SumOver, CountOver, StdvarOver, QuantileOver}

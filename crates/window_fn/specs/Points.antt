@@ -1,5 +1,5 @@
 -- The samples of a window: times and values of one length, the times in milliseconds.
-use Rattle.std.specs.Prelude.{◌≡◌, ℕ, ◌-◌, ℤ, pos, ◌-ℤ◌, List, [], ◌∷◌, length, drop, Result, slice_index_or}
+use Rattle.std.specs.Prelude.{ℕ, ◌-◌, ℤ, pos, List, length, drop, Result, slice_index_or}
 use Rattle.std.specs.List.{zip}
 use Rattle.xfrac.specs.Arithmetic.{arithmetic, whole_number}
 use Rattle.xfrac.specs.declared.value.ArithOp.TheVariants.{Div}

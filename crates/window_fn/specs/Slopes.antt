@@ -1,5 +1,5 @@
 -- deriv and predict_linear: the line through the samples of a window by least squares. (Prometheus querying, "Functions"; the order of the operations on exact numbers, and so where they overflow, is this project's own.)
-use Rattle.std.specs.Prelude.{◌≡◌, ℕ, ℤ, pos, ◌-ℤ◌, Bool, true, false, List, length, map, Result, Ok, if◌then◌else◌}
+use Rattle.std.specs.Prelude.{ℤ, ◌-ℤ◌, Bool, true, false, List, length, map, Result, Ok, if◌then◌else◌}
 use Rattle.std.specs.List.{zip, list_all}
 use Rattle.xfrac.specs.Arithmetic.{arithmetic, whole_number}
 use Rattle.xfrac.specs.Sequencing.{◌>>=◌}

@@ -1,5 +1,5 @@
 -- irate, idelta, changes and resets: how values change from one sample to the next. (Prometheus querying, "Functions".)
-use Rattle.std.specs.Prelude.{◌≡◌, ℕ, ◌-ℤ◌, Bool, ◌&&◌, not, List, count_by, Result, Ok, if◌then◌else◌}
+use Rattle.std.specs.Prelude.{◌-ℤ◌, Bool, ◌&&◌, not, List, count_by, Result, Ok, if◌then◌else◌}
 use Rattle.xfrac.specs.Arithmetic.{arithmetic, whole_number}
 use Rattle.xfrac.specs.Kinds.{is_not_a_number}
 use Rattle.xfrac.specs.Order.{compares}

@@ -1,5 +1,5 @@
 -- A sum that is formed as its numbers come: nothing is kept from the first overflow on. (This project's own.)
-use Rattle.std.specs.Prelude.{◌≡◌, ◌+◌, ◌<◌, ◌^◌, Bool, List, IfSome, Option, None, Some, Result, is_ok}
+use Rattle.std.specs.Prelude.{◌≡◌, ◌+◌, ◌<◌, ◌^◌, List, IfSome, Option, None, Some, Result, is_ok}
 use Rattle.std.specs.Bool.{MatchBool}
 use Rattle.std.specs.List.{All, list_all, filter_map}
 use Rattle.std.specs.Result.{result_ok}

@@ -1,6 +1,5 @@
 -- The functions over the samples of a window. (Prometheus querying, "Functions": those over range vectors.)
-use Rattle.std.specs.Prelude.{◌≡◌, ℕ, ◌<◌, ◌≤ℤ◌, ◌-ℤ◌, Bool, true, false, ◌&&◌, nat_lt, List, length, Option, None, Some, Result, Ok, Err, if◌then◌else◌}
-use Rattle.std.specs.List.{All}
+use Rattle.std.specs.Prelude.{◌≤ℤ◌, ◌-ℤ◌, Bool, true, false, ◌&&◌, nat_lt, List, length, Option, None, Some, Result, Ok, if◌then◌else◌}
 use Rattle.xfrac.specs.Arithmetic.{whole_number}
 use Rattle.xfrac.specs.Sequencing.{◌>>=◌}
 use Rattle.xfrac.specs.declared.value.NumFault.{NumFault}

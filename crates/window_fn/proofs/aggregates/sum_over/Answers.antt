@@ -1,4 +1,4 @@
-use Rattle.std.proofs.Common.{take, arith}
+use Rattle.std.proofs.Common.{arith}
 use Rattle.std.proofs.lemmas.List.{length-take-le}
 use Rattle.window_fn.proofs.Adding.{few}
 use Rattle.window_fn.proofs.aggregates.sum_over.Goals as goal

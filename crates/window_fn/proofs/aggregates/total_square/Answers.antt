@@ -1,4 +1,4 @@
-use Rattle.std.proofs.Common.{take, arith, length}
+use Rattle.std.proofs.Common.{take, arith}
 use Rattle.std.proofs.lemmas.List.{length-take-le, length-map}
 use Rattle.window_fn.specs.Aggregates.{squared_distance}
 use Rattle.window_fn.proofs.Adding.{few_answers}

@@ -1,4 +1,4 @@
-use Rattle.std.proofs.Common.{◌≡◌, ◌∙◌, ◌+◌, ◌-◌, ◌∷◌, [], ◌++◌, take, length, List, arith, ap, sym, subst}
+use Rattle.std.proofs.Common.{◌∙◌, ◌-◌, ◌∷◌, [], List, arith, ap, sym, subst}
 use Rattle.xfrac.specs.Forming.{negated}
 use Rattle.xfrac.specs.declared.value.XFrac.{XFrac}
 use Rattle.window_fn.specs.Aggregates.{total}

@@ -1,4 +1,4 @@
-use Rattle.std.proofs.Common.{take, ◌∷◌, ◌++◌, map, filter, ◌-◌}
+use Rattle.std.proofs.Common.{take, ◌∷◌, map, filter, ◌-◌}
 use Rattle.xfrac.specs.Forming.{negated}
 use Rattle.xfrac.specs.Order.{compares}
 use Rattle.xfrac.specs.declared.value.CompareOp.TheVariants.{Lt}

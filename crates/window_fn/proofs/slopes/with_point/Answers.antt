@@ -1,4 +1,4 @@
-use Rattle.std.proofs.Common.{◌≡◌, ◌∙◌, ◌++◌, ◌∷◌, [], List, sym, ap, subst}
+use Rattle.std.proofs.Common.{◌∙◌, ◌++◌, ◌∷◌, [], sym, ap, subst}
 use Rattle.window_fn.specs.Slopes.{products, squares}
 use Rattle.window_fn.specs.Totals.{IsSumOfAnswers}
 use Rattle.window_fn.proofs.Fitting.{products-more, squares-more}

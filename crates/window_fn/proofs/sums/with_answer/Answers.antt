@@ -1,4 +1,4 @@
-use Rattle.std.proofs.Common.{◌≡◌, ◌++◌, ◌∷◌, [], List, Result, None, sym, subst}
+use Rattle.std.proofs.Common.{◌++◌, ◌∷◌, [], None, sym, subst}
 use Rattle.window_fn.specs.Totals.{IsSumOfAnswers}
 use Rattle.window_fn.proofs.Adding.{one_more_value, one_more_fault}
 use Rattle.window_fn.proofs.sums.with_answer.Goals as goal
