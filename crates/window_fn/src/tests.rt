@@ -1,11 +1,12 @@
 //! Rows whose answers were worked out by exact arithmetic elsewhere.
-ghost use Rattle.std.specs.Prelude.{◌≡◌, IsTrue, IfSome};
+ghost use Rattle.std.specs.Prelude.{◌≡◌, IsTrue};
 ghost use Rattle.std.specs.List.{All};
 ghost use Rattle.ticks.specs.Walks.{IsTime};
 ghost use Rattle.window_fn.specs.Windows.{IsFrame, IsInFrame};
 
 use crate::{WindowFault, WindowFrame, over, quantile};
 use func_table::{Found, Func, Window, find};
+use std::alloc::Global;
 use std::test::Fail;
 use ticks::Ms;
 use xfrac::{XFrac, of};
@@ -184,7 +185,7 @@ deriv 30000 120000 0 nan 100000:1000000000000000000000000000000/1 110000:0/1 => 
 deriv 30000 120000 0 nan 100000:0/1 110000:200000000000000000000000000/1 => overflow
 deriv 30000 120000 0 nan 100000:0/1 110000:1000000000000000000000000000000/1 120000:nan => nan
 deriv 30000 120000 0 nan 100000:1/1 110000:1/2 120000:5/1 => 1/5
-deriv 2000000000000000000 1000000000000000000 0 nan -1000000000000000000:1/1 0:2/1 1000000000000000000:3/1 => overflow
+deriv 1000000000000000000 500000000000000000 0 nan -500000000000000000:1/1 0:2/1 500000000000000000:3/1 => overflow
 predict_linear 30000 120000 3000000000000000 0/1 100000:1/1 110000:2/1 => overflow
 predict_linear 30000 120000 900000 -60/1 100000:1/1 110000:1/2 120000:5/1 => 889/6
 predict_linear 30000 120000 120000 inf 100000:1/1 120000:5/1 => inf
@@ -266,26 +267,26 @@ fn answer(text: &str) -> Result<Result<Option<XFrac>, WindowFault>, Fail> {
     Ok(Ok(Some(read(text)?)))
 }
 
-fn is_time(t: i64) -> bool
-    ensures { IsTrue result → IsTime t }
+fn is_time(t: &Ms) -> bool
+    ensures { IsTrue result → IsTime t.now.0 }
 {
-    -1_152_921_504_606_846_976 <= t && t <= 1_152_921_504_606_846_976
+    -1_152_921_504_606_846_976 <= t.0 && t.0 <= 1_152_921_504_606_846_976
 }
 
-fn frame_of(range: i64, moment: i64, eval: i64) -> Option<WindowFrame>
-    ensures { IfSome result IsFrame }
+fn is_frame(frame: &WindowFrame) -> bool
+    ensures { IsTrue result → IsFrame frame.now }
 {
-    if !is_time(moment) || !is_time(eval) || range < 0 {
-        return None;
+    if !is_time(&frame.eval) || !is_time(&frame.moment) || !is_time(&frame.range) {
+        return false;
     }
-    if !is_time(moment - range) {
-        return None;
-    }
-    Some(WindowFrame {
-        eval: Ms(eval),
-        moment: Ms(moment),
-        range: Ms(range),
-    })
+    is_time(&Ms(frame.moment.0 - frame.range.0))
+}
+
+fn is_in(t: &Ms, frame: &WindowFrame) -> bool
+    requires { IsFrame frame.now }
+    ensures { IsTrue result → IsInFrame frame.now t.now }
+{
+    frame.moment.0 - frame.range.0 <= t.0 && t.0 <= frame.moment.0
 }
 
 fn are_in(times: &[Ms], frame: &WindowFrame) -> bool
@@ -293,16 +294,38 @@ fn are_in(times: &[Ms], frame: &WindowFrame) -> bool
     ensures { IsTrue result → All (IsInFrame frame.now) times.now }
 {
     for t in times {
-        if t.0 < frame.moment.0 - frame.range.0 || frame.moment.0 < t.0 {
+        if !is_in(t, frame) {
             return false;
         }
     }
     true
 }
 
-fn number(word: Option<&str>) -> Result<i64, Fail> {
+fn milliseconds(word: Option<&str>) -> Result<Ms, Fail> {
     let n: i64 = word.ok_or("no number")?.parse()?;
-    Ok(n)
+    Ok(Ms(n))
+}
+
+/// The answer of a call whose conditions hold; of a quantile, that of both calls.
+fn answered(
+    alloc: Global,
+    f: Window,
+    times: &[Ms],
+    values: &[XFrac],
+    frame: &WindowFrame,
+    arg: &XFrac,
+) -> Result<Result<Option<XFrac>, WindowFault>, Fail> {
+    if times.len() != values.len() || values.is_empty() || !is_frame(frame) {
+        return Err("no window")?;
+    }
+    if !are_in(times, frame) {
+        return Err("no window")?;
+    }
+    let found = over(alloc, f, times, values, frame, arg);
+    if f == Window::QuantileOver && found != quantile(alloc, arg, values).map(|v| Some(v)) {
+        return Err("two answers")?;
+    }
+    Ok(found)
 }
 
 #[test]
@@ -311,26 +334,20 @@ fn windows(rt: HostRuntime) -> Result<(), Fail> {
         let (call, wanted) = line.split_once(" => ").ok_or("no answer")?;
         let mut words = call.split(' ');
         let f = function(words.next().ok_or("no function")?)?;
-        let range = number(words.next())?;
-        let moment = number(words.next())?;
-        let frame = frame_of(range, moment, number(words.next())?).ok_or("no frame")?;
+        let range = milliseconds(words.next())?;
+        let moment = milliseconds(words.next())?;
+        let eval = milliseconds(words.next())?;
+        let frame = WindowFrame { eval, moment, range };
         let arg = read(words.next().ok_or("no parameter")?)?;
         let mut times = Vec::new(rt.alloc());
         let mut values = Vec::new(rt.alloc());
         for word in words {
             let (time, value) = word.split_once(':').ok_or("no sample")?;
-            times.push(Ms(number(Some(time))?))?;
+            times.push(milliseconds(Some(time))?)?;
             values.push(read(value)?)?;
         }
-        assert!(rt; times.len() == values.len());
-        assert!(rt; !values.is_empty());
-        assert!(rt; are_in(times.as_slice(), &frame));
-        let found = over(rt.alloc(), f, times.as_slice(), values.as_slice(), &frame, &arg);
+        let found = answered(rt.alloc(), f, times.as_slice(), values.as_slice(), &frame, &arg)?;
         assert_eq!(rt; found, answer(wanted)?, "{line}");
-        if f == Window::QuantileOver {
-            let found = quantile(rt.alloc(), &arg, values.as_slice());
-            assert_eq!(rt; found.map(|v| Some(v)), answer(wanted)?, "{line}");
-        }
     }
     assert_eq!(rt; CALLS.lines().count(), 216);
     Ok(())
