@@ -1,0 +1,11 @@
+pub mod Adding
+pub mod Choosing
+pub mod Fitting
+pub mod Insertion
+pub mod Lost
+pub mod Permuting
+pub mod Places
+pub mod Plain
+pub mod Ranking
+pub mod Sorting
+pub mod Tenths

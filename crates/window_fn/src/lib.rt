@@ -1,0 +1,19 @@
+//! The functions over the samples in a window, and the aggregations over values, on exact numbers.
+#![tactic(auto)]
+
+pub mod aggregates;
+mod frame;
+mod increases;
+pub mod laws;
+mod points;
+mod quantiles;
+mod slopes;
+mod steps;
+mod sums;
+#[cfg(test)]
+mod tests;
+mod windows;
+
+pub use frame::{WindowFault, WindowFrame};
+pub use quantiles::quantile;
+pub use windows::over;
