@@ -1,0 +1,15 @@
+//! Steps: what an expression gives at one instant, as a table of rows with notes and marks, and the rules between two
+//! vectors.
+#![tactic(auto)]
+
+mod groups;
+mod marks;
+mod orders;
+mod outcomes;
+mod step;
+mod unions;
+
+pub use groups::{Parted, gather, part};
+pub use marks::{Mark, Marks, Note};
+pub use outcomes::{Outcome, settled, taken};
+pub use step::{Row, Step, Table};
