@@ -1,3 +1,4 @@
 pub mod Gathers
 pub mod Keyed
+pub mod Merges
 pub mod Sets

@@ -2,14 +2,19 @@
 //! vectors.
 #![tactic(auto)]
 
+mod cells;
 mod groups;
 mod marks;
+mod matching;
+mod operators;
 mod orders;
 mod outcomes;
 mod step;
 mod unions;
 
+pub use cells::{Cell, CellRow, PartKind, StepCells};
 pub use groups::{Parted, gather, part};
 pub use marks::{Mark, Marks, Note};
+pub use operators::{drops_name, operate, without_name};
 pub use outcomes::{Outcome, settled, taken};
 pub use step::{Row, Step, Table};
