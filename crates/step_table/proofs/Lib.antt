@@ -1,4 +1,7 @@
 pub mod Gathers
 pub mod Keyed
 pub mod Merges
+pub mod Partners
+pub mod Puts
 pub mod Sets
+pub mod Slices

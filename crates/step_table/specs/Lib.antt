@@ -1,5 +1,6 @@
 pub mod Groups
 pub mod Matching
+pub mod OneSides
 pub mod Operators
 pub mod OrderLaws
 pub mod Orders

@@ -1,3 +1,4 @@
+ghost use Rattle.std.specs.List.{filter_map};
 ghost use Rattle.std.specs.Option.{option_to_list};
 ghost use Rattle.std.specs.Prelude.{◌≡◌, ◌++◌, IfOk, OnOk};
 ghost use Rattle.step_table.specs.Groups.{alone, gathered, lone_items, shared_names, shared_of, with_item};
@@ -56,11 +57,23 @@ pub fn part<T: Drop>(
     ensures lone { IfOk result (λ parted. parted.lone ≡ lone_items items) }
     ensures shared { IfOk result (λ parted. parted.shared ≡ shared_names items) }
 {
+    part_groups(alloc, gather(alloc, items)?)
+}
+
+/// Parts the items that are alone in their group from the labels of groups of several items. The only error is want of
+/// memory.
+pub fn part_groups<T: Drop>(
+    alloc: Global,
+    groups: BTreeMap<Labels, Items<T>>,
+) -> Result<Parted<T>, AllocError>
+    ensures lone { IfOk result (λ parted. parted.lone ≡ filter_map (λ group. alone group.1) groups.entries) }
+    ensures shared { IfOk result (λ parted. parted.shared ≡ filter_map shared_of groups.entries) }
+{
     let mut parted = Parted {
         lone: Items::new(alloc),
         shared: Items::new(alloc),
     };
-    for (labels, group) in gather(alloc, items)? {
+    for (labels, group) in groups {
         add_group(&mut parted, labels, group)?;
     }
     Ok(parted)

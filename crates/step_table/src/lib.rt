@@ -15,6 +15,7 @@ mod unions;
 pub use cells::{Cell, CellRow, PartKind, StepCells};
 pub use groups::{Parted, gather, part};
 pub use marks::{Mark, Marks, Note};
+pub use matching::pair;
 pub use operators::{drops_name, operate, without_name};
 pub use outcomes::{Outcome, settled, taken};
 pub use step::{Row, Step, Table};

@@ -1,5 +1,5 @@
-ghost use Rattle.label_set.specs.Labels.{metric_name, without};
-ghost use Rattle.std.specs.Prelude.{◌≡◌, [], ◌∷◌, IfOk, if◌then◌else◌};
+ghost use Rattle.label_set.specs.Labels.{metric_name, put_refusal, with_pair, without};
+ghost use Rattle.std.specs.Prelude.{◌≡◌, ◌≢◌, [], ◌∷◌, true, false, is_some, IfOk, MatchBool, if◌then◌else◌};
 ghost use Rattle.step_table.specs.Operators.{all_put, drops_name as drops_metric_name, grouped_labels, is_grouped as has_group_word, matched_labels, operated, pair_labels};
 
 use label_set::{Card, Items, LabelRefusal, Labels, Pairing};
@@ -99,11 +99,31 @@ fn put_all(labels: Labels, pairs: &Labels) -> Result<Option<Labels>, AllocError>
     let mut all = labels;
     for i in 0..pairs.len() {
         let (name, value) = pairs.pair(i);
-        match all.put(name, value) {
-            Ok(()) => {}
-            Err(LabelRefusal::Memory) => return Err(AllocError),
-            Err(_) => return Ok(None),
+        if !put_one(&mut all, name, value)? {
+            return Ok(None);
         }
     }
     Ok(Some(all))
+}
+
+/// Puts a pair, and answers whether it was taken.
+fn put_one(labels: &mut Labels, name: &str, value: &str) -> Result<bool, AllocError>
+    ensures { IfOk result (λ taken. MatchBool taken
+        ((is_some (put_refusal labels.old name.now value.now) ≡ false) × (labels.new ≡ with_pair labels.old name.now value.now))
+        (is_some (put_refusal labels.old name.now value.now) ≡ true)) }
+{
+    match labels.put(name, value) {
+        Ok(()) => Ok(true),
+        Err(refusal) => not_taken(refusal),
+    }
+}
+
+/// Want of memory is an error; for other refusals nothing is taken.
+fn not_taken(refusal: LabelRefusal) -> Result<bool, AllocError>
+    ensures { IfOk result (λ taken. (taken ≡ false) × (refusal ≢ LabelRefusal.Memory)) }
+{
+    match refusal {
+        LabelRefusal::Memory => Err(AllocError),
+        _ => Ok(false),
+    }
 }

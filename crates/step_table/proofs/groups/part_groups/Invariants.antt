@@ -1,7 +1,7 @@
 use Rattle.std.proofs.Common.{◌≡◌, ◌++◌}
 use Rattle.std.specs.List.{filter_map}
 use Rattle.step_table.specs.Groups.{alone, shared_of}
-use Rattle.step_table.proofs.groups.part.Given as goal
+use Rattle.step_table.proofs.groups.part_groups.Given as goal
 
 abbrev pub invariant-loop-labels : goal.invariant-loop-labels
 invariant-loop-labels g l = record {
