@@ -1,7 +1,11 @@
 pub mod Gathers
 pub mod Keyed
+pub mod LoneRows
+pub mod Members
 pub mod Merges
+pub mod Ordered
 pub mod Partners
 pub mod Puts
 pub mod Sets
 pub mod Slices
+pub mod WellFormedSteps

@@ -1,4 +1,5 @@
 pub mod Groups
+pub mod Laws
 pub mod Matching
 pub mod OneSides
 pub mod Operators
@@ -7,3 +8,4 @@ pub mod Orders
 pub mod Outcomes
 pub mod Sets
 pub mod Unions
+pub mod WellFormed

@@ -1,5 +1,5 @@
 -- The set operators, by membership of signatures. (Prometheus querying, operators: logical/set binary operators.)
-use Rattle.std.specs.Prelude.{Bool, List, [], ◌++◌, map, filter, not}
+use Rattle.std.specs.Prelude.{Bool, List, ◌++◌, filter, not, if◌then◌else◌}
 use Rattle.std.specs.BTreeMap.{is_at}
 use Rattle.std.specs.List.{list_any}
 use Rattle.func_table.specs.declared.table.SetOp.{SetOp}
@@ -14,6 +14,10 @@ use Rattle.step_table.specs.declared.marks.Marks.{Marks}
 use Rattle.step_table.specs.declared.step.Row.{Row}
 use Rattle.step_table.specs.declared.step.Step.{Step}
 
+-- whether labels are among some
+abbrev pub is_among : List Names → Names → Bool
+is_among all names = list_any (is_at (labels_cmp names)) all
+
 -- whether a row's signature is one of a side
 abbrev pub is_on : Pairing → List Row → Row → Bool
 is_on p side row = list_any (λ other. is_at (labels_cmp (signature_of p row)) (signature_of p other)) side
@@ -25,7 +29,13 @@ rows_on p side rows = filter (is_on p side) rows
 abbrev pub rows_off : Pairing → List Row → List Row → List Row
 rows_off p side rows = filter (λ row. not (is_on p side row)) rows
 
-abbrev step_of : List Row → Marks → Step
+-- whether a row's signature is among some, or, where `on` is false, whether it isn't
+abbrev pub is_wanted : Pairing → List Names → Bool → Row → Bool
+is_wanted p signatures on row =
+    if on then is_among signatures (signature_of p row) else not (is_among signatures (signature_of p row))
+
+-- a step of rows and marks
+abbrev pub step_of : List Row → Marks → Step
 step_of rows marks = record { table = record { rows = rows }; marks = marks }
 
 -- a set operator: the left rows whose signature is on the right; those whose signature isn't; or all left rows and the
