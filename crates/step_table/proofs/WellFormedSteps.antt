@@ -1,6 +1,6 @@
 -- Every call keeps steps well formed.
-use Rattle.std.proofs.Common.{◌≡◌, ℕ, Bool, true, false, List, [], ◌∷◌, ◌+◌, cond, map, refl, sym, ap, arith}
-use Rattle.std.specs.Prelude.{filter, count_by, not, ◌||◌, if◌then◌else◌}
+use Rattle.std.proofs.Common.{◌≡◌, length, Bool, true, false, List, [], ◌∷◌, ◌+◌, cond, map, refl, sym, ap, arith}
+use Rattle.std.specs.Prelude.{filter, not, ◌||◌, if◌then◌else◌}
 use Rattle.std.specs.List.Sorted.{IsStrictlySortedBy}
 use Rattle.func_table.specs.declared.table.SetOp.{SetOp}
 use Rattle.func_table.specs.declared.table.SetOp.TheVariants.{And, Unless, Or}
@@ -55,17 +55,19 @@ combined_well l r And p s t = record { rows = sorted_filtered labels_cmp (λ row
 combined_well l r Unless p s t = record { rows = sorted_filtered labels_cmp (λ row. row.labels) (λ row. not (is_on p r.table.rows row)) l.table.rows s.rows; marks = united_sets l.marks r.marks s.marks t.marks }
 combined_well l r Or p s t = settled_well _ (united_sets l.marks r.marks s.marks t.marks)
 
-add_front : (k a b c : ℕ) → a + b ≡ c → (k + a) + b ≡ k + c
-add_front k a b c e = omega arith
+counted : (row : Row) (k : Bool) (passed failed all : List Row) → length passed + length failed ≡ length all → length (cond k (row ∷ passed) passed) + length failed ≡ length (cond k (row ∷ all) all)
+counted row true passed failed all e = omega arith
+counted row false passed failed all e = e
 
-add_middle : (k a b c : ℕ) → a + b ≡ c → a + (k + b) ≡ k + c
-add_middle k a b c e = omega arith
+counted_after : (row : Row) (k : Bool) (passed failed all : List Row) → length passed + length failed ≡ length all → length passed + length (cond k (row ∷ failed) failed) ≡ length (cond k (row ∷ all) all)
+counted_after row true passed failed all e = omega arith
+counted_after row false passed failed all e = e
 
--- of each kind as many pass a test or don't as there are
-pub parted_counts : (kind test : Row → Bool) (rows : List Row) → count_by kind (filter test rows) + count_by kind (filter (λ row. not (test row)) rows) ≡ count_by kind rows
+-- of each kind as many rows pass a test or don't as there are
+pub parted_counts : (kind test : Row → Bool) (rows : List Row) → length (filter kind (filter test rows)) + length (filter kind (filter (λ row. not (test row)) rows)) ≡ length (filter kind rows)
 parted_counts kind test [] = refl
 parted_counts kind test (row ∷ rows) =
-    elim (test row) as (λ t. count_by kind (cond t (row ∷ filter test rows) (filter test rows)) + count_by kind (cond (not t) (row ∷ filter (λ row. not (test row)) rows) (filter (λ row. not (test row)) rows)) ≡ count_by kind (row ∷ rows)) [
-      | true ↦ add_front (cond (kind row) 1 0) _ _ _ (parted_counts kind test rows)
-      | false ↦ add_middle (cond (kind row) 1 0) _ _ _ (parted_counts kind test rows)
+    elim (test row) as (λ t. length (filter kind (cond t (row ∷ filter test rows) (filter test rows))) + length (filter kind (cond (not t) (row ∷ filter (λ row. not (test row)) rows) (filter (λ row. not (test row)) rows))) ≡ length (filter kind (row ∷ rows))) [
+      | true ↦ counted row (kind row) _ _ _ (parted_counts kind test rows)
+      | false ↦ counted_after row (kind row) _ _ _ (parted_counts kind test rows)
     ]

@@ -1,5 +1,5 @@
 -- What users of steps rely on.
-use Rattle.std.specs.Prelude.{◌≡◌, ◌+◌, Bool, ◌||◌, List, map, count_by}
+use Rattle.std.specs.Prelude.{◌≡◌, ◌+◌, Bool, ◌||◌, List, filter, length}
 use Rattle.std.specs.BTreeMap.{is_at}
 use Rattle.std.specs.List.{list_any}
 use Rattle.std.specs.List.Sorted.{IsStrictlySortedBy}
@@ -54,4 +54,5 @@ CombinedIsWellFormed = (l r : Step) (op : SetOp) (p : Pairing) → IsWellFormed 
 -- `and` and `unless` part the left rows: of each kind of rows as many are in one and in the other as on the left
 abbrev pub AndUnlessPart : Type 0
 AndUnlessPart =
-    (l r : Step) (p : Pairing) (kind : Row → Bool) → count_by kind (combined l r And p).table.rows + count_by kind (combined l r Unless p).table.rows ≡ count_by kind l.table.rows
+    (l r : Step) (p : Pairing) (kind : Row → Bool)
+    → length (filter kind (combined l r And p).table.rows) + length (filter kind (combined l r Unless p).table.rows) ≡ length (filter kind l.table.rows)

@@ -124,6 +124,7 @@ x:1;y:2 and;on=__name__ y:7 y:2 -
 x:1;x:2 or - - S,x
 x,i=1:nan and y,i=1:0 x,i=1:nan -";
 
+#[derive(Clone, Copy)]
 enum Operator {
     Pair(PairOp),
     Set(SetOp),
@@ -253,7 +254,7 @@ fn comparison(word: &str) -> Result<CompareOp, Fail> {
     }
 }
 
-fn operator(word: &str) -> Result<Operator, Fail> {
+fn operator_of(word: &str) -> Result<Operator, Fail> {
     match word {
         "and" => return Ok(Operator::Set(SetOp::And)),
         "unless" => return Ok(Operator::Set(SetOp::Unless)),
@@ -297,7 +298,7 @@ fn set_modifier(alloc: Global, p: &mut Pairing, word: &str) -> Result<(), Fail> 
 /// The step of an operator with its modifiers.
 fn answer(alloc: Global, l: &Step, text: &str, r: &Step) -> Result<Step, Fail> {
     let mut words = text.split(';');
-    let op = operator(words.next().ok_or("no operator")?)?;
+    let op = operator_of(words.next().ok_or("no operator")?)?;
     let mut p = Pairing {
         on: false,
         names: Items::new(alloc),
