@@ -1,4 +1,6 @@
+pub mod Exchanged
 pub mod Gathers
+pub mod Itself
 pub mod Keyed
 pub mod LoneRows
 pub mod Members

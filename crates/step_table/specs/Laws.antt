@@ -1,14 +1,19 @@
 -- What users of steps rely on.
-use Rattle.std.specs.Prelude.{◌≡◌, ◌+◌, Bool, ◌||◌, List, filter, length}
+use Rattle.std.specs.Prelude.{◌≡◌, ◌+◌, Bool, ◌||◌, List, [], ◌∷◌, filter, length}
 use Rattle.std.specs.BTreeMap.{is_at}
 use Rattle.std.specs.List.{list_any}
 use Rattle.std.specs.List.Sorted.{IsStrictlySortedBy}
 use Rattle.func_table.specs.declared.table.SetOp.{SetOp}
-use Rattle.func_table.specs.declared.table.SetOp.TheVariants.{And, Unless}
-use Rattle.label_set.specs.Labels.{labels_cmp}
+use Rattle.func_table.specs.declared.table.SetOp.TheVariants.{And, Unless, Or}
+use Rattle.label_set.specs.Labels.{metric_name, without}
+use Rattle.label_set.specs.declared.rules.Card.TheVariants.{OneToOne}
 use Rattle.label_set.specs.declared.rules.Pairing.{Pairing}
+use Rattle.xfrac.specs.Laws.{IsNumber}
+use Rattle.xfrac.specs.declared.value.ArithOp.TheVariants.{Add}
 use Rattle.xfrac.specs.declared.value.PairOp.{PairOp}
-use Rattle.step_table.specs.Matching.{paired}
+use Rattle.xfrac.specs.declared.value.PairOp.TheVariants.{Arith}
+use Rattle.step_table.specs.Matching.{pair_outcome, paired}
+use Rattle.step_table.specs.Operators.{matched_labels}
 use Rattle.step_table.specs.Orders.{mark_cmp, note_cmp}
 use Rattle.step_table.specs.Outcomes.{settled, taken}
 use Rattle.step_table.specs.Sets.{combined}
@@ -56,3 +61,18 @@ abbrev pub AndUnlessPart : Type 0
 AndUnlessPart =
     (l r : Step) (p : Pairing) (kind : Row → Bool)
     → length (filter kind (combined l r And p).table.rows) + length (filter kind (combined l r Unless p).table.rows) ≡ length (filter kind l.table.rows)
+
+-- `or` of a vector with itself is the vector
+abbrev pub OrOfItself : Type 0
+OrOfItself = (v : Step) (p : Pairing) → IsWellFormed v → combined v v Or p ≡ v
+
+-- a matching without a group word
+abbrev pub one_to_one : Pairing → Pairing
+one_to_one p = record p { card = OneToOne }
+
+-- one to one, a pair under `+` gives the same with its sides exchanged, where both keep the same labels
+abbrev pub PlusIsExchanged : Type 0
+PlusIsExchanged =
+    (p : Pairing) (a b : Row) → IsNumber a.value → IsNumber b.value
+    → matched_labels p (without (metric_name ∷ []) a.labels) ≡ matched_labels p (without (metric_name ∷ []) b.labels)
+    → pair_outcome (Arith Add) (one_to_one p) a b ≡ pair_outcome (Arith Add) (one_to_one p) b a

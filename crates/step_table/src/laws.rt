@@ -1,5 +1,7 @@
 //! Laws of steps that users rely on. The functions do nothing: each stands for what its contract says.
-ghost use Rattle.step_table.specs.Laws.{AndUnlessPart, CombinedIsWellFormed, PairedIsWellFormed, SettledIsWellFormed, TakenHasSets, UnionHasMarks, UnionHasNotes, UnionIsSet};
+ghost use Rattle.step_table.specs.Laws.{AndUnlessPart, CombinedIsWellFormed, OrOfItself, PairedIsWellFormed, PlusIsExchanged, SettledIsWellFormed, TakenHasSets, UnionHasMarks, UnionHasNotes, UnionIsSet};
+
+use xfrac::laws::sum_ignores_order;
 
 /// A union of notes and marks is a set, and has what either has.
 pub fn unions_are_sets()
@@ -20,3 +22,15 @@ pub fn steps_are_well_formed()
 pub fn and_unless_part()
     ensures { AndUnlessPart }
 {}
+
+/// `or` of a vector with itself is the vector.
+pub fn or_of_itself()
+    ensures { OrOfItself }
+{}
+
+/// One to one, a pair under `+` gives the same with its sides exchanged.
+pub fn plus_is_exchanged()
+    ensures { PlusIsExchanged }
+{
+    sum_ignores_order();
+}
