@@ -1,0 +1,13 @@
+pub mod Exchanged
+pub mod Gathers
+pub mod Itself
+pub mod Keyed
+pub mod LoneRows
+pub mod Members
+pub mod Merges
+pub mod Ordered
+pub mod Partners
+pub mod Puts
+pub mod Sets
+pub mod Slices
+pub mod WellFormedSteps

@@ -1,0 +1,73 @@
+-- Every call keeps steps well formed.
+use Rattle.std.proofs.Common.{◌≡◌, length, Bool, true, false, List, [], ◌∷◌, ◌+◌, cond, map, refl, sym, ap, arith}
+use Rattle.std.specs.Prelude.{filter, not, ◌||◌, if◌then◌else◌}
+use Rattle.std.specs.List.Sorted.{IsStrictlySortedBy}
+use Rattle.func_table.specs.declared.table.SetOp.{SetOp}
+use Rattle.func_table.specs.declared.table.SetOp.TheVariants.{And, Unless, Or}
+use Rattle.label_set.specs.Labels.{labels_cmp}
+use Rattle.label_set.specs.declared.rules.Pairing.{Pairing}
+use Rattle.xfrac.specs.declared.value.PairOp.{PairOp}
+use Rattle.step_table.specs.Matching.{paired, pair_marks, uncrowded, left_rows, matches, many_side, one_side, is_empty}
+use Rattle.step_table.specs.OrderLaws.{mark_cmp_total, mark_cmp_ties, note_cmp_total, note_cmp_ties}
+use Rattle.step_table.specs.Orders.{mark_cmp}
+use Rattle.step_table.specs.Groups.{shared_names}
+use Rattle.step_table.specs.Outcomes.{settled, keyed}
+use Rattle.step_table.specs.Sets.{combined, is_on, rows_on, rows_off}
+use Rattle.step_table.specs.Unions.{set_of, united, with_fatal}
+use Rattle.step_table.specs.WellFormed.{IsTable, AreSets, IsWellFormed}
+use Rattle.step_table.specs.declared.marks.Mark.{Mark}
+use Rattle.step_table.specs.declared.marks.Mark.TheVariants.{SameLabelset}
+use Rattle.step_table.specs.declared.marks.Marks.{Marks}
+use Rattle.step_table.specs.declared.step.Row.{Row}
+use Rattle.step_table.specs.declared.step.Step.{Step}
+use Rattle.step_table.proofs.LoneRows.{lone_rows_sorted}
+use Rattle.step_table.proofs.Ordered.{sorted_union, sorted_filtered}
+use Rattle.step_table.proofs.Sets.{sorted_set}
+
+pub united_sets : (a b : Marks) → AreSets a → AreSets b → AreSets (united a b)
+united_sets a b s t = record { fatal = sorted_union mark_cmp_total a.fatal b.fatal s.fatal t.fatal; notes = sorted_union note_cmp_total a.notes b.notes s.notes t.notes }
+
+pub with_fatal_sets : (marks : Marks) (fatal : List Mark) → AreSets marks → AreSets (with_fatal marks fatal)
+unfolding IsStrictlySortedBy
+with_fatal_sets marks fatal s = united_sets marks (record { fatal = set_of mark_cmp fatal; notes = [] }) s (record { fatal = sorted_set mark_cmp_total mark_cmp_ties fatal; notes = tt })
+
+pub settled_well : (step : Step) → AreSets step.marks → IsWellFormed (settled step)
+settled_well step s = record { rows = lone_rows_sorted step.table.rows; marks = with_fatal_sets step.marks (map SameLabelset (shared_names (keyed step.table.rows))) s }
+
+well_if : (b : Bool) (s t : Step) → IsWellFormed s → IsWellFormed t → IsWellFormed (if b then s else t)
+well_if true s t v w = v
+well_if false s t v w = w
+
+no_rows : (marks : Marks) → AreSets marks → IsWellFormed (record { table = record { rows = [] }; marks = marks })
+unfolding IsStrictlySortedBy
+no_rows marks s = record { rows = tt; marks = s }
+
+pub paired_well : (l r : Step) (op : PairOp) (p : Pairing) → IsWellFormed l → IsWellFormed r → IsWellFormed (paired l r op p)
+paired_well l r op p s t =
+    let marks : AreSets (united l.marks r.marks) = united_sets l.marks r.marks s.marks t.marks in
+    let many : List Row = many_side p.card l.table.rows r.table.rows in
+    let ones : List Row = one_side p.card l.table.rows r.table.rows in
+    well_if (is_empty l.table.rows || is_empty r.table.rows) _ _ (no_rows _ marks)
+      (record { rows = lone_rows_sorted (uncrowded p.card (left_rows (matches op p many ones))); marks = with_fatal_sets (united l.marks r.marks) (pair_marks op p many ones) marks })
+
+pub combined_well : (l r : Step) (op : SetOp) (p : Pairing) → IsWellFormed l → IsWellFormed r → IsWellFormed (combined l r op p)
+combined_well l r And p s t = record { rows = sorted_filtered labels_cmp (λ row. row.labels) (is_on p r.table.rows) l.table.rows s.rows; marks = united_sets l.marks r.marks s.marks t.marks }
+combined_well l r Unless p s t = record { rows = sorted_filtered labels_cmp (λ row. row.labels) (λ row. not (is_on p r.table.rows row)) l.table.rows s.rows; marks = united_sets l.marks r.marks s.marks t.marks }
+combined_well l r Or p s t = settled_well _ (united_sets l.marks r.marks s.marks t.marks)
+
+counted : (row : Row) (k : Bool) (passed failed all : List Row) → length passed + length failed ≡ length all → length (cond k (row ∷ passed) passed) + length failed ≡ length (cond k (row ∷ all) all)
+counted row true passed failed all e = omega arith
+counted row false passed failed all e = e
+
+counted_after : (row : Row) (k : Bool) (passed failed all : List Row) → length passed + length failed ≡ length all → length passed + length (cond k (row ∷ failed) failed) ≡ length (cond k (row ∷ all) all)
+counted_after row true passed failed all e = omega arith
+counted_after row false passed failed all e = e
+
+-- of each kind as many rows pass a test or don't as there are
+pub parted_counts : (kind test : Row → Bool) (rows : List Row) → length (filter kind (filter test rows)) + length (filter kind (filter (λ row. not (test row)) rows)) ≡ length (filter kind rows)
+parted_counts kind test [] = refl
+parted_counts kind test (row ∷ rows) =
+    elim (test row) as (λ t. length (filter kind (cond t (row ∷ filter test rows) (filter test rows))) + length (filter kind (cond (not t) (row ∷ filter (λ row. not (test row)) rows) (filter (λ row. not (test row)) rows))) ≡ length (filter kind (row ∷ rows))) [
+      | true ↦ counted row (kind row) _ _ _ (parted_counts kind test rows)
+      | false ↦ counted_after row (kind row) _ _ _ (parted_counts kind test rows)
+    ]

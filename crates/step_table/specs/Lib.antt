@@ -1,0 +1,11 @@
+pub mod Groups
+pub mod Laws
+pub mod Matching
+pub mod OneSides
+pub mod Operators
+pub mod OrderLaws
+pub mod Orders
+pub mod Outcomes
+pub mod Sets
+pub mod Unions
+pub mod WellFormed

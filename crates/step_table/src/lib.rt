@@ -1,0 +1,27 @@
+//! Steps: what an expression gives at one instant, as a table of rows with notes and marks, and the rules between two
+//! vectors.
+#![tactic(auto)]
+
+mod cells;
+mod groups;
+pub mod laws;
+mod marks;
+mod matching;
+mod operators;
+mod orders;
+mod outcomes;
+mod set_operators;
+mod step;
+mod unions;
+
+pub use cells::{Cell, CellRow, PartKind, StepCells};
+pub use groups::{Parted, gather, part, part_groups};
+pub use marks::{Mark, Marks, Note};
+pub use matching::pair;
+pub use operators::{drops_name, operate, without_name};
+pub use outcomes::{Outcome, settled, taken};
+pub use set_operators::combine;
+pub use step::{Row, Step, Table};
+
+#[cfg(test)]
+mod tests;
