@@ -1,0 +1,6 @@
+pub mod Judging
+pub mod Kinds
+pub mod Refusals
+pub mod Rules
+pub mod Signatures
+pub mod Templates

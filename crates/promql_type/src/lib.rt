@@ -1,0 +1,11 @@
+//! The types of queries: what an expression gives, and why a query that can be read is refused all the same.
+#![tactic(auto)]
+
+mod judge;
+mod kind;
+mod least;
+mod literal;
+mod replace;
+mod rules;
+mod signature;
+mod template;
