@@ -1,6 +1,5 @@
 -- The type of a tree, and all of its refusals: by one step for each kind of node, over what the same gives for its children.
 use Rattle.std.specs.Prelude.{ℕ, ◌+◌, List, [], ◌∷◌, ◌++◌, length, Option, Some, None, option_and_then, option_map, slice_get}
-use Rattle.std.specs.List.{flat_map}
 use Rattle.func_table.specs.declared.table.Func.{Func}
 use Rattle.func_table.specs.declared.table.Func.TheVariants.{LabelJoin, LabelReplace}
 use Rattle.func_table.specs.declared.table.Aggregate.TheVariants.{CountValues}
@@ -100,6 +99,10 @@ pattern_of LabelReplace arguments at = listed (literal_at arguments 4)
     listed (Some l) = record { at = at; place = l.0; text = l.1 } ∷ []
 pattern_of f arguments at = []
 
+abbrev pub all_replacements : List Judgement → List Replacement
+all_replacements [] = []
+all_replacements (j ∷ js) = j.replacements ++ all_replacements js
+
 -- the patterns of a node at a place and of all below it
 abbrev pub replacements : Layer → ℕ → List Replacement
 replacements (Node-F.Number value) at = []
@@ -109,8 +112,8 @@ replacements (Node-F.Negate inner) at = inner.replacements
 replacements (Node-F.Select selector) at = []
 replacements (Node-F.Range selector range) at = []
 replacements (Node-F.Subquery inner range step moment) at = inner.replacements
-replacements (Node-F.Call f arguments) at = flat_map (λ (j : Judgement). j.replacements) arguments ++ pattern_of f arguments at
-replacements (Node-F.Aggregate f grouping arguments) at = flat_map (λ (j : Judgement). j.replacements) arguments
+replacements (Node-F.Call f arguments) at = all_replacements arguments ++ pattern_of f arguments at
+replacements (Node-F.Aggregate f grouping arguments) at = all_replacements arguments
 replacements (Node-F.Pair op left right pairing) at = left.replacements ++ right.replacements
 replacements (Node-F.Set op left right pairing) at = left.replacements ++ right.replacements
 

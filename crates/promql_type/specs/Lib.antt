@@ -1,6 +1,9 @@
 pub mod Judging
 pub mod Kinds
+pub mod Points
 pub mod Refusals
+pub mod Replacements
 pub mod Rules
+pub mod Settled
 pub mod Signatures
 pub mod Templates

@@ -14,7 +14,8 @@ use label_set::Pairing;
 use promql_ast::QueryRefusal;
 use xfrac::PairOp;
 
-const fn is_scalar(kind: Kind) -> bool
+/// Whether it is a number.
+pub const fn is_scalar(kind: Kind) -> bool
     ensures { result ≡ is_scalar kind }
 {
     match kind {
