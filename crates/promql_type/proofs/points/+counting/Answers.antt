@@ -21,3 +21,9 @@ crowd_refusal-returns-in-Set t c =
     c.lesser-in-Set.ensures
     ∙ ap₂ lesser (c.crowd_refusal-left-in-Set.ensures ∙ ap (λ e. least (crowded e c.args.around)) c.get-in-Set.ensures) (c.crowd_refusal-in-Set.ensures ∙ ap (λ e. least (crowded e c.args.around)) c.get-in-Set-2.ensures)
     ∙ sym (least_set c.args.e.now c.in-Set.field-0 c.in-Set.left c.in-Set.right c.in-Set.field-3 c.args.around c.in-Set.is)
+
+pub all_refusal-loop-e-preserved : goal.all_refusal-loop-e-preserved
+all_refusal-loop-e-preserved t c =
+    next_crowded c.loop-e.least c.lesser-least.result c.args.arguments.now c.loop-e.e-index c.e-item.result c.args.around c.loop-e-test.true c.e-item.is
+    (c.lesser-least.ensures ∙ ap (lesser c.loop-e.least) c.crowd_refusal.ensures)
+    ∙ c.loop-e.invariant
