@@ -1,3 +1,5 @@
+pub mod Builds
 pub mod Crowds
 pub mod Judged
 pub mod Leasts
+pub mod Settles

@@ -1,3 +1,4 @@
+pub mod Answers
 pub mod Judging
 pub mod Kinds
 pub mod Points
@@ -7,3 +8,4 @@ pub mod Rules
 pub mod Settled
 pub mod Signatures
 pub mod Templates
+pub mod TypedTrees

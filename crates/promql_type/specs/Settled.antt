@@ -1,6 +1,6 @@
 -- The typed tree: what was written to match vectors by is dropped where a side is a number. By the Prometheus querying
 -- documentation, "Vector matching", it has a meaning between vectors alone.
-use Rattle.std.specs.Prelude.{Bool, false, ◌||◌, if◌then◌else◌, List, [], ◌∷◌, ℕ}
+use Rattle.std.specs.Prelude.{Bool, true, false, ◌||◌, List, [], ◌∷◌, ℕ}
 use Rattle.label_set.specs.declared.rules.Pairing.{Pairing}
 use Rattle.label_set.specs.declared.rules.Card.TheVariants.{OneToOne}
 use Rattle.promql_ast.specs.declared.tree.Expr.{Expr}
@@ -21,13 +21,17 @@ kind_of e = (judged e).operand.gives
 abbrev pub no_pairing : Pairing
 no_pairing = record { on = false; names = []; card = OneToOne; extra = [] }
 
--- beside a number a pairing without labels to match by is dropped
-abbrev pub settled_pairing : Kind → Kind → Pairing → Pairing
-settled_pairing left right pairing = if is_scalar left || is_scalar right then without pairing.names else pairing
+-- a pairing beside a number, where a fact says that there is one: without labels to match by it is dropped
+abbrev pub pairing_beside : Bool → Pairing → Pairing
+pairing_beside false pairing = pairing
+pairing_beside true pairing = without pairing.names
   where
     without : List (List ℕ) → Pairing
     without [] = no_pairing
     without (name ∷ names) = pairing
+
+abbrev pub settled_pairing : Kind → Kind → Pairing → Pairing
+settled_pairing left right pairing = pairing_beside (is_scalar left || is_scalar right) pairing
 
 -- one node, with the typed trees of its children
 abbrev pub settled_step : Node-F Node Expr → Node

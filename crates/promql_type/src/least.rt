@@ -1,6 +1,6 @@
 //! Which of several refusals is answered.
 ghost use Rattle.promql_type.specs.Refusals.{comes_first, lesser};
-ghost use Rattle.std.specs.Prelude.{◌≡◌};
+ghost use Rattle.std.specs.Prelude.{◌≡◌, Some};
 
 use promql_ast::QueryRefusal;
 
@@ -18,12 +18,13 @@ pub fn lesser(a: Option<QueryRefusal>, b: Option<QueryRefusal>) -> Option<QueryR
     match (a, b) {
         (None, b) => b,
         (a, None) => a,
-        (Some(a), Some(b)) => {
-            if comes_first(&b, &a) {
-                Some(b)
-            } else {
-                Some(a)
-            }
-        }
+        (Some(a), Some(b)) => Some(first_of(a, b)),
     }
+}
+
+/// The one of two refusals that is answered.
+pub fn first_of(a: QueryRefusal, b: QueryRefusal) -> QueryRefusal
+    ensures { Some result ≡ lesser (Some a) (Some b) }
+{
+    if comes_first(&b, &a) { b } else { a }
 }

@@ -1,6 +1,7 @@
 //! The types of queries: what an expression gives, and why a query that can be read is refused all the same.
 #![tactic(auto)]
 
+mod checking;
 mod judge;
 mod kind;
 mod least;
@@ -11,4 +12,7 @@ mod rules;
 mod settle;
 mod signature;
 mod template;
-mod typed;
+mod typed_tree;
+
+pub use checking::check;
+pub use typed_tree::{TypeFault, Typed};

@@ -1,10 +1,12 @@
 //! The patterns of `label_replace` calls.
 ghost use Rattle.promql_type.specs.Judging.{all_replacements, judged, pattern_of};
-ghost use Rattle.promql_type.specs.Replacements.{AreKept, HasCause, IsFirstRefused, kept_with};
-ghost use Rattle.std.specs.Prelude.{◌≡◌, ◌≤◌, ◌<◌, ◌++◌, ℕ, [], length, map, slice_get, OnOk, OnErr, IfErr};
+ghost use Rattle.promql_type.specs.Answers.{MayFault};
+ghost use Rattle.promql_type.specs.Replacements.{AreKept, Gains, HasCause, IsFirstRefused, kept_with};
+ghost use Rattle.match_rule.specs.Patterns.{with_pattern};
+ghost use Rattle.std.specs.Prelude.{◌≡◌, ◌++◌, true, Some, map, slice_get, IfOk, IfErr, OnOk, OnErr};
 
 use crate::judge::literal_at;
-use crate::typed::TypeFault;
+use crate::typed_tree::TypeFault;
 use func_table::Func;
 use holders::{Items, Text};
 use label_set::PatternId;
@@ -89,4 +91,44 @@ fn collect_own(
         },
         _ => Ok(()),
     }
+}
+
+/// Keeps the pattern of a call. After an error the patterns are as they were.
+fn keep(kept: &mut Patterns, wanted: &Replacement) -> Result<PatternId, TypeFault>
+    ensures there { IfOk result (λ id. slice_get kept.new id.0 ≡ Some (true, wanted.now.text)) }
+    ensures ok { OnOk result (kept.new ≡ with_pattern (true, wanted.now.text) kept.old) }
+    ensures err { OnErr result (kept.new ≡ kept.old) }
+    ensures refused { IfErr result (MayFault (HasCause kept.old wanted.now)) }
+    ensures gains { Gains kept.old kept.new }
+{
+    match kept.whole(wanted.text.as_str()) {
+        Ok(id) => Ok(id),
+        Err(PatternRefusal::BadPattern) => {
+            Err(TypeFault::Refused(QueryRefusal::BadPattern(wanted.place)))
+        }
+        Err(PatternRefusal::TooManyPatterns) => {
+            Err(TypeFault::Refused(QueryRefusal::TooManyPatterns(wanted.place)))
+        }
+        Err(PatternRefusal::Memory) => Err(TypeFault::Memory),
+    }
+}
+
+/// Keeps the patterns of calls in order, up to the first that is refused, and answers their numbers. After an error those
+/// before it stay.
+pub fn build(
+    alloc: Global,
+    wanted: &[Replacement],
+    kept: &mut Patterns,
+) -> Result<Items<Placed>, TypeFault>
+    ensures ok { OnOk result (kept.new ≡ kept_with kept.old wanted.now) }
+    ensures placed { IfOk result (AreKept kept.new wanted.now) }
+    ensures refused { IfErr result (MayFault (IsFirstRefused kept.old wanted.now kept.new)) }
+    ensures gains { Gains kept.old kept.new }
+{
+    let mut placed = Items::new(alloc);
+    for r in wanted {
+        let id = keep(kept, r)?;
+        placed.push(Placed { at: r.at, id })?;
+    }
+    Ok(placed)
 }
