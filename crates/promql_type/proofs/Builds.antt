@@ -1,6 +1,7 @@
 -- Patterns that are kept one after another.
 use Rattle.std.proofs.Common.{◌≡◌, ◌<◌, ◌≤◌, ◌+◌, ℕ, refl, ap, ◌∙◌, sym, subst, map, take, drop, get_or, length, List, [], ◌∷◌, ◌++◌, arith, Bool, true}
 use Rattle.std.specs.Prelude.{Option, Some, None, slice_get}
+use Rattle.std.proofs.lemmas.Option.{slice_get_within}
 use Rattle.std.proofs.lemmas.List.{drop_more, take_more, take-append-drop}
 use Rattle.promql_ast.specs.declared.refusal.QueryRefusal.{QueryRefusal}
 use Rattle.match_rule.specs.Patterns.{with_pattern}
@@ -16,7 +17,7 @@ abbrev Numbers : Kept → Placed → Replacement → Type 0
 Numbers kept p r = (p.at ≡ r.at) × (slice_get kept p.id.0 ≡ Some (true, r.text))
 
 within : (kept : Kept) (k : ℕ) (x : Bool × List ℕ) → slice_get kept k ≡ Some x → k < length kept
-within kept k x is = grind (arith, is)
+within kept k x is = slice_get_within kept k x is
 
 pub placed_more : (old kept : Kept) (front : List Replacement) (placed : List Placed) (r : Replacement) (p : Placed)
     → AreKept old front placed → Gains old kept → Numbers kept p r → AreKept kept (front ++ r ∷ []) (placed ++ p ∷ [])
@@ -35,9 +36,9 @@ pub gains_none : (a b : Kept) → b ≡ a → Gains a b
 gains_none a b is = subst (λ (x : Kept). Gains a x) (sym is) (record { earlier = λ k lt. refl; more = omega arith })
 
 -- what is kept and placed once those at the front are
-pub record AreSofar (before now : Kept) (done : List Replacement) (placed : List Placed) : Type 0 where
+pub record AreSofar (before now : Kept) (done : List Replacement) (numbers : List Placed) : Type 0 where
   pub kept : now ≡ kept_with before done
-  pub placed : AreKept now done placed
+  pub placed : AreKept now done numbers
   pub gains : Gains before now
 
 pub next_kept : (before old now : Kept) (wanted : List Replacement) (placed : List Placed) (i : ℕ) (r : Replacement) (p : Placed)

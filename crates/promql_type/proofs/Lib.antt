@@ -3,3 +3,4 @@ pub mod Crowds
 pub mod Judged
 pub mod Leasts
 pub mod Settles
+pub mod Taken

@@ -39,7 +39,6 @@ fn sooner(own: Option<QueryRefusal>, pattern: QueryRefusal) -> QueryRefusal
     }
 }
 
-#[tactic(auto, using(crate::proofs::Settles::settled_is_judged))]
 /// The typed tree of a tree that is not refused.
 fn typed(alloc: Global, expr: Expr, placed: Items<Placed>) -> Result<Typed, AllocError>
     requires { refusals_of expr ≡ [] }
