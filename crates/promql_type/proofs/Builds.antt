@@ -7,6 +7,9 @@ use Rattle.promql_ast.specs.declared.refusal.QueryRefusal.{QueryRefusal}
 use Rattle.match_rule.specs.Patterns.{with_pattern}
 use Rattle.promql_type.specs.declared.replace.Placed.{Placed}
 use Rattle.promql_type.specs.declared.replace.Replacement.{Replacement}
+use Rattle.promql_type.specs.declared.typed_tree.TypeFault.{TypeFault}
+use Rattle.promql_type.specs.declared.typed_tree.TypeFault.TheVariants.{Refused, Memory}
+use Rattle.promql_type.specs.Answers.{MayFault}
 use Rattle.promql_type.specs.Replacements.{AreKept, Gains, HasCause, IsFirstRefused, Kept, kept_with}
 
 pub kept_more : (kept : Kept) (front : List Replacement) (r : Replacement) → kept_with kept (front ++ r ∷ []) ≡ with_pattern (true, r.text) (kept_with kept front)
@@ -63,3 +66,9 @@ first_refused before old now wanted placed i r refusal lt is sofar same cause = 
     split = sym (take-append-drop i wanted) ∙ ap (λ rest. take i wanted ++ rest) (drop_more wanted i r lt ∙ ap (λ x. x ∷ drop (i + 1) wanted) (sym is));
     kept = same ∙ sofar.kept;
     cause = subst (λ (k : Kept). HasCause k r refusal) (sym same) cause }
+
+pub first_fault : (before old now : Kept) (wanted : List Replacement) (placed : List Placed) (i : ℕ) (r : Replacement) (fault : TypeFault)
+    → i < length wanted → r ≡ get_or wanted i r
+    → AreSofar before old (take i wanted) placed → now ≡ old → MayFault (HasCause old r) fault → MayFault (IsFirstRefused before wanted now) fault
+first_fault before old now wanted placed i r (Refused refusal) lt is sofar same cause = first_refused before old now wanted placed i r refusal lt is sofar same cause
+first_fault before old now wanted placed i r Memory lt is sofar same cause = record {}

@@ -127,7 +127,10 @@ pub fn build(
 {
     let mut placed = Items::new(alloc);
     for r in wanted {
-        let id = keep(kept, r)?;
+        let id = match keep(kept, r) {
+            Ok(id) => id,
+            Err(fault) => return Err(fault),
+        };
         placed.push(Placed { at: r.at, id })?;
     }
     Ok(placed)

@@ -1,7 +1,7 @@
 use Rattle.std.proofs.Common.{rules, ◌∙◌, ◌≡◌, List, [], ◌∷◌, ap, sym, subst}
 use Rattle.std.specs.Prelude.{Some, None}
 use Rattle.promql_type.specs.declared.replace.Replacement.{Replacement}
-use Rattle.promql_type.specs.Answers.{refusals_of}
+use Rattle.promql_type.specs.Answers.{MayFault, refusals_of}
 use Rattle.promql_type.specs.Judging.{judged}
 use Rattle.promql_type.specs.Refusals.{lesser}
 use Rattle.promql_type.specs.Replacements.{AreKept, IsFirstRefused}
@@ -28,7 +28,9 @@ returns-clause-placed c =
 pub returns-in-Err-Refused-clause-refused : goal.returns-in-Err-Refused-clause-refused
 returns-in-Err-Refused-clause-refused c =
     let wanted : c.as_slice.result.now ≡ (judged c.args.expr).replacements = search rules in
+    let chosen : lesser c.own_refusal-own.result (Some c.in-Err-Refused.pattern) ≡ Some c.sooner.result = search (rules, c.sooner.ensures, c.in-Err-Refused.pattern-is) in
     record {
       pattern = Some c.in-Err-Refused.pattern;
-      built = subst (λ (rs : List Replacement). IsFirstRefused c.args.patterns.now rs c.build.new.kept c.in-Err-Refused.pattern) wanted c.in-Err-Refused.ensures.refused;
-      least_is = least_append (refusals_of c.args.expr) (c.in-Err-Refused.pattern ∷ []) ∙ ap (λ o. lesser o (Some c.in-Err-Refused.pattern)) (sym c.own_refusal-own.ensures) ∙ c.sooner.ensures }
+      built = subst (λ (rs : List Replacement). IsFirstRefused c.args.patterns.now rs c.build.new.kept c.in-Err-Refused.pattern) wanted
+        (subst (MayFault (IsFirstRefused c.args.patterns.now c.as_slice.result.now c.build.new.kept)) c.in-Err-Refused.field-0-is c.in-Err-Refused.ensures.refused);
+      least_is = least_append (refusals_of c.args.expr) (c.in-Err-Refused.pattern ∷ []) ∙ ap (λ o. lesser o (Some c.in-Err-Refused.pattern)) (sym c.own_refusal-own.ensures) ∙ chosen }
