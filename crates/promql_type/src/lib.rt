@@ -16,3 +16,6 @@ mod typed_tree;
 
 pub use checking::check;
 pub use typed_tree::{TypeFault, Typed};
+
+#[cfg(test)]
+mod tests;
