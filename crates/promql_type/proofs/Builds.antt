@@ -32,8 +32,9 @@ placed_more old kept (s ∷ front) (q ∷ qs) r p are gains is =
 
 pub gains_all : (a b c : Kept) → Gains a b → Gains b c → Gains a c
 gains_all a b c ab bc = record {
-    earlier = λ k lt. bc.earlier k (omega (arith, lt, ab.more)) ∙ ab.earlier k lt;
-    more = omega (arith, ab.more, bc.more) }
+  earlier = λ k lt. bc.earlier k (omega (arith, lt, ab.more)) ∙ ab.earlier k lt;
+  more = omega (arith, ab.more, bc.more);
+}
 
 pub gains_none : (a b : Kept) → b ≡ a → Gains a b
 gains_none a b is = subst (λ (x : Kept). Gains a x) (sym is) (record { earlier = λ k lt. refl; more = omega arith })
@@ -54,18 +55,20 @@ next_kept before old now wanted placed i r p lt is sofar kept gains numbers =
     (record {
       kept = kept ∙ ap (with_pattern (true, r.text)) sofar.kept ∙ sym (kept_more before (take i wanted) r);
       placed = placed_more old now (take i wanted) placed r p sofar.placed gains numbers;
-      gains = gains_all before old now sofar.gains gains })
+      gains = gains_all before old now sofar.gains gains;
+    })
 
 pub first_refused : (before old now : Kept) (wanted : List Replacement) (placed : List Placed) (i : ℕ) (r : Replacement) (refusal : QueryRefusal)
     → i < length wanted → r ≡ get_or wanted i r
     → AreSofar before old (take i wanted) placed → now ≡ old → HasCause old r refusal → IsFirstRefused before wanted now refusal
 first_refused before old now wanted placed i r refusal lt is sofar same cause = record {
-    front = take i wanted;
-    string = r;
-    behind = drop (i + 1) wanted;
-    split = sym (take-append-drop i wanted) ∙ ap (λ rest. take i wanted ++ rest) (drop_more wanted i r lt ∙ ap (λ x. x ∷ drop (i + 1) wanted) (sym is));
-    kept = same ∙ sofar.kept;
-    cause = subst (λ (k : Kept). HasCause k r refusal) (sym same) cause }
+  front = take i wanted;
+  string = r;
+  behind = drop (i + 1) wanted;
+  split = sym (take-append-drop i wanted) ∙ ap (λ rest. take i wanted ++ rest) (drop_more wanted i r lt ∙ ap (λ x. x ∷ drop (i + 1) wanted) (sym is));
+  kept = same ∙ sofar.kept;
+  cause = subst (λ (k : Kept). HasCause k r refusal) (sym same) cause;
+}
 
 pub first_fault : (before old now : Kept) (wanted : List Replacement) (placed : List Placed) (i : ℕ) (r : Replacement) (fault : TypeFault)
     → i < length wanted → r ≡ get_or wanted i r

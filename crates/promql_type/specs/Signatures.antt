@@ -107,6 +107,7 @@ argument row n = listed (slice_get row.takes n)
     following Nothing = None
     following (Once kind) = Some kind
     following (Often kind) = Some kind
+
     listed : Option Kind → Option Kind
     listed None = following row.more
     listed (Some kind) = Some kind

@@ -7,7 +7,10 @@ ghost use Rattle.std.specs.Prelude.{◌≡◌, map};
 use crate::kind::{Kind, Operand, both};
 use crate::least::lesser;
 use crate::literal::Literal;
-use crate::rules::{argument_refusal, count_refusal, label_refusal, operand_refusal, pair_refusal, set_refusal, template_refusal};
+use crate::rules::{
+    argument_refusal, count_refusal, label_refusal, operand_refusal, pair_refusal, set_refusal,
+    template_refusal,
+};
 use crate::signature::{Callee, argument, signature};
 use func_table::{Aggregate, Func};
 use promql_ast::{Expr, Node, QueryRefusal};
@@ -88,7 +91,11 @@ pub fn judge(e: &Expr) -> Judged
         Node::Negate(inner) => {
             let inner = judge(inner.get());
             let gives = both(inner.operand.gives, inner.operand.gives);
-            placed(e.at, gives, lesser(inner.least, operand_refusal(inner.operand)))
+            placed(
+                e.at,
+                gives,
+                lesser(inner.least, operand_refusal(inner.operand)),
+            )
         }
         Node::Subquery { inner, .. } => {
             let inner = judge(inner.get());
@@ -112,7 +119,11 @@ pub fn judge(e: &Expr) -> Judged
             let left = judge(left.get());
             let right = judge(right.get());
             let own = set_refusal(pairing, left.operand, right.operand, e.at);
-            placed(e.at, Kind::Vector, lesser(lesser(left.least, right.least), own))
+            placed(
+                e.at,
+                Kind::Vector,
+                lesser(lesser(left.least, right.least), own),
+            )
         }
     }
 }
@@ -136,7 +147,11 @@ fn judge_call(callee: Callee, arguments: &[Expr], at: u32) -> Judged
     let count = count_refusal(callee, arguments.len(), at);
     let inner = judge_arguments(callee, arguments);
     let strings = strings_refusal(callee, arguments);
-    placed(at, signature(callee).gives, lesser(count, lesser(inner, strings)))
+    placed(
+        at,
+        signature(callee).gives,
+        lesser(count, lesser(inner, strings)),
+    )
 }
 
 /// The least refusal of arguments and of their kinds.

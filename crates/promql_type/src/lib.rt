@@ -4,6 +4,7 @@
 mod checking;
 mod judge;
 mod kind;
+mod law;
 mod least;
 mod literal;
 mod points;
@@ -15,6 +16,7 @@ mod template;
 mod typed_tree;
 
 pub use checking::check;
+pub use law::typed_trees_fit;
 pub use typed_tree::{TypeFault, Typed};
 
 #[cfg(test)]

@@ -16,7 +16,10 @@ const MOST_POINTS: u64 = 200_000;
 fn points(range: Ms, step: Ms) -> u64
     ensures { result ≡ points range step }
 {
-    range.0.unsigned_abs().div_ceil(step.0.unsigned_abs().max(1))
+    range
+        .0
+        .unsigned_abs()
+        .div_ceil(step.0.unsigned_abs().max(1))
 }
 
 /// The points of a subquery inside of others that have so many points together. A number above the most stands still.
@@ -38,10 +41,16 @@ pub fn crowd_refusal(e: &Expr, around: u64) -> Option<QueryRefusal>
         Node::Paren(inner) => crowd_refusal(inner.get(), around),
         Node::Negate(inner) => crowd_refusal(inner.get(), around),
         Node::Subquery {
-            inner, range, step, ..
+            inner,
+            range,
+            step,
+            ..
         } => {
             let inside = nested(around, points(*range, *step));
-            lesser(own_refusal(inside, e.at), crowd_refusal(inner.get(), inside))
+            lesser(
+                own_refusal(inside, e.at),
+                crowd_refusal(inner.get(), inside),
+            )
         }
         Node::Call(_, arguments) => all_refusal(arguments.as_slice(), around),
         Node::Aggregate(_, _, arguments) => all_refusal(arguments.as_slice(), around),

@@ -84,7 +84,10 @@ pub fn settle(alloc: Global, e: Expr) -> Result<Settled, AllocError>
             let pairing = settled_pairing(alloc, left.gives, right.gives, pairing);
             let gives = both(left.gives, right.gives);
             let left = Boxed::new(alloc, left.tree)?;
-            (Node::Pair(op, left, Boxed::new(alloc, right.tree)?, pairing), gives)
+            (
+                Node::Pair(op, left, Boxed::new(alloc, right.tree)?, pairing),
+                gives,
+            )
         }
         Node::Set(op, left, right, pairing) => {
             let left = Boxed::new(alloc, settle(alloc, left.into_inner())?.tree)?;

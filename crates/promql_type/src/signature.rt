@@ -119,7 +119,13 @@ fn special(function: Func) -> Row
             gives: Kind::Vector,
         },
         Func::LabelReplace => from(
-            &[Kind::Vector, Kind::Words, Kind::Words, Kind::Words, Kind::Words],
+            &[
+                Kind::Vector,
+                Kind::Words,
+                Kind::Words,
+                Kind::Words,
+                Kind::Words,
+            ],
             Kind::Vector,
         ),
         Func::Scalar => from(&[Kind::Vector], Kind::Scalar),

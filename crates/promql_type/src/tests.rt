@@ -462,7 +462,8 @@ fn trees_have_types(rt: HostRuntime) -> Result<(), Fail> {
 }
 
 /// `-label_replace(x, "a", "$1", "b", "p.*") + on() group_left(c) 1`
-const REPLACED: &str = "15:v: 18:w:a 23:w:$1 29:w:b 34:w:p.* 1:f:label_replace:5 0:m: 63:n: 0:o:+:o!Lc";
+const REPLACED: &str =
+    "15:v: 18:w:a 23:w:$1 29:w:b 34:w:p.* 1:f:label_replace:5 0:m: 63:n: 0:o:+:o!Lc";
 
 #[test]
 fn typed_trees(rt: HostRuntime) -> Result<(), Fail> {

@@ -21,7 +21,7 @@ pub returns-clause-placed : goal.returns-clause-placed
 returns-clause-placed c =
     let wanted : c.as_slice.result.now ≡ (judged c.args.expr).replacements = search rules in
     let same : (judged (tree_of c.in_ok-typed-in-None.field-0)).replacements ≡ (judged c.args.expr).replacements =
-      ap (λ j. j.replacements) (ap judged c.in_ok-typed-in-None.ensures.tree ∙ settled_is_judged c.args.expr) in
+    ap (λ j. j.replacements) (ap judged c.in_ok-typed-in-None.ensures.tree ∙ settled_is_judged c.args.expr) in
     subst (λ ps. AreKept c.build.new.kept (judged (tree_of c.in_ok-typed-in-None.field-0)).replacements ps) (sym c.in_ok-typed-in-None.ensures.placed)
     (subst (λ (rs : List Replacement). AreKept c.build.new.kept rs c.in-Ok.placed) (wanted ∙ sym same) c.in-Ok.ensures.placed)
 
@@ -32,5 +32,6 @@ returns-in-Err-Refused-clause-refused c =
     record {
       pattern = Some c.in-Err-Refused.pattern;
       built = subst (λ (rs : List Replacement). IsFirstRefused c.args.patterns.now rs c.build.new.kept c.in-Err-Refused.pattern) wanted
-        (subst (MayFault (IsFirstRefused c.args.patterns.now c.as_slice.result.now c.build.new.kept)) c.in-Err-Refused.field-0-is c.in-Err-Refused.ensures.refused);
-      least_is = least_append (refusals_of c.args.expr) (c.in-Err-Refused.pattern ∷ []) ∙ ap (λ o. lesser o (Some c.in-Err-Refused.pattern)) (sym c.own_refusal-own.ensures) ∙ chosen }
+          (subst (MayFault (IsFirstRefused c.args.patterns.now c.as_slice.result.now c.build.new.kept)) c.in-Err-Refused.field-0-is c.in-Err-Refused.ensures.refused);
+      least_is = least_append (refusals_of c.args.expr) (c.in-Err-Refused.pattern ∷ []) ∙ ap (λ o. lesser o (Some c.in-Err-Refused.pattern)) (sym c.own_refusal-own.ensures) ∙ chosen;
+    }
