@@ -1,0 +1,7 @@
+pub mod Builds
+pub mod Crowds
+pub mod Fitting
+pub mod Judged
+pub mod Leasts
+pub mod Settles
+pub mod Taken
