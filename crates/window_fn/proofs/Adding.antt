@@ -48,7 +48,7 @@ one_more_value s s' v rs number step none h =
     record {
       numbers = subst (All IsNumber) (sym values) (All-append IsNumber _ _ h.numbers (All-cons IsNumber v [] number (All-nil IsNumber)));
       kept = subst (λ ys. MatchBool (list_all is_ok (rs ++ Ok v ∷ [])) (KeepsSum s' ys) (s' ≡ None)) (sym values)
-        (subst (λ b. MatchBool b (KeepsSum s' (filter_map result_ok rs ++ v ∷ [])) (s' ≡ None)) (sym all)
+          (subst (λ b. MatchBool b (KeepsSum s' (filter_map result_ok rs ++ v ∷ [])) (s' ≡ None)) (sym all)
           (keeps_value (list_all is_ok rs) s s' v (filter_map result_ok rs) h.numbers step none h.kept));
     }
 

@@ -113,7 +113,7 @@ orderless_like : {A : Type 0} (P : A → Type 0) (f g : A → A → A) → ((m x
 orderless_like P f g same o = record {
   keeps = λ m x pm px. subst P (sym (same m x)) (o.keeps m x pm px);
   either = λ m x y pm px py.
-    (ap (λ w. f w y) (same m x) ∙ same (g m x) y) ∙ (o.either m x y pm px py ∙ (sym (same (g m y) x) ∙ ap (λ w. f w x) (sym (same m y))));
+      (ap (λ w. f w y) (same m x) ∙ same (g m x) y) ∙ (o.either m x y pm px py ∙ (sym (same (g m y) x) ∙ ap (λ w. f w x) (sym (same m y))));
 }
 
 -- ---- all that doesn't depend on the order

@@ -39,8 +39,8 @@ module _ {A B : Type 0} (P : A → Type 0) (Q : B → Type 0) (f : B → A → B
   pub fold-permutation : (xs ys : List A) (b : B) → Q b → All P xs → IsPermutation xs ys → fold f b ys ≡ fold f b xs
   fold-permutation xs ys b q all moved =
       (IsPermutation-keeps xs (λ l. All P l × (fold f b l ≡ fold f b xs)) (all, refl)
-        (λ l i j li lj h. (All-permutation P l (swap l i j) (IsPermutation-swap l (swap l i j) i j li lj refl) h.0, after_swap l i j b li lj q h.0 ∙ h.1))
-        ys moved).1
+      (λ l i j li lj h. (All-permutation P l (swap l i j) (IsPermutation-swap l (swap l i j) i j li lj refl) h.0, after_swap l i j b li lj q h.0 ∙ h.1))
+      ys moved).1
 
   -- the first item taken last
   pub fold-last : (xs : List A) (x : A) (b : B) → Q b → P x → All P xs → fold f (f b x) xs ≡ f (fold f b xs) x

@@ -56,4 +56,4 @@ rank_within equal (Fin (pos n, d)) r k number is low high e =
     let at_most : n * 1 ≤ 1 * d = not_above (n * 1) (1 * d) (ltb (n * 1) (1 * d)) (ltb (1 * d) (n * 1)) refl refl high in
     let l = Fin (lowest (pos n *ℤ pos k) (d * 1)) in
     subst (λ v. place_of (floor_of v) ≤ k) (is_formed (is_within (lowest (pos n *ℤ pos k) (d * 1))) l r e)
-      (floor_within equal n (d * 1) k (omega (arith, number.positive)) (omega arith))
+    (floor_within equal n (d * 1) k (omega (arith, number.positive)) (omega arith))

@@ -148,9 +148,10 @@ below-number a b na nb = ap (λ v. is_before v (tidy b)) (tidy-number a na) ∙ 
 rises_from : {A : Type 0} (lt : A → A → Bool) (xs : List A) → IsSortedBy lt xs → Rises lt xs
 rises_from lt [] up = tt
 rises_from lt (x ∷ []) up = tt
-rises_from {A = A} lt (x ∷ y ∷ ys) up =
-    (up 0 x (omega arith) (omega arith),
-     rises_from lt (y ∷ ys) (λ k d low high. next k d (up (suc k) d (omega arith) (omega arith))))
+rises_from {A = A} lt (x ∷ y ∷ ys) up = (
+  up 0 x (omega arith) (omega arith),
+  rises_from lt (y ∷ ys) (λ k d low high. next k d (up (suc k) d (omega arith) (omega arith))),
+)
   where
     next : (k : ℕ) (d : A) → lt (get_or (x ∷ y ∷ ys) (suc k + 1) d) (get_or (x ∷ y ∷ ys) (suc k) d) ≡ false → lt (get_or (y ∷ ys) (k + 1) d) (get_or (y ∷ ys) k d) ≡ false
     next k d h = let behind : suc k + 1 ≡ suc (k + 1) = omega arith in subst (λ n. lt (get_or (x ∷ y ∷ ys) n d) (get_or (y ∷ ys) k d) ≡ false) behind h

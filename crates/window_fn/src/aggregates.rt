@@ -48,7 +48,9 @@ pub fn count(values: &[XFrac]) -> XFrac
 pub fn greatest(values: &[XFrac]) -> XFrac
     ensures { result ≡ greatest values.now }
 {
-    values.iter().fold(XFrac::NaN, |most, value| greater(&most, value))
+    values
+        .iter()
+        .fold(XFrac::NaN, |most, value| greater(&most, value))
 }
 
 fn greater(most: &XFrac, value: &XFrac) -> XFrac
@@ -65,7 +67,9 @@ fn greater(most: &XFrac, value: &XFrac) -> XFrac
 pub fn least(values: &[XFrac]) -> XFrac
     ensures { result ≡ least values.now }
 {
-    values.iter().fold(XFrac::NaN, |least, value| lesser(&least, value))
+    values
+        .iter()
+        .fold(XFrac::NaN, |least, value| lesser(&least, value))
 }
 
 fn lesser(least: &XFrac, value: &XFrac) -> XFrac

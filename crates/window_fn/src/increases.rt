@@ -196,7 +196,11 @@ fn at_most(way: &XFrac, limit: Result<XFrac, NumFault>) -> Result<XFrac, NumFaul
     ensures { result ≡ at_most way.now limit }
 {
     let most = limit?;
-    Ok(if compare(CompareOp::Gt, way, &most) { most } else { *way })
+    Ok(if compare(CompareOp::Gt, way, &most) {
+        most
+    } else {
+        *way
+    })
 }
 
 /// The way back at which a counter that rises by `change` in the way sampled was 0.

@@ -24,11 +24,7 @@ pub struct Moments {
 }
 
 /// The slope by seconds of the line through the samples; NaN where a value isn't finite.
-pub fn derivative(
-    times: &[Ms],
-    values: &[XFrac],
-    frame: &WindowFrame,
-) -> Result<XFrac, NumFault>
+pub fn derivative(times: &[Ms], values: &[XFrac], frame: &WindowFrame) -> Result<XFrac, NumFault>
     requires same { length times.now ≡ length values.now }
     requires two { 2 ≤ length values.now }
     requires frame { IsFrame frame.now }
@@ -75,11 +71,7 @@ fn is_finite(v: &XFrac) -> bool
 }
 
 #[tactic(auto, unfolding(crate::specs::Slopes::slope_by_seconds))]
-fn slope_by_seconds(
-    times: &[Ms],
-    values: &[XFrac],
-    frame: &WindowFrame,
-) -> Result<XFrac, NumFault>
+fn slope_by_seconds(times: &[Ms], values: &[XFrac], frame: &WindowFrame) -> Result<XFrac, NumFault>
     requires same { length times.now ≡ length values.now }
     requires two { 2 ≤ length values.now }
     requires frame { IsFrame frame.now }
@@ -214,12 +206,7 @@ fn rise_in(slope: &XFrac, seconds: &XFrac) -> Result<XFrac, NumFault>
 
 /// The line's value so many seconds after the origin.
 #[tactic(auto, unfolding(crate::specs::Slopes::value_after))]
-fn value_after(
-    k: &XFrac,
-    sums: &Moments,
-    slope: &XFrac,
-    seconds: &XFrac,
-) -> Result<XFrac, NumFault>
+fn value_after(k: &XFrac, sums: &Moments, slope: &XFrac, seconds: &XFrac) -> Result<XFrac, NumFault>
     ensures { result ≡ value_after k.now sums.now slope.now seconds.now }
 {
     let intercept = intercept(k, sums, slope)?;

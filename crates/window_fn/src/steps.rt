@@ -14,11 +14,7 @@ use xfrac::{ArithOp, CompareOp, NumFault, XFrac, arith, compare, whole};
 
 /// A counter's last rise by the seconds between the last two samples.
 #[tactic(auto, unfolding(crate::specs::Steps::instant_rate))]
-pub fn instant_rate(
-    times: &[Ms],
-    values: &[XFrac],
-    frame: &WindowFrame,
-) -> Result<XFrac, NumFault>
+pub fn instant_rate(times: &[Ms], values: &[XFrac], frame: &WindowFrame) -> Result<XFrac, NumFault>
     requires same { length times.now ≡ length values.now }
     requires two { 2 ≤ length values.now }
     requires frame { IsFrame frame.now }
@@ -50,7 +46,11 @@ pub fn last_difference(values: &[XFrac]) -> Result<XFrac, NumFault>
     requires { 2 ≤ length values.now }
     ensures { result ≡ last_difference values.now }
 {
-    arith(ArithOp::Sub, &values[values.len() - 1], &values[values.len() - 2])
+    arith(
+        ArithOp::Sub,
+        &values[values.len() - 1],
+        &values[values.len() - 2],
+    )
 }
 
 /// How often a value differs from the next one.
@@ -91,5 +91,9 @@ fn resets_among(values: &[XFrac]) -> usize
     ensures few { result < length values.now }
 {
     let next = values.split_at(1).1;
-    values.iter().zip(next).filter(|p| compare(CompareOp::Lt, p.1, p.0)).count()
+    values
+        .iter()
+        .zip(next)
+        .filter(|p| compare(CompareOp::Lt, p.1, p.0))
+        .count()
 }

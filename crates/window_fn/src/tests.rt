@@ -13,7 +13,8 @@ use xfrac::{XFrac, of};
 
 /// A call a line: the function; the range, the moment and the instant in milliseconds; the parameter; each sample as
 /// its time and value; behind the arrow the answer.
-const CALLS: &str = "rate 300000 300000 300000 nan 60000:60/1 120000:120/1 180000:180/1 240000:240/1 300000:300/1 => 1/1
+const CALLS: &str =
+    "rate 300000 300000 300000 nan 60000:60/1 120000:120/1 180000:180/1 240000:240/1 300000:300/1 => 1/1
 increase 300000 300000 300000 nan 60000:60/1 120000:120/1 180000:180/1 240000:240/1 300000:300/1 => 300/1
 increase 240000 180000 180000 nan 0:0/1 60000:10/1 120000:5/1 180000:15/1 => 25/1
 changes 240000 180000 180000 nan 0:1/1 60000:1/1 120000:2/1 180000:1/1 => 2/1
@@ -337,7 +338,11 @@ fn windows(rt: HostRuntime) -> Result<(), Fail> {
         let range = milliseconds(words.next())?;
         let moment = milliseconds(words.next())?;
         let eval = milliseconds(words.next())?;
-        let frame = WindowFrame { eval, moment, range };
+        let frame = WindowFrame {
+            eval,
+            moment,
+            range,
+        };
         let arg = read(words.next().ok_or("no parameter")?)?;
         let mut times = Vec::new(rt.alloc());
         let mut values = Vec::new(rt.alloc());
@@ -346,7 +351,14 @@ fn windows(rt: HostRuntime) -> Result<(), Fail> {
             times.push(milliseconds(Some(time))?)?;
             values.push(read(value)?)?;
         }
-        let found = answered(rt.alloc(), f, times.as_slice(), values.as_slice(), &frame, &arg)?;
+        let found = answered(
+            rt.alloc(),
+            f,
+            times.as_slice(),
+            values.as_slice(),
+            &frame,
+            &arg,
+        )?;
         assert_eq!(rt; found, answer(wanted)?, "{line}");
     }
     assert_eq!(rt; CALLS.lines().count(), 216);

@@ -30,8 +30,7 @@ pub fn over(
     requires some { 0 < length values.now }
     requires frame { IsFrame frame.now }
     requires times { All (IsInFrame frame.now) times.now }
-    ensures value {
-        IfOk result (λ row. over_of f times.now values.now frame.now arg.now ≡ Ok row) }
+    ensures value { IfOk result (λ row. over_of f times.now values.now frame.now arg.now ≡ Ok row) }
     ensures no_row { (result ≡ Ok None) ↔ IsTrue (has_no_row f values.now) }
     ensures overflow { result ≡ Err WindowFault.Overflow
         → over_of f times.now values.now frame.now arg.now ≡ Err NumFault.Overflow }

@@ -7,4 +7,4 @@ use Rattle.window_fn.proofs.aggregates.total_square.Goals as goal
 pub with_answer-sum-requires : goal.with_answer-sum-requires
 with_answer-sum-requires c =
     few_answers c.loop-value.sum _ c.loop-value.invariant
-      (omega (arith, length-map (take c.loop-value.value-index c.args.values.now) (squared_distance c.args.mean.now), length-take-le c.loop-value.value-index c.args.values.now c.loop-value.auto.value-index-end))
+    (omega (arith, length-map (take c.loop-value.value-index c.args.values.now) (squared_distance c.args.mean.now), length-take-le c.loop-value.value-index c.args.values.now c.loop-value.auto.value-index-end))

@@ -26,8 +26,8 @@ pub loop-i-preserved : goal.loop-i-preserved
 loop-i-preserved c =
     let values = c.args.values.now in
     subst (λ l. IsSumOf c.with_loss-sum.result (behind_ends values l))
-      (sym (lost-more values c.loop-i.i c.index-values-i.result c.index-values-i-in-loop-i.result c.loop-i.auto.i c.loop-i-test.true c.index-values-i.is c.index-values-i-in-loop-i.is))
-      (c.with_loss-sum.ensures _ c.loop-i.invariant)
+    (sym (lost-more values c.loop-i.i c.index-values-i.result c.index-values-i-in-loop-i.result c.loop-i.auto.i c.loop-i-test.true c.index-values-i.is c.index-values-i-in-loop-i.is))
+    (c.with_loss-sum.ensures _ c.loop-i.invariant)
 
 pub returns : goal.returns
 returns c =

@@ -33,5 +33,5 @@ loop-i-preserved c =
     let ys : take (i + 1) values ≡ take i values ++ c.index-values-i.result ∷ [] = take_more values i c.index-values-i.result c.loop-i-test.true ∙ ap (λ v. take i values ++ v ∷ []) (sym c.index-values-i.is) in
     let long : length (take i (spans origin times)) ≡ length (take i values) = omega (arith, length-take i (spans origin times), length-take i values, length-spans origin times) in
     subst (λ l. AreSumsOf c.with_point-sums.result l (take (i + 1) values)) (sym xs)
-      (subst (λ l. AreSumsOf c.with_point-sums.result (take i (spans origin times) ++ c.between-x.result ∷ []) l) (sym ys)
-        (c.with_point-sums.ensures (take i (spans origin times)) (take i values) long c.loop-i.invariant))
+    (subst (λ l. AreSumsOf c.with_point-sums.result (take i (spans origin times) ++ c.between-x.result ∷ []) l) (sym ys)
+    (c.with_point-sums.ensures (take i (spans origin times)) (take i values) long c.loop-i.invariant))
