@@ -1,6 +1,6 @@
 -- The body of a string.
-use Rattle.std.proofs.Common.{◌≡◌, ℕ, zero, suc, ◌+◌, ◌-◌, ◌<◌, refl, ap, ◌∙◌, sym, Bool, true, false, cond, eqb, List, [], ◌∷◌, ◌++◌, append_assoc, length, drop, arith}
-use Rattle.std.specs.Prelude.{slice_index_or, encode_utf8, ◌==◌, Option, Some, None, option_map, Result, Ok, Err}
+use Rattle.std.proofs.Common.{◌≡◌, ℕ, ◌+◌, ◌<◌, refl, ap, ◌∙◌, sym, true, false, cond, eqb, List, [], ◌∷◌, ◌++◌, append_assoc, length, drop, arith}
+use Rattle.std.specs.Prelude.{slice_index_or, encode_utf8, Some, None, Result, Ok, Err}
 use Rattle.promql_lex.specs.Quoted.{decoded, escape_at, behind, after_escape}
 use Rattle.promql_lex.specs.declared.escape.Escape.{Escape}
 use Rattle.promql_lex.proofs.Waits.{decoded_wait}

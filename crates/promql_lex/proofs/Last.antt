@@ -1,5 +1,5 @@
 -- A refused spelling is the last token.
-use Rattle.std.proofs.Common.{◌≡◌, ℕ, zero, suc, ◌+◌, ◌-◌, ◌++◌, Bool, true, false, cond, List, [], ◌∷◌, ap}
+use Rattle.std.proofs.Common.{◌≡◌, ℕ, zero, suc, ◌+◌, ◌-◌, ◌++◌, Bool, true, false, List, [], ◌∷◌, ap}
 use Rattle.std.specs.Prelude.{if◌then◌else◌, Option, Some, None, ⊤}
 use Rattle.promql_lex.specs.Pieces.{piece_at}
 use Rattle.promql_lex.specs.Tokens.{inside_behind, is_bad, tokens_from, with_kind}

@@ -1,6 +1,6 @@
 -- How long pieces are.
-use Rattle.std.proofs.Common.{◌≡◌, ℕ, zero, suc, ◌+◌, ◌-◌, ◌<◌, ◌≤◌, Bool, true, false, cond, List, [], ◌∷◌, length, take, drop, refl, arith, length-drop}
-use Rattle.std.specs.Prelude.{◌&&◌, ◌||◌, ◌==◌, not, if◌then◌else◌, Option, Some, None, option_map, IfSome, ⊤}
+use Rattle.std.proofs.Common.{◌≡◌, ℕ, suc, ◌+◌, ◌<◌, ◌≤◌, Bool, true, false, List, [], ◌∷◌, length, take, drop, refl, arith, length-drop}
+use Rattle.std.specs.Prelude.{◌&&◌, ◌||◌, ◌==◌, not, if◌then◌else◌, Option, Some, None, option_map, IfSome}
 use Rattle.std.specs.List.{prefix_len}
 use Rattle.std.proofs.lemmas.List.Sums.{prefix_len-le-length}
 use Rattle.std.proofs.lemmas.Grind.{common_steps}
@@ -55,7 +55,7 @@ within_run : (text : List ℕ) → run_len text ≤ length text
 within_run text =
     omega (arith, within_signed text, prefix_len-le-length is_word_byte (drop (signed_len text) text), length-drop (signed_len text) text)
 
-some_run : (byte : ℕ) (bytes : List ℕ) → begins_number byte bytes ≡ true → 0 < run_len (byte ∷ bytes)
+pub some_run : (byte : ℕ) (bytes : List ℕ) → begins_number byte bytes ≡ true → 0 < run_len (byte ∷ bytes)
 some_run byte bytes h = grind (arith, common_steps)
 
 map_below : (o : Option ℕ) (n : ℕ) → IfSome o (λ k. k < n) → IfSome (option_map (λ k. k + 1) o) (λ k. k < suc n)
@@ -117,14 +117,14 @@ module _ (P : Piece → Type 0) (inside : Bool) (at byte : ℕ) (bytes : List �
   abbrev but_blank : Piece
   but_blank = if begins_comment byte then gap (1 + prefix_len is_comment_byte bytes) else but_comment
 
-  pub by_piece : (is_blank byte ≡ true → P (gap 1)) → (begins_comment byte ≡ true → P (gap (1 + prefix_len is_comment_byte bytes))) → P (string_at byte at bytes) → P (raw_at at bytes)
+  pub by_piece : (is_blank byte ≡ true → P (gap 1)) → (begins_comment byte ≡ true → P (gap (1 + prefix_len is_comment_byte bytes))) → ((byte == 34 || byte == 39) ≡ true → P (string_at byte at bytes)) → ((byte == 96) ≡ true → P (raw_at at bytes))
       → (begins_number byte bytes ≡ true → P (number_at at (byte ∷ bytes))) → (starts_name inside byte ≡ true → P (name_at inside (byte ∷ bytes))) → P (sign_at at byte bytes)
       → P (piece_at inside at byte bytes)
   by_piece blank comment quoted raw number name sign =
       if_both P (is_blank byte) (gap 1) but_blank blank
       (λ _. if_both P (begins_comment byte) (gap (1 + prefix_len is_comment_byte bytes)) but_comment comment
-      (λ _. if_both P (byte == 34 || byte == 39) (string_at byte at bytes) but_quoted (λ _. quoted)
-      (λ _. if_both P (byte == 96) (raw_at at bytes) but_raw (λ _. raw)
+      (λ _. if_both P (byte == 34 || byte == 39) (string_at byte at bytes) but_quoted quoted
+      (λ _. if_both P (byte == 96) (raw_at at bytes) but_raw raw
       (λ _. if_both P (begins_number byte bytes) (number_at at (byte ∷ bytes)) but_number number
       (λ _. if_both P (starts_name inside byte) (name_at inside (byte ∷ bytes)) (sign_at at byte bytes) name
       (λ _. sign))))))
@@ -134,13 +134,13 @@ sign_fits at byte bytes =
     by_sign (Fits (1 + length bytes)) at byte bytes (λ h. (omega arith, omega (arith, double_room byte bytes h))) (omega arith, omega arith)
     (omega arith, omega (arith, prefix_len-le-length is_continuation bytes))
 
-some_name : (inside : Bool) (byte : ℕ) (bytes : List ℕ) → starts_name inside byte ≡ true → 0 < prefix_len (continues_name inside) (byte ∷ bytes)
+pub some_name : (inside : Bool) (byte : ℕ) (bytes : List ℕ) → starts_name inside byte ≡ true → 0 < prefix_len (continues_name inside) (byte ∷ bytes)
 some_name inside byte bytes h = grind (arith, common_steps)
 
 pub piece_fits : (inside : Bool) (at byte : ℕ) (bytes : List ℕ) → Fits (1 + length bytes) (piece_at inside at byte bytes)
 piece_fits inside at byte bytes =
     by_piece (Fits (1 + length bytes)) inside at byte bytes (λ _. (omega arith, omega arith)) (λ _. (omega arith, omega (arith, prefix_len-le-length is_comment_byte bytes)))
-    (closed_fits byte at bytes (body_len false byte bytes) (body_within false byte bytes)) (raw_fits at bytes (raw_len bytes) (raw_within bytes))
+    (λ _. closed_fits byte at bytes (body_len false byte bytes) (body_within false byte bytes)) (λ _. raw_fits at bytes (raw_len bytes) (raw_within bytes))
     (λ h. (some_run byte bytes h, omega (arith, within_run (byte ∷ bytes))))
     (λ h. (some_name inside byte bytes h, omega (arith, prefix_len-le-length (continues_name inside) (byte ∷ bytes))))
     (sign_fits at byte bytes)

@@ -1,5 +1,5 @@
 -- How the spans of tokens lie in their text.
-use Rattle.std.proofs.Common.{◌≡◌, ℕ, zero, suc, ◌+◌, ◌-◌, ◌<◌, ◌≤◌, ◌++◌, ◌∙◌, Bool, true, false, cond, List, [], ◌∷◌, length, take, drop, refl, ap, sym, subst, arith, length-drop, not, eqb-true}
+use Rattle.std.proofs.Common.{◌≡◌, ℕ, zero, suc, ◌+◌, ◌-◌, ◌<◌, ◌≤◌, ◌∙◌, Bool, true, false, cond, List, [], ◌∷◌, length, take, drop, refl, ap, sym, subst, arith, length-drop, not, eqb-true}
 use Rattle.std.proofs.Math.Seq.{take-nil}
 use Rattle.std.specs.Prelude.{◌&&◌, ◌==◌, if◌then◌else◌, Option, Some, None}
 use Rattle.std.proofs.lemmas.Bool.{false_from_ne_true, true_from_ne_false}
@@ -21,7 +21,7 @@ use Rattle.promql_lex.specs.declared.token.TokenKind.{TokenKind}
 use Rattle.promql_lex.proofs.Sizes.{by_piece, by_sign, piece_fits}
 use Rattle.promql_lex.proofs.Waits.{drop_behind}
 
-and_both : (a b : Bool) → a ≡ true → b ≡ true → (a && b) ≡ true
+pub and_both : (a b : Bool) → a ≡ true → b ≡ true → (a && b) ≡ true
 and_both true b p q = q
 and_both false b p q = absurd (cc)
 
@@ -123,7 +123,7 @@ gap_joins : (inside : Bool) (at byte : ℕ) (bytes : List ℕ) → (piece_at ins
 gap_joins inside at byte bytes =
     let P = λ (p : Piece). p.kind ≡ None → Joins p.size (byte ∷ bytes) in
     by_piece P inside at byte bytes (λ blank _. blank_joins byte bytes blank) (λ hash _. comment_joins byte bytes hash)
-    (λ h. absurd (closed_some byte at bytes (body_len false byte bytes) h)) (λ h. absurd (raw_some at bytes (raw_len bytes) h))
+    (λ _ h. absurd (closed_some byte at bytes (body_len false byte bytes) h)) (λ _ h. absurd (raw_some at bytes (raw_len bytes) h))
     (λ _ h. absurd (token_some (run_len (byte ∷ bytes)) (run_kind at (take (run_len (byte ∷ bytes)) (byte ∷ bytes))) h))
     (λ _ h. absurd (token_some (prefix_len (continues_name inside) (byte ∷ bytes)) (name_kind (take (prefix_len (continues_name inside) (byte ∷ bytes)) (byte ∷ bytes))) h))
     (by_sign P at byte bytes (λ _ h. absurd (token_some 2 Sign h)) (λ h. absurd (token_some 1 Sign h)) (λ h. absurd (token_some (character_len bytes) (Bad (BadToken at)) h)))
@@ -136,18 +136,28 @@ behind_gap n at text (t ∷ ts) joins fits h =
     let before : at ≤ t.at = omega (arith, h.0) in
     let up : n + (t.at - (at + n)) ≡ t.at - at = omega (arith, h.0) in
     let over : n + (t.end - (at + n)) ≡ t.end - at = omega (arith, h.0, h.1) in
-    let ends : t.end ≤ at + length text = omega (arith, h.2, length-drop n text, fits) in
-    (before, h.1, ends, subst (λ m. is_gap false (take m text) ≡ true) up (joins.part (t.at - (at + n)) h.3), h.4,
-     λ good. subst (λ xs. AreLaidOut t.end xs ts) (drop-drop (t.end - (at + n)) n text ∙ ap (λ m. drop m text) over) (h.5 good))
+    let ends : t.end ≤ at + length text = omega (arith, h.2, length-drop n text, fits) in (
+      before,
+      h.1,
+      ends,
+      subst (λ m. is_gap false (take m text) ≡ true) up (joins.part (t.at - (at + n)) h.3),
+      h.4,
+      λ good. subst (λ xs. AreLaidOut t.end xs ts) (drop-drop (t.end - (at + n)) n text ∙ ap (λ m. drop m text) over) (h.5 good),
+    )
 
 behind_token : (n at : ℕ) (text : List ℕ) (kind : TokenKind) (ts : List Token) → 0 < n → n ≤ length text → AreLaidOut (at + n) (drop n text) ts
     → AreLaidOut at text (token_of at n kind ∷ (if is_bad kind then [] else ts))
 behind_token n at text kind ts some fits h =
     let none : 0 ≡ at - at = omega arith in
-    let over : n ≡ at + n - at = omega arith in
-    (omega arith, omega (arith, some), omega (arith, fits), subst (λ m. is_gap false (take m text) ≡ true) none refl, λ bad. ap (λ b. if b then [] else ts) bad,
-     λ good. subst (λ xs. AreLaidOut (at + n) xs (if is_bad kind then [] else ts)) (ap (λ m. drop m text) over)
-         (subst (λ b. AreLaidOut (at + n) (drop n text) (if b then [] else ts)) (sym good) h))
+    let over : n ≡ at + n - at = omega arith in (
+      omega arith,
+      omega (arith, some),
+      omega (arith, fits),
+      subst (λ m. is_gap false (take m text) ≡ true) none refl,
+      λ bad. ap (λ b. if b then [] else ts) bad,
+      λ good. subst (λ xs. AreLaidOut (at + n) xs (if is_bad kind then [] else ts)) (ap (λ m. drop m text) over)
+          (subst (λ b. AreLaidOut (at + n) (drop n text) (if b then [] else ts)) (sym good) h),
+    )
 
 behind_piece : (n at : ℕ) (text : List ℕ) (kind : Option TokenKind) (ts : List Token) → 0 < n → n ≤ length text → (kind ≡ None → Joins n text) → AreLaidOut (at + n) (drop n text) ts
     → AreLaidOut at text (with_kind at n kind ts)
@@ -169,8 +179,8 @@ laid_out zero inside at (byte ∷ bytes) =
     let later = tokens_from (p.size - 1) (inside_behind inside byte) (at + 1) bytes in
     let e : at + 1 + (p.size - 1) ≡ at + p.size = omega (arith, fits.0) in
     let h : AreLaidOut (at + p.size) (drop p.size (byte ∷ bytes)) later =
-        subst (λ xs. AreLaidOut (at + p.size) xs later) (sym (drop_behind p.size byte bytes fits.0))
-        (subst (λ m. AreLaidOut m (drop (p.size - 1) bytes) later) e (laid_out (p.size - 1) (inside_behind inside byte) (at + 1) bytes)) in
+    subst (λ xs. AreLaidOut (at + p.size) xs later) (sym (drop_behind p.size byte bytes fits.0))
+    (subst (λ m. AreLaidOut m (drop (p.size - 1) bytes) later) e (laid_out (p.size - 1) (inside_behind inside byte) (at + 1) bytes)) in
     let z : at ≡ at + 0 = omega arith in
     subst (λ m. AreLaidOut m (byte ∷ bytes) (with_kind at p.size p.kind later)) z
     (behind_piece p.size at (byte ∷ bytes) p.kind later fits.0 (long p.size byte bytes fits.1) (gap_joins inside at byte bytes) h)

@@ -1,8 +1,17 @@
--- What holds of the tokens of every text: how their spans lie in it.
-use Rattle.std.specs.Prelude.{◌≡◌, ℕ, ◌+◌, ◌-◌, ◌<◌, ◌≤◌, Bool, true, false, ◌&&◌, if◌then◌else◌, List, [], ◌∷◌, length, take, drop, IsTrue}
+-- What holds of the tokens of every text: how their spans lie in it, and what each spelling is.
+use Rattle.std.specs.Prelude.{◌≡◌, ℕ, ◌+◌, ◌-◌, ◌<◌, ◌≤◌, Bool, true, false, ◌++◌, ◌==◌, ◌&&◌, ◌||◌, if◌then◌else◌, List, [], ◌∷◌, length, take, drop, IsTrue}
 use Rattle.promql_lex.specs.Gaps.{begins_comment, is_blank, is_comment_byte}
+use Rattle.promql_lex.specs.Names.{continues_name, name_kind, starts_name}
+use Rattle.promql_lex.specs.Pieces.{decoded_kind, run_kind, text_kind}
+use Rattle.promql_lex.specs.Quoted.{decoded}
+use Rattle.promql_lex.specs.Signs.{is_double, is_single}
 use Rattle.promql_lex.specs.Tokens.{is_bad}
 use Rattle.promql_lex.specs.declared.token.Token.{Token}
+use Rattle.promql_lex.specs.declared.token.TokenKind.{TokenKind}
+use Rattle.promql_lex.specs.declared.token.TokenKind.TheVariants.{Sign, Bad}
+use Rattle.promql_ast.specs.declared.refusal.QueryRefusal.TheVariants.{BadToken, Unterminated}
+use Rattle.std.specs.Char.{is_ascii_digit}
+use Rattle.std.specs.List.{list_all}
 
 -- blanks and comments alone (`commented`: the text begins within a comment)
 abbrev pub is_gap : Bool → List ℕ → Bool
@@ -17,3 +26,33 @@ AreLaidOut place text [] = IsTrue (is_gap false text)
 AreLaidOut place text (t ∷ ts) =
     (place ≤ t.at) × (t.at < t.end) × (t.end ≤ place + length text) × IsTrue (is_gap false (take (t.at - place) text))
     × (is_bad t.kind ≡ true → ts ≡ []) × (is_bad t.kind ≡ false → AreLaidOut t.end (drop (t.end - place) text) ts)
+
+-- the first byte of a spelling passes a test
+abbrev pub first_is : (ℕ → Bool) → List ℕ → Bool
+first_is p [] = false
+first_is p (byte ∷ bytes) = p byte
+
+abbrev pub is_quote : ℕ → Bool
+is_quote byte = byte == 34 || byte == 39
+
+abbrev pub is_sign : List ℕ → Bool
+is_sign (a ∷ []) = is_single a
+is_sign (a ∷ (b ∷ [])) = is_double a b
+is_sign _ = false
+
+-- what a spelling at a place is: its kind is told by its bytes alone
+pub data IsSpelling (at : ℕ) : List ℕ → TokenKind → Type 0 where
+  -- a name, which may be a word, or `Inf` or `NaN`
+  named : (inside : Bool) (s : List ℕ) → IsTrue (first_is (starts_name inside) s) → IsTrue (list_all (continues_name inside) s) → IsSpelling at s (name_kind s)
+  -- a run of digits: a number or a duration, or refused
+  counted : (s : List ℕ) → IsTrue (first_is (λ b. is_ascii_digit b || b == 46) s) → IsSpelling at s (run_kind at s)
+  -- a body between two equal quotes, with escapes
+  quoted : (quote : ℕ) (body s : List ℕ) → IsTrue (is_quote quote) → s ≡ quote ∷ body ++ quote ∷ [] → IsSpelling at s (decoded_kind at (decoded 0 quote (at + 1) body))
+  -- a body between backquotes
+  raw : (body s : List ℕ) → s ≡ 96 ∷ body ++ 96 ∷ [] → IsSpelling at s (text_kind at body)
+  -- a quote without its end
+  unclosed : (s : List ℕ) → IsTrue (first_is (λ b. is_quote b || b == 96) s) → IsSpelling at s (Bad (Unterminated at))
+  -- a sign
+  signed : (s : List ℕ) → IsTrue (is_sign s) → IsSpelling at s Sign
+  -- a character that begins no token
+  refused : (s : List ℕ) → IsSpelling at s (Bad (BadToken at))

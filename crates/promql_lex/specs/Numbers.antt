@@ -1,7 +1,7 @@
 -- Numbers and durations. What a number is, and what a duration, is said by their readers. Here stands how far the digits at
 -- the front of a text go: a number's digits, with a point and with an exponent's sign, and all letters, digits and
 -- underscores behind them. (PromQL's literals and durations.)
-use Rattle.std.specs.Prelude.{ℕ, ◌+◌, Bool, true, false, ◌==◌, ◌&&◌, ◌||◌, not, nat_lt, if◌then◌else◌, List, [], ◌∷◌, take, drop, Result, Ok, Err}
+use Rattle.std.specs.Prelude.{ℕ, ◌+◌, Bool, true, false, ◌==◌, ◌&&◌, ◌||◌, not, if◌then◌else◌, List, [], ◌∷◌, take, drop, Result, Ok, Err}
 use Rattle.std.specs.Char.{is_ascii_alphanumeric, is_ascii_digit, is_ascii_hexdigit}
 use Rattle.std.specs.List.{prefix_len}
 use Rattle.frac_text.specs.Decimals.{are_digits, fraction_of, is_optional_run}

@@ -1,6 +1,6 @@
 -- Strings: in double or single quotes with escapes, or raw in backquotes. (PromQL's string literals, which follow Go's. That
 -- escapes of a byte are refused above 127 is this project's own, so that each string is a text.)
-use Rattle.std.specs.Prelude.{ℕ, zero, suc, ◌+◌, ◌*◌, Bool, true, false, ◌==◌, ◌&&◌, ◌||◌, not, nat_lt, if◌then◌else◌, List, [], ◌∷◌, ◌++◌, Option, Some, None, option_map, Result, Ok, Err, encode_utf8}
+use Rattle.std.specs.Prelude.{ℕ, zero, suc, ◌+◌, ◌*◌, Bool, ◌==◌, ◌&&◌, ◌||◌, not, nat_lt, if◌then◌else◌, List, [], ◌∷◌, ◌++◌, Option, Some, None, option_map, Result, Ok, Err, encode_utf8}
 use Rattle.std.specs.Char.{digit_value}
 use Rattle.promql_lex.specs.declared.escape.Escape.{Escape}
 

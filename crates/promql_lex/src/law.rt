@@ -1,7 +1,7 @@
-ghost use Rattle.promql_lex.specs.Laws.{AreLaidOut};
+ghost use Rattle.promql_lex.specs.Laws.{AreLaidOut, IsSpelling};
 ghost use Rattle.promql_lex.specs.Tokens.{is_bad, tokens_of};
 ghost use Rattle.promql_lex.specs.declared.token.Token.{Token};
-ghost use Rattle.std.specs.Prelude.{◌≡◌, ◌++◌, ℕ, List, [], ◌∷◌, IsTrue};
+ghost use Rattle.std.specs.Prelude.{◌≡◌, ◌++◌, ◌-◌, ℕ, List, [], ◌∷◌, drop, take, IsTrue};
 
 /// A law, with nothing to run: the spans of a text's tokens rise, and what stands before each, between them and behind the
 /// last one is blanks and comments alone, save behind a refused spelling.
@@ -12,4 +12,9 @@ pub fn spans_lie_in_order()
 /// A law, with nothing to run: a refused spelling is the last token of its text, so there is at most one.
 pub fn refused_spellings_are_last()
     ensures { (text : List ℕ) (front : List Token) (t : Token) (back : List Token) → tokens_of text ≡ front ++ t ∷ back → IsTrue (is_bad t.kind) → back ≡ [] }
+{}
+
+/// A law, with nothing to run: the kind of each token is that of its span's spelling.
+pub fn kinds_are_of_spellings()
+    ensures { (text : List ℕ) (front : List Token) (t : Token) (back : List Token) → tokens_of text ≡ front ++ t ∷ back → IsSpelling t.at (take (t.end - t.at) (drop t.at text)) t.kind }
 {}

@@ -1,4 +1,7 @@
-use crate::{LexFault, Token, TokenKind, refused_spellings_are_last, spans_lie_in_order, tokens};
+use crate::{
+    LexFault, Token, TokenKind, kinds_are_of_spellings, refused_spellings_are_last,
+    spans_lie_in_order, tokens,
+};
 use frac_text::write_number;
 use promql_ast::QueryRefusal;
 use std::alloc::{AllocError, Global};
@@ -398,6 +401,7 @@ fn described(alloc: Global, tokens: &[Token]) -> Result<String, Fail> {
 #[test]
 fn texts_have_their_tokens(rt: HostRuntime) -> Result<(), Fail> {
     let alloc = rt.alloc();
+    kinds_are_of_spellings();
     refused_spellings_are_last();
     spans_lie_in_order();
     let mut rows = 0u32;

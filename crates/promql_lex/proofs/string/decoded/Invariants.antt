@@ -1,5 +1,4 @@
-use Rattle.std.proofs.Common.{◌≡◌, ◌+◌, ◌++◌, length, List, ℕ}
-use Rattle.std.specs.Prelude.{Result, Ok, Err}
+use Rattle.std.proofs.Common.{◌≡◌, ◌+◌, length}
 use Rattle.promql_lex.specs.Quoted.{decoded, behind}
 use Rattle.promql_lex.proofs.string.decoded.Given as goal
 
