@@ -124,12 +124,6 @@ x:1;y:2 and;on=__name__ y:7 y:2 -
 x:1;x:2 or - - S,x
 x,i=1:nan and y,i=1:0 x,i=1:nan -";
 
-#[derive(Clone, Copy)]
-enum Operator {
-    Pair(PairOp),
-    Set(SetOp),
-}
-
 fn value(text: &str) -> Result<XFrac, Fail> {
     if text == "inf" {
         return Ok(XFrac::PosInf);
@@ -176,14 +170,24 @@ fn labels(alloc: Global, text: &str) -> Result<Labels, Fail> {
 fn mark(alloc: Global, text: &str) -> Result<Mark, Fail> {
     let (kind, names) = text.split_once(',').unwrap_or((text, ""));
     let labels = labels(alloc, names)?;
-    match kind {
-        "O" => Ok(Mark::Overflow),
-        "I" => Ok(Mark::Irrational),
-        "S" => Ok(Mark::SameLabelset(labels)),
-        "D" => Ok(Mark::DuplicateOneSide(labels)),
-        "M" => Ok(Mark::ImplicitManyToOne(labels)),
-        "R" => Ok(Mark::DuplicateResult(labels)),
-        _ => Err("no mark")?,
+    if kind == "O" {
+        return Ok(Mark::Overflow);
+    }
+    if kind == "I" {
+        return Ok(Mark::Irrational);
+    }
+    match_mark(kind, labels)
+}
+
+fn match_mark(kind: &str, labels: Labels) -> Result<Mark, Fail> {
+    if kind == "S" {
+        Ok(Mark::SameLabelset(labels))
+    } else if kind == "D" {
+        Ok(Mark::DuplicateOneSide(labels))
+    } else if kind == "M" {
+        Ok(Mark::ImplicitManyToOne(labels))
+    } else {
+        Ok(Mark::DuplicateResult(labels))
     }
 }
 
@@ -242,63 +246,83 @@ fn names(alloc: Global, text: &str) -> Result<Items<Text>, Fail> {
     Ok(names)
 }
 
-fn comparison(word: &str) -> Result<CompareOp, Fail> {
-    match word {
-        "==" => Ok(CompareOp::Eq),
-        "!=" => Ok(CompareOp::Ne),
-        "<" => Ok(CompareOp::Lt),
-        "<=" => Ok(CompareOp::Le),
-        ">" => Ok(CompareOp::Gt),
-        ">=" => Ok(CompareOp::Ge),
-        _ => Err("no operator")?,
+fn comparison(word: &str) -> CompareOp {
+    if word == "==" {
+        CompareOp::Eq
+    } else if word == "!=" {
+        CompareOp::Ne
+    } else if word == "<" {
+        CompareOp::Lt
+    } else if word == "<=" {
+        CompareOp::Le
+    } else if word == ">" {
+        CompareOp::Gt
+    } else {
+        CompareOp::Ge
     }
 }
 
-fn operator_of(word: &str) -> Result<Operator, Fail> {
-    match word {
-        "and" => return Ok(Operator::Set(SetOp::And)),
-        "unless" => return Ok(Operator::Set(SetOp::Unless)),
-        "or" => return Ok(Operator::Set(SetOp::Or)),
-        "+" => return Ok(Operator::Pair(PairOp::Arith(ArithOp::Add))),
-        "-" => return Ok(Operator::Pair(PairOp::Arith(ArithOp::Sub))),
-        "*" => return Ok(Operator::Pair(PairOp::Arith(ArithOp::Mul))),
-        "/" => return Ok(Operator::Pair(PairOp::Arith(ArithOp::Div))),
-        "%" => return Ok(Operator::Pair(PairOp::Arith(ArithOp::Rem))),
-        "^" => return Ok(Operator::Pair(PairOp::Arith(ArithOp::Pow))),
-        _ => {}
+fn arithmetic(word: &str) -> Option<ArithOp> {
+    if word == "+" {
+        Some(ArithOp::Add)
+    } else if word == "-" {
+        Some(ArithOp::Sub)
+    } else if word == "*" {
+        Some(ArithOp::Mul)
+    } else if word == "/" {
+        Some(ArithOp::Div)
+    } else if word == "%" {
+        Some(ArithOp::Rem)
+    } else if word == "^" {
+        Some(ArithOp::Pow)
+    } else {
+        None
+    }
+}
+
+fn pair_operator(word: &str) -> PairOp {
+    if let Some(op) = arithmetic(word) {
+        return PairOp::Arith(op);
     }
     match word.strip_suffix('b') {
-        Some(word) => Ok(Operator::Pair(PairOp::Flag(comparison(word)?))),
-        None => Ok(Operator::Pair(PairOp::Filter(comparison(word)?))),
+        Some(word) => PairOp::Flag(comparison(word)),
+        None => PairOp::Filter(comparison(word)),
+    }
+}
+
+fn set_operator(word: &str) -> Option<SetOp> {
+    if word == "and" {
+        Some(SetOp::And)
+    } else if word == "unless" {
+        Some(SetOp::Unless)
+    } else if word == "or" {
+        Some(SetOp::Or)
+    } else {
+        None
     }
 }
 
 fn set_modifier(alloc: Global, p: &mut Pairing, word: &str) -> Result<(), Fail> {
     let (kind, list) = word.split_once('=').ok_or("no modifier")?;
     let list = names(alloc, list)?;
-    match kind {
-        "on" => {
-            p.on = true;
-            p.names = list;
-        }
-        "ign" => p.names = list,
-        "left" => {
-            p.card = Card::GroupLeft;
-            p.extra = list;
-        }
-        "right" => {
-            p.card = Card::GroupRight;
-            p.extra = list;
-        }
-        _ => return Err("no modifier")?,
+    if kind == "on" {
+        p.on = true;
+        p.names = list;
+        return Ok(());
     }
+    if kind == "ign" {
+        p.names = list;
+        return Ok(());
+    }
+    p.card = if kind == "left" { Card::GroupLeft } else { Card::GroupRight };
+    p.extra = list;
     Ok(())
 }
 
 /// The step of an operator with its modifiers.
 fn answer(alloc: Global, l: &Step, text: &str, r: &Step) -> Result<Step, Fail> {
     let mut words = text.split(';');
-    let op = operator_of(words.next().ok_or("no operator")?)?;
+    let word = words.next().ok_or("no operator")?;
     let mut p = Pairing {
         on: false,
         names: Items::new(alloc),
@@ -308,9 +332,9 @@ fn answer(alloc: Global, l: &Step, text: &str, r: &Step) -> Result<Step, Fail> {
     for word in words {
         set_modifier(alloc, &mut p, word)?;
     }
-    match op {
-        Operator::Pair(op) => Ok(pair(alloc, l, r, op, &p)?),
-        Operator::Set(op) => Ok(combine(alloc, l, r, op, &p)?),
+    match set_operator(word) {
+        Some(op) => Ok(combine(alloc, l, r, op, &p)?),
+        None => Ok(pair(alloc, l, r, pair_operator(word), &p)?),
     }
 }
 
