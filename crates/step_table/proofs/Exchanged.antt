@@ -1,10 +1,8 @@
 -- One to one, a pair under `+` gives the same with its sides exchanged.
-use Rattle.std.proofs.Common.{◌≡◌, ◌<◌, ℕ, zero, suc, arith, List, [], ◌∷◌, refl, ap, Some, None, Option, Ok, lit<}
+use Rattle.std.proofs.Common.{◌≡◌, ◌<◌, ℕ, zero, suc, arith, [], ◌∷◌, refl, ap, Some, None, Option, Ok, lit<}
 use Rattle.std.specs.Prelude.{slice_index_or}
 use Rattle.std.specs.List.{All}
 use Rattle.std.specs.List.Sorted.{IsPermutation}
-use Rattle.label_set.specs.Labels.{without, metric_name}
-use Rattle.label_set.specs.declared.rules.Pairing.{Pairing}
 use Rattle.xfrac.specs.Laws.{IsNumber, SumIgnoresOrder}
 use Rattle.xfrac.specs.declared.value.ArithOp.TheVariants.{Add}
 use Rattle.xfrac.specs.declared.value.PairOp.TheVariants.{Arith}
@@ -14,7 +12,6 @@ use Rattle.step_table.specs.Laws.{one_to_one, PlusIsExchanged}
 use Rattle.step_table.specs.Groups.{Names}
 use Rattle.step_table.specs.Matching.{pair_outcome}
 use Rattle.step_table.specs.declared.outcomes.Outcome.{Outcome}
-use Rattle.step_table.specs.declared.step.Row.{Row}
 
 swapped : (x y : XFrac) → IsPermutation (x ∷ y ∷ []) (y ∷ x ∷ [])
 swapped x y = record { moves = (0, 1) ∷ []; below = (lit< tt, lit< tt, tt); is = refl }

@@ -1,5 +1,5 @@
 -- Rows that share their labels with no other are in order.
-use Rattle.std.proofs.Common.{◌≡◌, ◌∙◌, Bool, true, false, cond, List, [], ◌∷◌, map, refl, sym, ap, subst, Some, None, Option}
+use Rattle.std.proofs.Common.{◌≡◌, true, false, cond, List, [], ◌∷◌, map, refl, subst, Some, None, Option}
 use Rattle.std.specs.Prelude.{filter}
 use Rattle.std.specs.declared.cmp.Ordering.{Ordering}
 use Rattle.std.specs.declared.cmp.Ordering.TheVariants.{Less, Equal, Greater}
@@ -7,9 +7,9 @@ use Rattle.std.specs.Ordering.{is_eq}
 use Rattle.std.specs.BTreeMap.{is_at}
 use Rattle.std.specs.List.{AllByRecursion, filter_map}
 use Rattle.std.specs.List.Sorted.{IsStrictlySortedBy}
-use Rattle.std.specs.Map.{values_of, keys_of}
+use Rattle.std.specs.Map.{values_of}
 use Rattle.label_set.specs.Labels.{labels_cmp}
-use Rattle.label_set.specs.LabelOrder.{labels_cmp_total, labels_cmp_ties}
+use Rattle.label_set.specs.LabelOrder.{labels_cmp_ties}
 use Rattle.step_table.specs.Groups.{Names, items_of, gathered, alone, lone_items}
 use Rattle.step_table.specs.Outcomes.{keyed}
 use Rattle.step_table.specs.WellFormed.{IsTable}

@@ -1,16 +1,16 @@
 -- The one side as it is kept, and as it is defined.
-use Rattle.std.proofs.Common.{◌≡◌, ◌∙◌, ℕ, Bool, true, false, cond, List, [], ◌∷◌, map, refl, sym, ap, Some, None, Option}
+use Rattle.std.proofs.Common.{◌≡◌, ◌∙◌, true, false, cond, List, [], ◌∷◌, map, refl, sym, ap, Some, None, Option}
 use Rattle.std.specs.Prelude.{filter, unwrap_or}
 use Rattle.std.specs.BTreeMap.{is_at}
 use Rattle.std.specs.List.{filter_map}
-use Rattle.std.specs.Map.{keys_of, values_of, lookup}
+use Rattle.std.specs.Map.{values_of, lookup}
 use Rattle.std.specs.Option.{option_map}
 use Rattle.std.proofs.lemmas.Map.Made.{keys_of-map_values, lookup-map_values}
 use Rattle.label_set.specs.Labels.{labels_cmp}
 use Rattle.label_set.specs.declared.rules.Pairing.{Pairing}
 use Rattle.xfrac.specs.declared.value.PairOp.{PairOp}
-use Rattle.step_table.specs.Groups.{Names, names_among, items_of, gathered, alone, has_several, shared_of}
-use Rattle.step_table.specs.Matching.{signature_of, by_signature, partner_of, pair_outcome, match_of, matches}
+use Rattle.step_table.specs.Groups.{Names, names_among, items_of, gathered, alone, shared_of}
+use Rattle.step_table.specs.Matching.{signature_of, by_signature, pair_outcome, match_of, matches}
 use Rattle.step_table.specs.OneSides.{read, partner_in, match_in}
 use Rattle.step_table.specs.Unions.{set_of}
 use Rattle.step_table.specs.declared.step.Row.{Row}

@@ -1,6 +1,6 @@
 -- Pairs that are put one after another.
-use Rattle.std.proofs.Common.{◌≡◌, ◌∙◌, ℕ, zero, suc, ◌+◌, Bool, true, false, List, [], ◌∷◌, drop, refl, sym, ap, add-one, Some, None}
-use Rattle.std.specs.Prelude.{slice_get, is_some, MatchBool}
+use Rattle.std.proofs.Common.{◌≡◌, ◌∙◌, ℕ, zero, suc, ◌+◌, true, false, List, [], ◌∷◌, drop, refl, sym, ap, add-one, Some, None}
+use Rattle.std.specs.Prelude.{slice_get, is_some}
 use Rattle.label_set.specs.Labels.{put_refusal, with_pair}
 use Rattle.step_table.specs.Groups.{Names}
 use Rattle.step_table.specs.Operators.{all_put}

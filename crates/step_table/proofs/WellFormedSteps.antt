@@ -1,5 +1,5 @@
 -- Every call keeps steps well formed.
-use Rattle.std.proofs.Common.{◌≡◌, length, Bool, true, false, List, [], ◌∷◌, ◌+◌, cond, map, refl, sym, ap, arith}
+use Rattle.std.proofs.Common.{◌≡◌, length, Bool, true, false, List, [], ◌∷◌, ◌+◌, cond, map, refl, arith}
 use Rattle.std.specs.Prelude.{filter, not, ◌||◌, if◌then◌else◌}
 use Rattle.std.specs.List.Sorted.{IsStrictlySortedBy}
 use Rattle.func_table.specs.declared.table.SetOp.{SetOp}
@@ -8,13 +8,13 @@ use Rattle.label_set.specs.Labels.{labels_cmp}
 use Rattle.label_set.specs.declared.rules.Pairing.{Pairing}
 use Rattle.xfrac.specs.declared.value.PairOp.{PairOp}
 use Rattle.step_table.specs.Matching.{paired, pair_marks, uncrowded, left_rows, matches, many_side, one_side, is_empty}
-use Rattle.step_table.specs.OrderLaws.{mark_cmp_total, mark_cmp_ties, note_cmp_total, note_cmp_ties}
+use Rattle.step_table.specs.OrderLaws.{mark_cmp_total, mark_cmp_ties, note_cmp_total}
 use Rattle.step_table.specs.Orders.{mark_cmp}
 use Rattle.step_table.specs.Groups.{shared_names}
 use Rattle.step_table.specs.Outcomes.{settled, keyed}
-use Rattle.step_table.specs.Sets.{combined, is_on, rows_on, rows_off}
+use Rattle.step_table.specs.Sets.{combined, is_on}
 use Rattle.step_table.specs.Unions.{set_of, united, with_fatal}
-use Rattle.step_table.specs.WellFormed.{IsTable, AreSets, IsWellFormed}
+use Rattle.step_table.specs.WellFormed.{AreSets, IsWellFormed}
 use Rattle.step_table.specs.declared.marks.Mark.{Mark}
 use Rattle.step_table.specs.declared.marks.Mark.TheVariants.{SameLabelset}
 use Rattle.step_table.specs.declared.marks.Marks.{Marks}

@@ -2,7 +2,6 @@
 use Rattle.std.specs.Prelude.{◌≡◌, ◌+◌, Bool, ◌||◌, List, [], ◌∷◌, filter, length}
 use Rattle.std.specs.BTreeMap.{is_at}
 use Rattle.std.specs.List.{list_any}
-use Rattle.std.specs.List.Sorted.{IsStrictlySortedBy}
 use Rattle.func_table.specs.declared.table.SetOp.{SetOp}
 use Rattle.func_table.specs.declared.table.SetOp.TheVariants.{And, Unless, Or}
 use Rattle.label_set.specs.Labels.{metric_name, without}

@@ -1,7 +1,7 @@
 -- What an operator makes of two values, and which labels a pair of rows gets.
 -- (Prometheus querying, operators: binary operators and vector matching. The limits on labels are this project's own.)
 use Rattle.std.specs.Prelude.{ℕ, Bool, true, false, List, [], ◌∷◌, Option, Some, None, Result, Ok, Err, is_some, if◌then◌else◌}
-use Rattle.label_set.specs.Labels.{keep, without, signature, metric_name, put_refusal, with_pair}
+use Rattle.label_set.specs.Labels.{keep, without, metric_name, put_refusal, with_pair}
 use Rattle.label_set.specs.declared.rules.Card.{Card}
 use Rattle.label_set.specs.declared.rules.Card.TheVariants.{OneToOne, GroupLeft, GroupRight}
 use Rattle.label_set.specs.declared.rules.Pairing.{Pairing}

@@ -1,5 +1,5 @@
 -- The orders of marks and notes are total, and tie only equal ones: what sets of them rest on.
-use Rattle.std.proofs.Common.{◌≡◌, ◌∙◌, ℕ, ℤ, pos, List, [], refl, sym, ap, subst}
+use Rattle.std.proofs.Common.{◌≡◌, ℕ, ℤ, pos, List, [], refl, ap, subst}
 use Rattle.std.specs.Cmp.{IsTotalOrder}
 use Rattle.std.specs.Cmp.Lexicographic.{nat_list_cmp_total}
 use Rattle.std.specs.Ordering.{nat_cmp, int_cmp, then_cmp, on, ordering_then}

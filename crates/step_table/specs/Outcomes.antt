@@ -1,5 +1,5 @@
 -- What comes of the rows of a step: a value, nothing, or a fault.
-use Rattle.std.specs.Prelude.{List, [], map, Option, None, Some, Result, Ok, Err}
+use Rattle.std.specs.Prelude.{List, map, Option, None, Some, Result, Ok, Err}
 use Rattle.std.specs.List.{filter_map}
 use Rattle.xfrac.specs.declared.value.NumFault.{NumFault}
 use Rattle.xfrac.specs.declared.value.NumFault.TheVariants as fault

@@ -1,11 +1,10 @@
-use Rattle.std.proofs.Common.{◌≡◌, ◌∙◌, ◌++◌, List, map, ap}
+use Rattle.std.proofs.Common.{◌≡◌, ◌∙◌, ◌++◌, map, ap}
 use Rattle.std.specs.List.{filter_map}
-use Rattle.step_table.specs.Groups.{gathered, lone_items, shared_names, shared_of}
-use Rattle.step_table.specs.Matching.{by_signature, clash_mark, clash_marks, crowded, duplicates, faults_of, left_rows, matches, pair_marks, uncrowded}
-use Rattle.step_table.specs.OneSides.{match_in, read}
+use Rattle.step_table.specs.Groups.{lone_items, shared_names, shared_of}
+use Rattle.step_table.specs.Matching.{clash_mark, crowded, duplicates, faults_of, left_rows, matches, pair_marks, uncrowded}
+use Rattle.step_table.specs.OneSides.{match_in}
 use Rattle.step_table.specs.Outcomes.{keyed}
 use Rattle.step_table.specs.Unions.{with_fatal}
-use Rattle.step_table.specs.declared.marks.Mark.{Mark}
 use Rattle.step_table.specs.declared.marks.Mark.TheVariants.{DuplicateOneSide, ImplicitManyToOne}
 use Rattle.step_table.proofs.Partners.{matches_in_groups}
 use Rattle.step_table.proofs.matching.match_sides.Goals as goal

@@ -1,4 +1,4 @@
-use Rattle.std.proofs.Common.{◌≡◌, ◌∙◌, ap, map, None, Some}
+use Rattle.std.proofs.Common.{◌∙◌, ap, map, None, Some}
 use Rattle.step_table.specs.Groups.{alone}
 use Rattle.step_table.proofs.Partners.{partner_read}
 use Rattle.step_table.proofs.matching.partner.Goals as goal

@@ -1,4 +1,4 @@
-use Rattle.std.proofs.Common.{◌≡◌, ◌∙◌}
+use Rattle.std.proofs.Common.{◌∙◌}
 use Rattle.step_table.proofs.Partners.{shared_read}
 use Rattle.step_table.proofs.matching.shared_signatures.Goals as goal
 

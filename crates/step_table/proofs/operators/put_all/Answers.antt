@@ -1,4 +1,4 @@
-use Rattle.std.proofs.Common.{◌≡◌, ◌∙◌, sym}
+use Rattle.std.proofs.Common.{◌∙◌, sym}
 use Rattle.step_table.proofs.Puts.{put_stops, put_goes}
 use Rattle.step_table.proofs.operators.put_all.Goals as goal
 

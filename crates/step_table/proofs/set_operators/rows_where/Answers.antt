@@ -1,10 +1,7 @@
-use Rattle.std.proofs.Common.{◌≡◌, ◌∙◌, ap, map}
+use Rattle.std.proofs.Common.{◌≡◌, ◌∙◌, ap}
 use Rattle.std.specs.Prelude.{filter}
 use Rattle.std.proofs.lemmas.Result.{IfOk-weaker}
-use Rattle.label_set.specs.Labels.{labels_cmp}
-use Rattle.step_table.specs.Matching.{signature_of}
 use Rattle.step_table.specs.Sets.{is_wanted}
-use Rattle.step_table.specs.Unions.{set_of}
 use Rattle.step_table.proofs.Members.{wanted_are}
 use Rattle.step_table.proofs.set_operators.rows_where.Goals as goal
 

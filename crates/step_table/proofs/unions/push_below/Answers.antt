@@ -1,4 +1,4 @@
-use Rattle.std.proofs.Common.{◌≡◌, ◌∙◌, [], ◌∷◌, ◌++◌, refl, sym, ap}
+use Rattle.std.proofs.Common.{◌∙◌, [], ◌∷◌, ◌++◌, refl, sym, ap}
 use Rattle.step_table.proofs.Merges.{head_tail, ended_none, ended_less, ended_equal, goes_on}
 use Rattle.step_table.proofs.unions.push_below.Goals as goal
 
