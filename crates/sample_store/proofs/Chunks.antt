@@ -86,10 +86,11 @@ module _ (early bs : Samples) (at : Ms) (held : Held) (count : ℕ) (before : Al
       let l = p.2 in
       let l1 = length-append early (c ++ bs) in let l2 = length-append c bs in let l3 = length-append early (new ++ bs) in let l4 = length-append new bs in
       (refusal-lift c ∙ p.0, is, omega (arith, l, l1, l2, l3, l4), p.3, subst IsRising (sym is) (sorted_insert time_cmp time_cmp_total at held (early ++ (c ++ bs)) rising), p.5)
-  puts-lift c new (Err e) rising p =
-      (ap (λ z. early ++ (z ++ bs)) p.0,
-      subst (λ (z : Option StoreRefusal). MatchOption z ((e ≡ Memory) × (held_in (early ++ (c ++ bs)) at ≡ None)) (λ r. e ≡ r)) (sym (refusal-lift c))
-      (subst (λ (z : Option Held). MatchOption (refusal_in c at held count) ((e ≡ Memory) × (z ≡ None)) (λ r. e ≡ r)) (sym (held-lift c)) p.1))
+  puts-lift c new (Err e) rising p = (
+    ap (λ z. early ++ (z ++ bs)) p.0,
+    subst (λ (z : Option StoreRefusal). MatchOption z ((e ≡ Memory) × (held_in (early ++ (c ++ bs)) at ≡ None)) (λ r. e ≡ r)) (sym (refusal-lift c))
+        (subst (λ (z : Option Held). MatchOption (refusal_in c at held count) ((e ≡ Memory) × (z ≡ None)) (λ r. e ≡ r)) (sym (held-lift c)) p.1),
+  )
 
 -- a list in chunks at one of them
 pub flat-at : (chunks : List Samples) (k : ℕ) (c : Samples) → slice_get chunks k ≡ Some c → flat chunks ≡ flat (take k chunks) ++ (c ++ flat (drop (k + 1) chunks))
@@ -283,8 +284,13 @@ module _ (chunks : List Samples) (at : Ms) (rising : IsRising (flat chunks)) (fi
   pub parted-upper : (low high m : ℕ) (c : Samples) (t : Ms) → IsParted chunks at low high → low ≤ m → m < high → slice_get chunks m ≡ Some c → option_map (λ (s : Ms × Held). s.0) (slice_get c 0) ≡ Some t → t.0 ≤ℤ at.0 → IsParted chunks at (m + 1) high
   parted-upper low high m c t p l g h i f =
       let e : m + 1 - 1 ≡ m = omega arith in
-      record { some = omega arith; ordered = omega (arith, g); within = p.within;
-      early = subst (λ z. AllByRecursion (λ s. s.0.0 <ℤ at.0) (flat (take z chunks))) (sym e) (before-chunk m c h (λ u d. subst (λ (z : Ms). z.0 ≤ℤ at.0) (one-some (sym i ∙ d)) f)); late = p.late }
+      record {
+        some = omega arith;
+        ordered = omega (arith, g);
+        within = p.within;
+        early = subst (λ z. AllByRecursion (λ s. s.0.0 <ℤ at.0) (flat (take z chunks))) (sym e) (before-chunk m c h (λ u d. subst (λ (z : Ms). z.0 ≤ℤ at.0) (one-some (sym i ∙ d)) f));
+        late = p.late;
+      }
 
   pub chunk-found : (low high : ℕ) → IsParted chunks at low high → high ≤ low → IsChunkOf chunks at (low - 1)
   chunk-found low high p h =

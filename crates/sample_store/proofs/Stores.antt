@@ -25,7 +25,6 @@ use Rattle.sample_store.proofs.Columns.{length_inserted}
 use Rattle.sample_store.specs.Laws.{time_cmp_total}
 use Rattle.sample_store.specs.Laws.{held_same}
 
-
 pub store_empty : (series : AllSeries) → series ≡ [] → IsStore series 0
 unfolding IsDistinct
 store_empty series e = subst (λ z. IsStore z 0) (sym e) (record { distinct = tt; rising = tt; counted = refl; few_series = omega arith; few_samples = omega arith })
@@ -77,7 +76,6 @@ pub found-at : (series : AllSeries) (i : ℕ) (names : Names) (samples : Samples
     → IsFoundAt series names i
 found-at series i names samples d h = record { samples = samples; there = h; known = known-at series i names samples d h; changed = λ more. changed-at series i names samples more d h }
 
-
 count-set : (series : AllSeries) (i : ℕ) (names : Names) (old new : Samples) → slice_get series i ≡ Some (names, old)
     → sample_count (set_value_at series i new) + length old ≡ sample_count series + length new
 count-set [] i names old new h = absurd (cc)
@@ -103,7 +101,6 @@ rising-set : (series : AllSeries) (i : ℕ) (s : Samples) → AllByRecursion (λ
 rising-set [] i s a r = tt
 rising-set (x ∷ xs) zero s a r = (r, a.1)
 rising-set (x ∷ xs) (suc i) s a r = (a.0, rising-set xs i s a.1 r)
-
 
 set-same : {X : Type 0} (xs : List X) (i : ℕ) (x : X) → slice_get xs i ≡ Some x → slice_set xs i x ≡ xs
 set-same [] i x h = refl
@@ -144,8 +141,6 @@ room-free samples at held count None h =
 room-free samples at held count (Some i) h =
     ap (λ (o : Option Held). refusal_beside o (if nat_le 2000000 count then Some TooManySamples else None) held) h.0.absent
     ∙ ap (λ (b : Bool). if b then Some TooManySamples else None) (below 2000000 count h.1)
-
-
 
 -- a sample that is put into a series gives what the answer says
 pub puts-some : (samples new : Samples) (at : Ms) (held : Held) (count i : ℕ) → IsRising samples → IsRoomIn samples at held count (Some i) → new ≡ insert samples i (at, held) → Puts samples new at held count (Ok (count + 1))
@@ -262,17 +257,19 @@ module _ (series : AllSeries) (names : Names) (at : Ms) (held : Held) (place cou
 
   pub appends-ok : (new : AllSeries) (total : ℕ) → PutsAt series new place at held count (Ok total) → Appends series new names at held (Ok tt)
   appends-ok new total p =
-      let same = before-is p.names p.before p.there in
-      (refusal-is ∙ subst (λ (z : Samples). refusal_in z at held count ≡ None) same p.puts.0,
-      p.changed ∙ ap (set_value_at series place) (subst (λ (z : Samples). p.after ≡ insert_entry time_cmp z at held) same p.puts.1) ∙ sym with-is)
+      let same = before-is p.names p.before p.there in (
+        refusal-is ∙ subst (λ (z : Samples). refusal_in z at held count ≡ None) same p.puts.0,
+        p.changed ∙ ap (set_value_at series place) (subst (λ (z : Samples). p.after ≡ insert_entry time_cmp z at held) same p.puts.1) ∙ sym with-is,
+      )
 
   pub appends-err : (new : AllSeries) (e : StoreRefusal) → PutsAt series new place at held count (Err e) → Appends series new names at held (Err e)
   appends-err new e p =
-      let same = before-is p.names p.before p.there in
-      (left-as-was series new place count at held e p,
-      subst (λ (z : Option StoreRefusal). MatchOption z ((e ≡ Memory) × (held_in (samples_of series names) at ≡ None)) (λ r. e ≡ r)) (sym refusal-is)
-      (subst (λ (z : Samples). MatchOption (refusal_in f.samples at held count) ((e ≡ Memory) × (held_in z at ≡ None)) (λ r. e ≡ r)) (sym samples-are)
-      (subst (λ (z : Samples). MatchOption (refusal_in z at held count) ((e ≡ Memory) × (held_in z at ≡ None)) (λ r. e ≡ r)) same p.puts.1)))
+      let same = before-is p.names p.before p.there in (
+        left-as-was series new place count at held e p,
+        subst (λ (z : Option StoreRefusal). MatchOption z ((e ≡ Memory) × (held_in (samples_of series names) at ≡ None)) (λ r. e ≡ r)) (sym refusal-is)
+            (subst (λ (z : Samples). MatchOption (refusal_in f.samples at held count) ((e ≡ Memory) × (held_in z at ≡ None)) (λ r. e ≡ r)) (sym samples-are)
+            (subst (λ (z : Samples). MatchOption (refusal_in z at held count) ((e ≡ Memory) × (held_in z at ≡ None)) (λ r. e ≡ r)) same p.puts.1)),
+      )
 
 -- a series that took a sample keeps its labels, and so do all others
 pub labels_set : (series : AllSeries) (i : ℕ) (more : Samples) (k : ℕ) → labels_at (set_value_at series i more) k ≡ labels_at series k

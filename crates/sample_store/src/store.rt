@@ -6,9 +6,9 @@ ghost use Rattle.std.specs.List.{AllByRecursion, IsDistinct, filter_map};
 ghost use Rattle.std.specs.Option.{option_map};
 ghost use Rattle.std.specs.Prelude.{◌≡◌, ◌<◌, ◌≤◌, ◌+◌, ◌++◌, ℕ, Some, None, [], ◌∷◌, length, slice_get, IfOk, IsOk, IsOkUnless, MatchOption, OnErr, OnOk};
 
+use crate::select::places_of;
 use crate::timeline::Timeline;
 use crate::{Cursor, StoreRefusal};
-use crate::select::places_of;
 use holders::Items;
 use indexmap::IndexMap;
 use label_set::{Labels, Rule};

@@ -201,10 +201,16 @@ fn a_store_tells_what_it_took(rt: HostRuntime) -> Result<(), Fail> {
         let name = format!(in alloc; "m{i}")?;
         fill(&mut store, &named(alloc, name.as_str())?)?;
     }
-    assert_eq!(rt; put(alloc, &mut store, "m100000", 0, &Held::Stale), "series");
+    assert_eq!(rt;
+        put(alloc, &mut store, "m100000", 0, &Held::Stale),
+        "series"
+    );
     assert_eq!(rt; put(alloc, &mut store, "m7", 20, &Held::Stale), "samples");
     assert_eq!(rt; put(alloc, &mut store, "m7", 19, &Held::Stale), "conflict");
-    assert_eq!(rt; put(alloc, &mut store, "m7", 19, &Held::Value(whole(1))), "taken");
+    assert_eq!(rt;
+        put(alloc, &mut store, "m7", 19, &Held::Value(whole(1))),
+        "taken"
+    );
     assert_eq!(rt; (store.series(), store.samples()), (100_000, 2_000_000));
     Ok(())
 }
