@@ -8,7 +8,7 @@ use Rattle.std.proofs.lemmas.Nat.{pow-add, div-add-mod'}
 use Rattle.std.proofs.lemmas.Bool.{eq-eqb, eqb-true, ne_eqb, cases_eq}
 use Rattle.xfrac.specs.Divisors.{gcd}
 use Rattle.xfrac.specs.Fractions.{limit}
-use Rattle.xfrac.proofs.Gcds.{gcd-is, gcd_positive, dvd_other_factor, apart_product, reduced_apart, positive_quotient}
+use Rattle.xfrac.specs.Gcds.{gcd-is, gcd_positive, dvd_other_factor, apart_product, reduced_apart, positive_quotient}
 use Rattle.frac_text.specs.Spellings.{IsStripped, ends}
 
 -- ---- what divides a power of ten divides the power whose exponent its size gives
