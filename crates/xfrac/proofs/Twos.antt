@@ -1,5 +1,5 @@
 -- The twos of a number, and common divisors with odd numbers.
-use Rattle.std.proofs.Common.{◌≡◌, ℕ, zero, suc, ◌+◌, ◌-◌, ◌*◌, ◌/◌, ◌%◌, ◌^◌, ◌<◌, ◌≤◌, refl, sym, subst, ap, ◌∙◌, arith, ◌⊎◌, inl, inr, w64}
+use Rattle.std.proofs.Common.{◌≡◌, ℕ, zero, suc, ◌-◌, ◌*◌, ◌/◌, ◌%◌, ◌^◌, ◌<◌, ◌≤◌, sym, subst, ap, ◌∙◌, arith, inl, inr, w64}
 use Prim.Native.Nat.{◌∣◌, min}
 use Rattle.std.specs.Int.{IsGcd, abs_diff, trailing_zeros}
 use Rattle.std.proofs.Math.Nat.{div-mul_cancel, mul-div_cancel', mul-dvd-mul_right, one-dvd, pow-suc, mod-eq_of_lt}
