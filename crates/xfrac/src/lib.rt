@@ -21,5 +21,5 @@ pub use forming::{abs, ceil, floor, neg, of};
 pub use order::{cmp_total, compare};
 pub use sums::SumAcc;
 pub use value::{
-    ArithOp, CompareOp, Frac, Held, LIMIT, NumFault, Overflow, PairOp, XFrac, parts, whole,
+    ArithOp, CompareOp, Frac, Held, LIMIT, NumFault, Overflow, PairOp, XFrac, is_nan, parts, whole,
 };
