@@ -8,7 +8,7 @@ use Rattle.xfrac.specs.Fractions.{limit}
 use Rattle.xfrac.specs.Forming.{formed}
 use Rattle.xfrac.specs.declared.value.XFrac.{XFrac}
 use Rattle.xfrac.specs.declared.value.XFrac.TheVariants.{Fin, PosInf, NegInf, NaN}
-use Rattle.xfrac.proofs.Formed.{formed_outside, formed_within}
+use Rattle.xfrac.specs.Formed.{formed_outside, formed_within}
 use Rattle.frac_text.specs.declared.refusal.NumberRefusal.{NumberRefusal}
 use Rattle.frac_text.specs.declared.refusal.NumberRefusal.TheVariants.{BadNumber}
 use Rattle.frac_text.specs.Decimals.{Decimal, scaled, decimal_of, has_leading_zero}

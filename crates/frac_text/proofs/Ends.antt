@@ -1,14 +1,14 @@
 -- Which decimals end.
-use Rattle.std.proofs.Common.{◌≡◌, ℕ, zero, suc, ◌+◌, ◌-◌, ◌*◌, ◌/◌, ◌%◌, ◌^◌, ◌<◌, ◌≤◌, refl, sym, subst, ap, ◌∙◌, arith, Bool, true, false, ◌==◌, ◌⊎◌, inl, inr, nat_eq}
+use Rattle.std.proofs.Common.{◌≡◌, ℕ, zero, suc, ◌+◌, ◌*◌, ◌/◌, ◌%◌, ◌^◌, ◌<◌, ◌≤◌, refl, sym, subst, ap, ◌∙◌, arith, Bool, true, false, ◌==◌, ◌⊎◌, inl, inr}
 use Prim.Native.Nat.{◌∣◌}
 use Rattle.std.specs.Int.{IsGcd}
-use Rattle.std.proofs.Math.Nat.{div-mul_cancel, dvd-mul_left, dvd-mul_right, mul-dvd-mul_right, one-dvd, dvd_antisymm, mul-le-mul_left, pow-suc, mul-dvd-mul, div-le_self, dvd-mul_left_of_dvd, dvd_of_mul-dvd-mul_right, dvd-add, pow-le-pow_right}
+use Rattle.std.proofs.Math.Nat.{div-mul_cancel, dvd-mul_right, mul-dvd-mul_right, one-dvd, dvd_antisymm, mul-le-mul_left, pow-suc, mul-dvd-mul, div-le_self, dvd-mul_left_of_dvd, dvd_of_mul-dvd-mul_right, dvd-add, pow-le-pow_right}
 use Rattle.std.proofs.lemmas.Nat.Gcd.{IsGcd-from_mod, IsGcd-swap, dvd_trans, dvd_refl, dvd_of_mod-eq-zero, mod-eq-zero_of_dvd}
 use Rattle.std.proofs.lemmas.Nat.{pow-add, div-add-mod'}
-use Rattle.std.proofs.lemmas.Bool.{eq-eqb, eqb-true, ne_eqb, cases_eq}
+use Rattle.std.proofs.lemmas.Bool.{eq-eqb, eqb-true, cases_eq}
 use Rattle.xfrac.specs.Divisors.{gcd}
 use Rattle.xfrac.specs.Fractions.{limit}
-use Rattle.xfrac.proofs.Gcds.{gcd-is, gcd_positive, dvd_other_factor, apart_product, reduced_apart, positive_quotient}
+use Rattle.xfrac.specs.Gcds.{gcd-is, gcd_positive, dvd_other_factor, apart_product, reduced_apart, positive_quotient}
 use Rattle.frac_text.specs.Spellings.{IsStripped, ends}
 
 -- ---- what divides a power of ten divides the power whose exponent its size gives

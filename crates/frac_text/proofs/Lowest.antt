@@ -8,12 +8,11 @@ use Rattle.std.proofs.lemmas.Bool.{cases_lt}
 use Rattle.std.proofs.lemmas.Nat.Gcd.{IsGcd-swap, le_of_dvd, dvd_trans}
 use Rattle.xfrac.specs.Divisors.{gcd}
 use Rattle.xfrac.specs.Fractions.{limit, lowest, is_within}
-use Rattle.xfrac.proofs.Products.{product_positive}
 use Rattle.xfrac.specs.Forming.{formed}
 use Rattle.xfrac.specs.declared.value.XFrac.{XFrac}
 use Rattle.xfrac.specs.declared.value.XFrac.TheVariants.{Fin}
-use Rattle.xfrac.proofs.Gcds.{gcd-is, gcd_positive, reduced_apart, positive_quotient, reduced_is, dvd_other_factor}
-use Rattle.xfrac.proofs.Formed.{lowest-with_sign, formed_outside, formed_within}
+use Rattle.xfrac.specs.Gcds.{product_positive, gcd-is, gcd_positive, reduced_apart, positive_quotient, reduced_is, dvd_other_factor}
+use Rattle.xfrac.specs.Formed.{lowest-with_sign, formed_outside, formed_within}
 use Rattle.frac_text.specs.declared.value.Rest.{Rest}
 use Rattle.frac_text.specs.Scales.{IsScaled, rest_in}
 

@@ -18,8 +18,8 @@ use Rattle.xfrac.specs.declared.value.XFrac.TheVariants.{Fin, PosInf, NegInf, Na
 use Rattle.xfrac.specs.Forming.{formed}
 use Rattle.xfrac.specs.Fractions.{IsReduced}
 use Rattle.xfrac.specs.Laws.{IsNumber}
-use Rattle.xfrac.proofs.Formed.{formed_within}
-use Rattle.xfrac.proofs.Gcds.{reduced_is}
+use Rattle.xfrac.specs.Formed.{formed_within}
+use Rattle.xfrac.specs.Gcds.{reduced_is}
 use Rattle.frac_text.specs.Decimals.{Decimal, are_digits, decimal_from, decimal_of, ending_of, exponent_of, fraction_of, has_leading_zero, is_optional_run}
 use Rattle.frac_text.specs.Digits.{front, back, digits_in, is_part, is_run, number}
 use Rattle.frac_text.specs.Hexadecimals.{is_hexadecimal}

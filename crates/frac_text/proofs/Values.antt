@@ -7,12 +7,12 @@ use Rattle.std.proofs.lemmas.Nat.{pow-add}
 use Rattle.xfrac.specs.Divisors.{gcd}
 use Rattle.xfrac.specs.Fractions.{limit}
 use Rattle.xfrac.specs.Forming.{formed}
-use Rattle.xfrac.proofs.Products.{product_positive}
 use Rattle.frac_text.specs.declared.value.Rest.{Rest}
 use Rattle.frac_text.specs.Digits.{digits_in, number}
 use Rattle.frac_text.specs.Scales.{IsRest, IsScaled}
 use Rattle.frac_text.proofs.Lowest.{scaled_same, beyond, formed_same, formed_above, formed_beyond}
 use Rattle.frac_text.proofs.Numbers.{ten_positive, number-append, number-cons, digits_drop, digits_parted}
+use Rattle.xfrac.specs.Gcds.{product_positive}
 
 digit_step : (c n d s k : ℕ) → n * k ≡ s * d → (c * d + n) * (k * 10) ≡ (c * k + s) * (10 * d)
 digit_step c n d s k e =

@@ -1,14 +1,13 @@
 //! One formula for each element function, by the Prometheus querying documentation.
 ghost use Rattle.std.specs.Prelude.{◌≡◌, ◌↔◌, IsTrue, IfErr};
-ghost use Rattle.xfrac.specs.Kinds.{is_not_a_number};
 ghost use Rattle.xfrac.specs.Order.{compares};
 ghost use Rattle.value_fn.specs.Elements.{half as half_number, rounded, sign_number, raised, lowered, clamped, element_of};
 
 use func_table::Element;
 use std::cmp::Ordering;
 use xfrac::{
-    ArithOp, CompareOp, NumFault, XFrac, abs, arith, ceil, cmp_total, compare, floor, neg, of,
-    whole,
+    ArithOp, CompareOp, NumFault, XFrac, abs, arith, ceil, cmp_total, compare, floor, is_nan, neg,
+    of, whole,
 };
 
 /// The value of an element function, or `None` where it gives no row: for `Clamp` with its lower bound above its upper
@@ -110,10 +109,4 @@ fn clamp_max(v: &XFrac, high: &XFrac) -> XFrac
     } else {
         *v
     }
-}
-
-fn is_nan(v: &XFrac) -> bool
-    ensures { result ≡ is_not_a_number v.now }
-{
-    matches!(v, XFrac::NaN)
 }

@@ -1,6 +1,6 @@
 -- Comparison of ratios over one denominator, and equality by parts.
-use Rattle.std.proofs.Common.{◌≡◌, ℕ, ◌*◌, ◌<◌, ◌↔◌, refl, sym, subst, ap, ◌∙◌, arith, Bool, true, false, ◌⊎◌, inl, inr, IsTrue}
-use Rattle.std.specs.Prelude.{ℤ, pos, negsuc, ◌-ℤ◌, unsigned_abs, ◌*ℤ◌}
+use Rattle.std.proofs.Common.{◌≡◌, ℕ, ◌*◌, ◌<◌, ◌↔◌, refl, sym, subst, ap, ◌∙◌, arith, Bool, true, false, inl, inr, IsTrue}
+use Rattle.std.specs.Prelude.{ℤ, pos, unsigned_abs, ◌*ℤ◌}
 use Rattle.std.specs.declared.cmp.Ordering.{Ordering}
 use Rattle.std.specs.declared.cmp.Ordering.TheVariants.{Less, Equal, Greater}
 use Rattle.std.specs.Ordering.{nat_cmp, int_cmp, is_eq}
@@ -9,8 +9,7 @@ use Rattle.std.proofs.lemmas.Bool.{cases_lt, false≢true}
 use Rattle.std.proofs.lemmas.Int.{ints}
 use Rattle.std.proofs.Math.Nat.{mul-lt-mul_of_pos_right}
 use Rattle.xfrac.specs.Fractions.{IsReduced}
-use Rattle.xfrac.specs.Near.{are_near}
-use Rattle.xfrac.specs.Order.{fraction_order, total_order}
+use Rattle.xfrac.specs.Order.{fraction_order}
 use Rattle.xfrac.specs.declared.value.XFrac.TheVariants.{Fin}
 use Rattle.xfrac.proofs.LawProofs.{equal_numbers}
 

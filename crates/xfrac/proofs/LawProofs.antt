@@ -21,9 +21,9 @@ use Rattle.xfrac.specs.Sums.{Totals, totals, joined, fits, value_of, sum_of, mul
 use Rattle.xfrac.specs.Laws.{IsNumber}
 use Rattle.xfrac.specs.declared.value.XFrac.{XFrac}
 use Rattle.xfrac.specs.declared.value.XFrac.TheVariants.{Fin, PosInf, NegInf, NaN}
-use Rattle.xfrac.proofs.Gcds.{gcd-is, gcd_positive, reduced_apart, lowest_unique}
-use Rattle.xfrac.proofs.Formed.{unsigned_abs-with_sign}
-use Rattle.xfrac.proofs.Products.{with_sign-times_pos, quotient_positive, product_positive}
+use Rattle.xfrac.specs.Gcds.{product_positive, gcd-is, gcd_positive, reduced_apart, lowest_unique}
+use Rattle.xfrac.specs.Formed.{unsigned_abs-with_sign}
+use Rattle.xfrac.proofs.Products.{with_sign-times_pos, quotient_positive}
 use Rattle.xfrac.proofs.Multiples.{HasPositive, multiple_positive, multiple-permutation, lcm_positive, dvd-lcm_left}
 use Rattle.xfrac.proofs.Totalling.{totals-append, same_totals}
 

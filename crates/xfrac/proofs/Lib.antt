@@ -1,13 +1,11 @@
 pub mod Adding
 pub mod Comparing
-pub mod Formed
-pub mod Gcds
+pub mod Floors
 pub mod LawProofs
 pub mod Multiples
 pub mod Nearness
 pub mod Pairs
 pub mod Products
 pub mod Ratios
-pub mod Reduced
 pub mod Totalling
 pub mod Twos

@@ -11,8 +11,8 @@ use Rattle.std.proofs.lemmas.Nat.Gcd.{IsGcd-swap, dvd_refl}
 use Rattle.xfrac.specs.Divisors.{gcd, lcm}
 use Rattle.xfrac.specs.Sums.{denominator_of, multiple_of}
 use Rattle.xfrac.specs.declared.value.XFrac.{XFrac}
-use Rattle.xfrac.proofs.Reduced.{IsGcd-one}
-use Rattle.xfrac.proofs.Gcds.{gcd-is, gcd_positive, gcd-unique, reduced_apart, positive_quotient, dvd_other_factor}
+use Rattle.xfrac.specs.Reduced.{IsGcd-one}
+use Rattle.xfrac.specs.Gcds.{product_positive, gcd-is, gcd_positive, gcd-unique, reduced_apart, positive_quotient, dvd_other_factor}
 
 -- a * b / g with either factor divided
 pub lcm-is : (a b : ℕ) → 0 < b → lcm a b ≡ a * (b / gcd a b)
@@ -74,10 +74,6 @@ lcm-dvd a b n pa pb ha hb =
 pub lcm_positive : (a b : ℕ) → 0 < a → 0 < b → 0 < lcm a b
 unfolding lcm
 lcm_positive a b pa pb = product_positive (a / gcd a b) b (positive_quotient a (gcd a b) (gcd-is a b pb).0 pa) pb
-  where
-    product_positive : (a b : ℕ) → 0 < a → 0 < b → 0 < a * b
-    product_positive zero b p q = absurd (omega arith)
-    product_positive (suc a) b p q = omega arith
 
 -- a least common multiple above 0 is of numbers above 0
 pub positive_from_lcm : (a b : ℕ) → 0 < lcm a b → (0 < a) × (0 < b)

@@ -1,5 +1,5 @@
 -- The sum of two fractions.
-use Rattle.std.proofs.Common.{◌≡◌, ℕ, ◌+◌, ◌-◌, ◌*◌, ◌/◌, ◌<◌, ◌≤◌, refl, sym, subst, ap, ◌∙◌, arith, [], ◌∷◌, Bool, true, false, ◌&&◌, ◌⊎◌, inl, inr, nat_le, Some, None}
+use Rattle.std.proofs.Common.{◌≡◌, ℕ, ◌+◌, ◌-◌, ◌*◌, ◌/◌, ◌<◌, ◌≤◌, refl, sym, subst, ap, ◌∙◌, arith, [], ◌∷◌, Bool, true, false, ◌⊎◌, inl, inr, nat_le, Some, None}
 use Prim.Native.Nat.{◌∣◌}
 use Rattle.std.specs.Prelude.{ℤ, pos, ◌-ℤ◌}
 use Rattle.std.specs.Int.{IsGcd}
@@ -10,9 +10,8 @@ use Rattle.xfrac.specs.Divisors.{gcd, lcm}
 use Rattle.xfrac.specs.Fractions.{IsReduced, limit, lowest, with_sign}
 use Rattle.xfrac.specs.Sums.{Totals, totals, joined, alone, fits, value_of, sum_of, upper, lower}
 use Rattle.xfrac.specs.declared.value.XFrac.TheVariants.{Fin}
-use Rattle.xfrac.proofs.Gcds.{gcd-is, gcd-unique, dvd_other_factor, apart_below, reduced_apart, positive_quotient}
-use Rattle.xfrac.proofs.Products.{product_positive}
-use Rattle.xfrac.proofs.Formed.{reduced_parts, lowest-with_sign}
+use Rattle.xfrac.specs.Gcds.{product_positive, gcd-unique, dvd_other_factor, apart_below, reduced_apart, positive_quotient}
+use Rattle.xfrac.specs.Formed.{reduced_parts, lowest-with_sign}
 use Rattle.xfrac.proofs.Multiples.{lcm-is}
 use Rattle.xfrac.proofs.Totalling.{same_totals, totals-single, joined_totals}
 use Rattle.xfrac.proofs.Adding.{above-with_sign, below-with_sign}

@@ -13,13 +13,8 @@ use Rattle.xfrac.specs.Forming.{formed}
 use Rattle.xfrac.specs.Kinds.{is_zero}
 use Rattle.xfrac.specs.Arithmetic.{reciprocal, exact_power, fraction_remainder}
 use Rattle.xfrac.specs.declared.value.XFrac.TheVariants.{Fin}
-use Rattle.xfrac.proofs.Gcds.{gcd-is, gcd_positive, reduced_apart, positive_quotient, apart_product, apart_below, reduced_is, dvd-quotient}
-use Rattle.xfrac.proofs.Formed.{formed_outside, formed_within, unsigned_abs-with_sign}
-
-pub product_positive : (a b : ℕ) → 0 < a → 0 < b → 0 < a * b
-product_positive zero b p q = absurd (omega arith)
-product_positive (suc a) zero p q = absurd (omega arith)
-product_positive (suc a) (suc b) p q = omega arith
+use Rattle.xfrac.specs.Gcds.{product_positive, gcd-is, gcd_positive, reduced_apart, positive_quotient, apart_product, apart_below, reduced_is, dvd-quotient}
+use Rattle.xfrac.specs.Formed.{formed_outside, formed_within, unsigned_abs-with_sign}
 
 -- what is left of two ratios when the factors across are divided out is their product in lowest terms
 record IsProduct (m d n e p q : ℕ) : Type 0 where

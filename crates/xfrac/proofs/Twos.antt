@@ -1,12 +1,12 @@
 -- The twos of a number, and common divisors with odd numbers.
-use Rattle.std.proofs.Common.{◌≡◌, ℕ, zero, suc, ◌+◌, ◌-◌, ◌*◌, ◌/◌, ◌%◌, ◌^◌, ◌<◌, ◌≤◌, refl, sym, subst, ap, ◌∙◌, arith, ◌⊎◌, inl, inr, w64}
+use Rattle.std.proofs.Common.{◌≡◌, ℕ, zero, suc, ◌-◌, ◌*◌, ◌/◌, ◌%◌, ◌^◌, ◌<◌, ◌≤◌, sym, subst, ap, ◌∙◌, arith, inl, inr, w64}
 use Prim.Native.Nat.{◌∣◌, min}
 use Rattle.std.specs.Int.{IsGcd, abs_diff, trailing_zeros}
 use Rattle.std.proofs.Math.Nat.{div-mul_cancel, mul-div_cancel', mul-dvd-mul_right, one-dvd, pow-suc, mod-eq_of_lt}
 use Rattle.std.proofs.lemmas.Nat.Bits.{bit_at-trailing_zeros}
 use Rattle.std.proofs.lemmas.Nat.Gcd.{IsGcd-from_mod, IsGcd-from_sub, IsGcd-swap, dvd_trans, le_of_dvd, dvd_of_mod-eq-zero}
 use Rattle.std.proofs.lemmas.Bool.{cases_lt}
-use Rattle.xfrac.proofs.Gcds.{IsGcd-scaled, apart_below, apart_product, dvd_other_factor, dvd-quotient}
+use Rattle.xfrac.specs.Gcds.{IsGcd-scaled, apart_below, apart_product, dvd_other_factor, dvd-quotient}
 
 -- a power of two divides a number whose bits below its exponent are all 0
 twos_go : (n j : ℕ) → ((i : ℕ) → i < j → n / 2 ^ i % 2 ≡ 0) → 2 ^ j ∣ n

@@ -1,10 +1,12 @@
--- What users rely on of sums, nearness and the order. (This project's own.)
-use Rattle.std.specs.Prelude.{◌≡◌, ℕ, ◌<◌, ◌≤◌, ◌+◌, ℤ, pos, ◌*ℤ◌, List, [], ◌∷◌, ◌++◌, None, unsigned_abs}
-use Rattle.std.specs.Int.{IsGcd}
+-- What users rely on of sums, nearness, the order and rounding to whole numbers. (This project's own.)
+use Rattle.std.specs.Prelude.{◌≡◌, ℕ, ◌<◌, ◌≤◌, ◌+◌, ℤ, pos, ◌*ℤ◌, List, [], ◌∷◌, ◌++◌, None, unsigned_abs, IsTrue}
+use Rattle.std.specs.Int.{IsGcd, ◌∣◌}
 use Rattle.std.specs.List.{All}
 use Rattle.std.specs.List.Sorted.{IsPermutation}
 use Rattle.std.specs.declared.cmp.Ordering.TheVariants.{Less, Equal}
-use Rattle.std.specs.Ordering.{ordering_reverse}
+use Rattle.std.specs.Ordering.{ordering_reverse, is_le}
+use Rattle.xfrac.specs.Divisors.{lcm}
+use Rattle.xfrac.specs.Forming.{floor_of, ceiling_of}
 use Rattle.xfrac.specs.Fractions.{IsReduced, lowest}
 use Rattle.xfrac.specs.Near.{is_near}
 use Rattle.xfrac.specs.Order.{total_order}
@@ -62,3 +64,39 @@ LowestIsEqual = (n : ℤ) (d : ℕ) → 0 < d → (lowest n d).0 *ℤ pos d ≡ 
 
 abbrev pub LowestIsReduced : Type 0
 LowestIsReduced = (n : ℤ) (d : ℕ) → 0 < d → IsGcd (unsigned_abs (lowest n d).0) (lowest n d).1 1
+
+-- the least common multiple of two numbers is a multiple of both, and divides each number that is
+abbrev pub LcmIsMultiple : Type 0
+LcmIsMultiple = (a b : ℕ) → 0 < a → 0 < b → (a ∣ lcm a b) × (b ∣ lcm a b)
+
+abbrev pub LcmIsLeast : Type 0
+LcmIsLeast = (a b n : ℕ) → 0 < a → 0 < b → a ∣ n → b ∣ n → lcm a b ∣ n
+
+-- a whole number
+abbrev pub IsWhole : XFrac → Type 0
+IsWhole (Fin f) = f.1 ≡ 1
+IsWhole _ = ⊥
+
+-- in the order, one number isn't above another
+abbrev pub AtMost : XFrac → XFrac → Type 0
+AtMost a b = IsTrue (is_le (total_order a b))
+
+-- the floor of a fraction is a whole number; it isn't above, and no other whole number that isn't above is greater
+abbrev pub FloorIsWhole : Type 0
+FloorIsWhole = (f : ℤ × ℕ) → IsWhole (floor_of (Fin f))
+
+abbrev pub FloorIsNotAbove : Type 0
+FloorIsNotAbove = (v : XFrac) → IsNumber v → AtMost (floor_of v) v
+
+abbrev pub FloorIsGreatest : Type 0
+FloorIsGreatest = (v w : XFrac) → IsNumber v → IsWhole w → AtMost w v → AtMost w (floor_of v)
+
+-- the ceiling of a fraction is a whole number; it isn't below, and no other whole number that isn't below is less
+abbrev pub CeilingIsWhole : Type 0
+CeilingIsWhole = (f : ℤ × ℕ) → IsWhole (ceiling_of (Fin f))
+
+abbrev pub CeilingIsNotBelow : Type 0
+CeilingIsNotBelow = (v : XFrac) → IsNumber v → AtMost v (ceiling_of v)
+
+abbrev pub CeilingIsLeast : Type 0
+CeilingIsLeast = (v w : XFrac) → IsNumber v → IsWhole w → AtMost v w → AtMost (ceiling_of v) w

@@ -1,10 +1,13 @@
 pub mod Arithmetic
 pub mod Divisors
+pub mod Formed
 pub mod Forming
 pub mod Fractions
+pub mod Gcds
 pub mod Kinds
 pub mod Laws
 pub mod Near
 pub mod Order
-pub mod Sums
+pub mod Reduced
 pub mod Sequencing
+pub mod Sums

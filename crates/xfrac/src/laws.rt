@@ -1,5 +1,5 @@
 //! Laws of numbers that users rely on. The functions do nothing: each stands for what its contract says.
-ghost use Rattle.xfrac.specs.Laws.{IsNumber, SumIgnoresOrder, JoinedStandsForBoth, AloneStandsForOne, TotalsNeverFall, PartOverflowsWhole, NearIsSymmetric, EqualIsSame, OrderIsReflexive, OrderIsReversed, LessIsTransitive, LowestIsEqual, LowestIsReduced};
+ghost use Rattle.xfrac.specs.Laws.{IsNumber, SumIgnoresOrder, JoinedStandsForBoth, AloneStandsForOne, TotalsNeverFall, PartOverflowsWhole, NearIsSymmetric, EqualIsSame, OrderIsReflexive, OrderIsReversed, LessIsTransitive, LowestIsEqual, LowestIsReduced, LcmIsMultiple, LcmIsLeast, FloorIsWhole, FloorIsNotAbove, FloorIsGreatest, CeilingIsWhole, CeilingIsNotBelow, CeilingIsLeast};
 
 use crate::value::XFrac;
 
@@ -47,4 +47,24 @@ pub fn order_is_total()
 pub fn lowest_terms_are_lowest()
     ensures value { LowestIsEqual }
     ensures reduced { LowestIsReduced }
+{}
+
+/// The least common multiple is a multiple of both numbers, and divides each number that is.
+pub fn lcm_is_least()
+    ensures multiple { LcmIsMultiple }
+    ensures least { LcmIsLeast }
+{}
+
+/// A floor is the greatest whole number that isn't above.
+pub fn floor_is_greatest()
+    ensures whole { FloorIsWhole }
+    ensures not_above { FloorIsNotAbove }
+    ensures greatest { FloorIsGreatest }
+{}
+
+/// A ceiling is the least whole number that isn't below.
+pub fn ceiling_is_least()
+    ensures whole { CeilingIsWhole }
+    ensures not_below { CeilingIsNotBelow }
+    ensures least { CeilingIsLeast }
 {}

@@ -1,19 +1,19 @@
 //! Exact numbers: fractions within a fixed limit, the two infinities and NaN.
 #![tactic(auto)]
 
-pub mod arithmetic;
-pub mod closeness;
+mod arithmetic;
+mod closeness;
 mod divisors;
-pub mod forming;
+mod forming;
 pub mod laws;
-pub mod order;
+mod order;
 mod power;
 mod product;
 mod ratio;
-pub mod sums;
+mod sums;
 #[cfg(test)]
 mod tests;
-pub mod value;
+mod value;
 
 pub use arithmetic::arith;
 pub use closeness::near;
@@ -21,5 +21,5 @@ pub use forming::{abs, ceil, floor, neg, of};
 pub use order::{cmp_total, compare};
 pub use sums::SumAcc;
 pub use value::{
-    ArithOp, CompareOp, Frac, Held, LIMIT, NumFault, Overflow, PairOp, XFrac, parts, whole,
+    ArithOp, CompareOp, Frac, Held, LIMIT, NumFault, Overflow, PairOp, XFrac, is_nan, parts, whole,
 };

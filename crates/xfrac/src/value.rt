@@ -199,7 +199,8 @@ pub fn parts(f: &Frac) -> (i128, i128)
     (f.n, f.d as i128)
 }
 
-pub(crate) fn is_nan(a: &XFrac) -> bool
+/// Whether the number is NaN.
+pub fn is_nan(a: &XFrac) -> bool
     ensures { result ≡ is_not_a_number a.now }
 {
     matches!(a, XFrac::NaN)

@@ -1,6 +1,5 @@
-use Rattle.std.proofs.Common.{◌^◌, ◌≤◌, ◌≡◌, arith}
+use Rattle.std.proofs.Common.{◌^◌, ◌≤◌, arith}
 use Rattle.xfrac.specs.Fractions.{limit}
-use Rattle.std.proofs.lemmas.Nat.{pow-add}
 use Rattle.frac_text.proofs.Ends.{ten_below}
 use Rattle.frac_text.proofs.value.power_of_ten.Goals as goal
 

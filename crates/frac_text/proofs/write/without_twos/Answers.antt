@@ -1,4 +1,4 @@
-use Rattle.std.proofs.Common.{◌≡◌, ◌<◌, ◌*◌, ◌/◌, arith}
+use Rattle.std.proofs.Common.{◌≡◌, ◌*◌, ◌/◌, arith}
 use Rattle.frac_text.proofs.Ends.{one_more}
 use Rattle.frac_text.proofs.write.without_twos.Goals as goal
 

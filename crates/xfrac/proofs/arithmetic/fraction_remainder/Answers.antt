@@ -3,8 +3,9 @@ use Prim.Native.Nat.{◌∣◌}
 use Rattle.xfrac.specs.Fractions.{lowest, with_sign}
 use Rattle.xfrac.specs.declared.value.XFrac.TheVariants.{Fin}
 use Rattle.xfrac.proofs.Multiples.{lcm_positive, dvd-lcm_right}
-use Rattle.xfrac.proofs.Products.{remainder_is, product_positive, quotient_positive, not_zero}
+use Rattle.xfrac.proofs.Products.{remainder_is, quotient_positive, not_zero}
 use Rattle.xfrac.proofs.arithmetic.fraction_remainder.Goals as goal
+use Rattle.xfrac.specs.Gcds.{product_positive}
 
 pub rest-requires : goal.rest-requires
 rest-requires c =

@@ -1,4 +1,4 @@
-use Rattle.xfrac.proofs.Gcds.{gcd_found}
+use Rattle.xfrac.specs.Gcds.{gcd_found}
 use Rattle.xfrac.proofs.divisors.gcd.Goals as goal
 
 pub returns-clause-positive : goal.returns-clause-positive

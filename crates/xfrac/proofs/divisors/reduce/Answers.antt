@@ -1,6 +1,6 @@
 use Rattle.std.proofs.Common.{◌≡◌, ◌/◌}
 use Rattle.xfrac.specs.Divisors.{gcd as gcd_of}
-use Rattle.xfrac.proofs.Formed.{reduced_whole}
+use Rattle.xfrac.specs.Formed.{reduced_whole}
 use Rattle.xfrac.proofs.divisors.reduce.Goals as goal
 
 pub returns-then-d-eq1 : goal.returns-then-d-eq1

@@ -1,7 +1,7 @@
 use Rattle.std.proofs.Common.{subst, sym}
 use Rattle.std.specs.Int.{IsGcd}
 use Rattle.std.proofs.lemmas.Nat.Gcd.{IsGcd-swap}
-use Rattle.xfrac.proofs.Reduced.{IsGcd-one}
+use Rattle.xfrac.specs.Reduced.{IsGcd-one}
 use Rattle.xfrac.proofs.divisors.shared_divisor.Goals as goal
 
 pub returns-then-b-eq1-clause-value : goal.returns-then-b-eq1-clause-value

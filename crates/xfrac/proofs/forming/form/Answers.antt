@@ -1,6 +1,6 @@
 use Rattle.std.proofs.Common.{sym, ap, ◌∙◌, Some, arith}
 use Rattle.xfrac.specs.declared.value.XFrac.TheVariants.{Fin}
-use Rattle.xfrac.proofs.Formed.{formed_outside, formed_within, reduced_parts}
+use Rattle.xfrac.specs.Formed.{formed_outside, formed_within, reduced_parts}
 use Rattle.xfrac.proofs.forming.form.Goals as goal
 
 pub returns-then-p-gt-LIMIT : goal.returns-then-p-gt-LIMIT

@@ -2,7 +2,7 @@ use Rattle.std.proofs.Common.{◌≡◌, ◌≤◌, ◌/◌, sym, ap, ◌∙◌,
 use Rattle.std.proofs.Math.Nat.{div-le_self}
 use Rattle.xfrac.specs.Divisors.{gcd}
 use Rattle.xfrac.specs.Fractions.{with_sign}
-use Rattle.xfrac.proofs.Formed.{lowest-with_sign, reduced_parts}
+use Rattle.xfrac.specs.Formed.{lowest-with_sign, reduced_parts}
 use Rattle.xfrac.proofs.forming.lowest_terms.Goals as goal
 
 pub with_parts-requires : goal.with_parts-requires

@@ -2,7 +2,7 @@ use Rattle.std.proofs.Common.{◌<◌, ◌≤◌, ◌-◌, ◌/◌, arith}
 use Rattle.std.proofs.Math.Nat.{div-le_self}
 use Rattle.std.proofs.lemmas.Int.{ints}
 use Rattle.std.specs.Prelude.{pos, ◌<ℤ◌}
-use Rattle.xfrac.proofs.Reduced.{whole_is_reduced}
+use Rattle.xfrac.specs.Reduced.{whole_is_reduced}
 use Rattle.xfrac.proofs.forming.whole_below.Goals as goal
 
 pub with_parts-requires : goal.with_parts-requires

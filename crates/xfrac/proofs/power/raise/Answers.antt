@@ -1,7 +1,7 @@
 use Rattle.std.proofs.Common.{◌<◌, ◌^◌, sym, ap, ◌∙◌, arith, inl, inr, Some}
 use Rattle.xfrac.specs.Fractions.{limit, with_sign}
 use Rattle.xfrac.specs.declared.value.XFrac.TheVariants.{Fin}
-use Rattle.xfrac.proofs.Formed.{formed_outside, formed_within}
+use Rattle.xfrac.specs.Formed.{formed_outside, formed_within}
 use Rattle.xfrac.proofs.Products.{raised, raised_reduced}
 use Rattle.xfrac.proofs.power.raise.Goals as goal
 

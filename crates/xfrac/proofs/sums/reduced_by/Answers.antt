@@ -1,6 +1,4 @@
-use Rattle.std.proofs.Common.{◌≡◌, ◌/◌, sym, subst, ap, ◌∙◌}
-use Rattle.xfrac.specs.Divisors.{gcd}
-use Rattle.xfrac.specs.Fractions.{IsReduced, with_sign}
+use Rattle.std.proofs.Common.{◌∙◌}
 use Rattle.xfrac.proofs.Pairs.{reduced_terms, lowest_over}
 use Rattle.xfrac.proofs.sums.reduced_by.Goals as goal
 

@@ -1,9 +1,8 @@
-use Rattle.std.proofs.Common.{◌≡◌, ◌<◌, ◌≤◌, ◌+◌, ◌*◌, sym, subst, ap, ◌∙◌, arith, Some, [], ◌∷◌}
+use Rattle.std.proofs.Common.{◌<◌, ◌≤◌, ◌+◌, ◌*◌, sym, subst, ap, ◌∙◌, arith, Some}
 use Rattle.std.specs.Int.{IsGcd}
-use Rattle.xfrac.specs.Fractions.{limit, lowest, with_sign}
-use Rattle.xfrac.specs.Sums.{totals}
+use Rattle.xfrac.specs.Fractions.{limit}
 use Rattle.xfrac.specs.declared.value.XFrac.TheVariants.{Fin}
-use Rattle.xfrac.proofs.Pairs.{two, two_totals, two_fit, two_wide, two_great, two_none, two_some, shared_only, scaled_positive, value_over, IsSum}
+use Rattle.xfrac.proofs.Pairs.{two_totals, two_fit, two_wide, two_great, two_none, two_some, shared_only, scaled_positive, value_over, IsSum}
 use Rattle.xfrac.proofs.sums.sum_of_fractions.Goals as goal
 
 pub returns-in-None : goal.returns-in-None

@@ -1,6 +1,6 @@
 use Rattle.std.proofs.Common.{arith}
 use Rattle.std.proofs.lemmas.Int.{to_z-of_z}
-use Rattle.xfrac.proofs.Reduced.{whole_is_reduced}
+use Rattle.xfrac.specs.Reduced.{whole_is_reduced}
 use Rattle.xfrac.proofs.value.whole.Goals as goal
 
 pub invariant_of-result : goal.invariant_of-result

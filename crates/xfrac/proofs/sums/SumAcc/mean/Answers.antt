@@ -4,7 +4,7 @@ use Rattle.std.specs.Option.{ok_or, option_and_then}
 use Rattle.xfrac.specs.Arithmetic.{quotient, whole_number}
 use Rattle.xfrac.specs.Sums.{totals}
 use Rattle.xfrac.specs.declared.value.XFrac.TheVariants.{Fin}
-use Rattle.xfrac.proofs.Reduced.{whole_is_reduced}
+use Rattle.xfrac.specs.Reduced.{whole_is_reduced}
 use Rattle.xfrac.proofs.sums.SumAcc.mean.Goals as goal
 
 pub with_parts-requires : goal.with_parts-requires

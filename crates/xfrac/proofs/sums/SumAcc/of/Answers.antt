@@ -1,5 +1,4 @@
-use Rattle.std.proofs.Common.{◌<◌, ◌≡◌, sym, ap, ◌∙◌, refl, subst}
-use Rattle.xfrac.specs.Sums.{alone}
+use Rattle.std.proofs.Common.{◌<◌, sym, ap, ◌∙◌, refl, subst}
 use Rattle.xfrac.proofs.Totalling.{totals-single, same_totals}
 use Rattle.xfrac.proofs.sums.SumAcc.of.Goals as goal
 

@@ -1,4 +1,4 @@
--- Fractions in lowest terms.
+-- Which fractions are in lowest terms: lemmas that the crates above cite too.
 use Rattle.std.proofs.Common.{ℕ, ◌≤◌, arith}
 use Rattle.std.proofs.Math.Nat.{one-dvd}
 use Rattle.std.specs.Int.{IsGcd}

@@ -1,4 +1,4 @@
--- Forming of a sign, a magnitude and a denominator.
+-- Forming of a sign, a magnitude and a denominator: lemmas that the crates above cite too.
 use Rattle.std.proofs.Common.{◌≡◌, ℕ, ◌/◌, ◌<◌, ◌≤◌, zero, suc, refl, sym, subst, ap, ◌∙◌, arith, Bool, true, false, Some, None, ◌⊎◌, inl, inr, nat_le}
 use Rattle.std.specs.Prelude.{pos, neg_ℤ, unsigned_abs}
 use Rattle.std.specs.Int.{IsGcd}
@@ -7,8 +7,8 @@ use Rattle.std.proofs.lemmas.Bool.{cond-true, cond-false, le-leb, lt-leb, and_fr
 use Rattle.xfrac.specs.Divisors.{gcd}
 use Rattle.xfrac.specs.Fractions.{IsReduced, limit, lowest, is_within, with_sign}
 use Rattle.xfrac.specs.Forming.{formed}
-use Rattle.xfrac.proofs.Gcds.{gcd-is, gcd_positive, reduced_apart, positive_quotient, reduced_is}
-use Rattle.xfrac.proofs.Reduced.{IsGcd-one}
+use Rattle.xfrac.specs.Gcds.{gcd-is, gcd_positive, reduced_apart, positive_quotient, reduced_is}
+use Rattle.xfrac.specs.Reduced.{IsGcd-one}
 use Rattle.xfrac.specs.declared.value.XFrac.TheVariants.{Fin}
 
 pub unsigned_abs-with_sign : (s : Bool) (m : ℕ) → unsigned_abs (with_sign s m) ≡ m

@@ -1,4 +1,4 @@
--- What divides what.
+-- What divides what: lemmas of greatest common divisors and lowest terms that the crates above cite too.
 use Rattle.std.proofs.Common.{◌≡◌, ℕ, ◌+◌, ◌*◌, ◌/◌, ◌%◌, ◌<◌, ◌≤◌, zero, suc, refl, sym, subst, ap, ◌∙◌, arith, true, inl, inr, ◌==◌, ◌&&◌}
 use Prim.Native.Nat.{◌∣◌}
 use Rattle.std.specs.Int.{IsGcd}
@@ -7,6 +7,12 @@ use Rattle.std.proofs.lemmas.Nat.{mod_below, mod-mul-add, div-add-mod'}
 use Rattle.std.proofs.lemmas.Bool.{cases_eq, and_parts, eqb-true, cases_Bool, and_from, eq-eqb, both_ways, cond-true, cond-false}
 use Rattle.std.proofs.Math.Nat.{div-mul_cancel, dvd-mul_left, dvd-mul_right, mul-dvd-mul_right, dvd_of_mul-dvd-mul_right, one-dvd, pos_of_dvd_of_pos, eq_of_mul-eq-mul_right, mul-lt-mul_of_pos_right}
 use Rattle.xfrac.specs.Divisors.{greatest_divisor, gcd}
+
+-- a product of two numbers above 0 is above 0
+pub product_positive : (a b : ℕ) → 0 < a → 0 < b → 0 < a * b
+product_positive zero b p q = absurd (omega arith)
+product_positive (suc a) zero p q = absurd (omega arith)
+product_positive (suc a) (suc b) p q = omega arith
 
 -- a remainder scales with its two numbers
 mod_scaled : (a b k : ℕ) → 0 < b → (a * k) % (b * k) ≡ a % b * k
