@@ -94,7 +94,7 @@ fn trees_are_measured_and_copied(rt: HostRuntime) -> Result<(), Fail> {
     let tree = sample(rt.alloc())?;
     assert_eq!(rt; tree.depth(), 6);
     assert_eq!(rt; number(0, 1).depth(), 1);
-    let copy = tree.copy(rt.alloc())?;
+    let copy = tree.copy()?;
     assert!(rt; copy.is_same(&tree));
     assert!(rt; !copy.is_same(&number(0, 1)));
     assert!(rt; copy == tree);

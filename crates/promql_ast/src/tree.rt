@@ -4,7 +4,7 @@ ghost use Rattle.std.specs.Prelude.{◌≡◌, ◌-◌, ◌^◌, map, min, IfOk}
 use func_table::{Aggregate, Func, SetOp};
 use holders::{Boxed, Items, Text};
 use label_set::{Grouping, Pairing, Rule};
-use std::alloc::{AllocError, Global};
+use std::alloc::AllocError;
 use ticks::Ms;
 use xfrac::{PairOp, XFrac};
 
@@ -92,16 +92,16 @@ pub enum Node {
 }
 
 impl Expr {
-    /// An equal tree. The only error is want of memory.
+    /// An equal tree, on the allocators of this one. The only error is want of memory.
     #[cycle(copies)]
-    pub fn copy(&self, alloc: Global) -> Result<Expr, AllocError>
+    pub fn copy(&self) -> Result<Expr, AllocError>
         ensures { IfOk result (λ e. e ≡ self.now) }
     {
         let node = match &self.node {
             Node::Number(value) => Node::Number(*value),
             Node::Words(text) => Node::Words(text.copy()?),
-            Node::Paren(inner) => Node::Paren(copied(alloc, inner)?),
-            Node::Negate(inner) => Node::Negate(copied(alloc, inner)?),
+            Node::Paren(inner) => Node::Paren(copied(inner)?),
+            Node::Negate(inner) => Node::Negate(copied(inner)?),
             Node::Select(selector) => Node::Select(selector.copy()?),
             Node::Range(selector, range) => Node::Range(selector.copy()?, *range),
             Node::Subquery {
@@ -110,27 +110,27 @@ impl Expr {
                 step,
                 moment,
             } => Node::Subquery {
-                inner: copied(alloc, inner)?,
+                inner: copied(inner)?,
                 range: *range,
                 step: *step,
                 moment: *moment,
             },
-            Node::Call(function, arguments) => Node::Call(*function, all_copied(alloc, arguments)?),
+            Node::Call(function, arguments) => Node::Call(*function, all_copied(arguments)?),
             Node::Aggregate(function, grouping, arguments) => Node::Aggregate(
                 *function,
                 grouping.copy()?,
-                all_copied(alloc, arguments)?,
+                all_copied(arguments)?,
             ),
             Node::Pair(op, left, right, pairing) => Node::Pair(
                 *op,
-                copied(alloc, left)?,
-                copied(alloc, right)?,
+                copied(left)?,
+                copied(right)?,
                 pairing.copy()?,
             ),
             Node::Set(op, left, right, pairing) => Node::Set(
                 *op,
-                copied(alloc, left)?,
-                copied(alloc, right)?,
+                copied(left)?,
+                copied(right)?,
                 pairing.copy()?,
             ),
         };
@@ -164,20 +164,20 @@ impl Expr {
 }
 
 #[cycle(copies)]
-fn copied(alloc: Global, e: &Boxed<Expr>) -> Result<Boxed<Expr>, AllocError>
+fn copied(e: &Boxed<Expr>) -> Result<Boxed<Expr>, AllocError>
     ensures { IfOk result (λ copy. copy ≡ e.now) }
 {
-    let copy = e.get().copy(alloc)?;
-    Boxed::new(alloc, copy)
+    let copy = e.get().copy()?;
+    Boxed::new(e.allocator(), copy)
 }
 
 #[cycle(copies)]
-fn all_copied(alloc: Global, expressions: &Items<Expr>) -> Result<Items<Expr>, AllocError>
+fn all_copied(expressions: &Items<Expr>) -> Result<Items<Expr>, AllocError>
     ensures { IfOk result (λ copies. copies ≡ expressions.now) }
 {
-    let mut copies = Items::new(alloc);
+    let mut copies = Items::new(expressions.allocator());
     for e in expressions.as_slice() {
-        copies.push(e.copy(alloc)?)?;
+        copies.push(e.copy()?)?;
     }
     Ok(copies)
 }

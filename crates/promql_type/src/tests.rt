@@ -474,7 +474,7 @@ fn typed_trees(rt: HostRuntime) -> Result<(), Fail> {
     assert_eq!(rt; typed.pattern(1), Some(PatternId(1)));
     assert_eq!(rt; typed.pattern(0), None);
     assert_eq!(rt; patterns.text(PatternId(1)), "p.*");
-    let copy = typed.copy(alloc)?;
+    let copy = typed.copy()?;
     assert!(rt; copy.expr().node == typed.expr().node);
     assert!(rt; copy == typed);
     if let Node::Pair(_, _, _, pairing) = &typed.expr().node {

@@ -9,7 +9,7 @@ use crate::replace::Placed;
 use holders::Items;
 use label_set::PatternId;
 use promql_ast::{Expr, QueryRefusal};
-use std::alloc::{AllocError, Global};
+use std::alloc::AllocError;
 use thiserror::Error;
 
 /// Why a tree has no type.
@@ -109,11 +109,11 @@ impl Typed {
     }
 
     /// An equal typed tree. The only error is want of memory.
-    pub fn copy(&self, alloc: Global) -> Result<Typed, AllocError>
+    pub fn copy(&self) -> Result<Typed, AllocError>
         ensures tree { IfOk result (λ t. tree_of t ≡ tree_of self.now) }
         ensures placed { IfOk result (λ t. placed_of t ≡ placed_of self.now) }
     {
-        let expr = self.expr.copy(alloc)?;
+        let expr = self.expr.copy()?;
         let patterns = self.patterns.copy()?;
         Ok(Typed {
             expr,
