@@ -473,7 +473,7 @@ fn typed_trees(rt: HostRuntime) -> Result<(), Fail> {
     let typed = check(alloc, tree(alloc, REPLACED)?, &mut patterns)?;
     assert_eq!(rt; typed.pattern(1), Some(PatternId(1)));
     assert_eq!(rt; typed.pattern(0), None);
-    assert_eq!(rt; patterns.text(PatternId(1)), "p.*");
+    assert_eq!(rt; patterns.whole("p.*")?, PatternId(1));
     let copy = typed.copy()?;
     assert!(rt; copy.expr().node == typed.expr().node);
     assert!(rt; copy == typed);
