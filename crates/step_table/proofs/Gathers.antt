@@ -57,12 +57,13 @@ module _ {T : Type 0} where
   gathered_more items p =
       ap (map (λ names. (names, items_of (items ++ p ∷ []) names))) (names_more items p)
       ∙ valued_insert labels_cmp_total labels_cmp_ties (items_of items) (items_of (items ++ p ∷ [])) p.0 (unwrap_or (lookup (is_at (labels_cmp p.0)) (gathered items)) [] ++ p.1 ∷ [])
-        (items_more items p p.0 ∙ here ∙ ap (λ xs. xs ++ p.1 ∷ []) (sym (found items p.0)))
-        (λ n apart. items_more items p n ∙ there n apart)
-        (names_among items) (names_sorted items)
+      (items_more items p p.0 ∙ here ∙ ap (λ xs. xs ++ p.1 ∷ []) (sym (found items p.0)))
+      (λ n apart. items_more items p n ∙ there n apart)
+      (names_among items) (names_sorted items)
     where
       here : items_of items p.0 ++ cond (is_at (labels_cmp p.0) p.0) (p.1 ∷ []) [] ≡ items_of items p.0 ++ p.1 ∷ []
       here = rw (tied_itself labels_cmp_total p.0) refl
+
       there : (n : Names) → is_at (labels_cmp p.0) n ≡ false → items_of items n ++ cond (is_at (labels_cmp n) p.0) (p.1 ∷ []) [] ≡ items_of items n
       there n apart = let e : is_at (labels_cmp n) p.0 ≡ false = (eq_by_cmp_equiv labels_cmp_total).symm n p.0 ∙ apart in rw e (append-nil (items_of items n))
 

@@ -26,7 +26,7 @@ all_under : (rows : List Row) (names : Names) → AllByRecursion (λ row. is_at 
 all_under [] names = tt
 all_under (row ∷ rows) names =
     elim (is_at (labels_cmp names) row.labels) as (λ b. is_at (labels_cmp names) row.labels ≡ b → AllByRecursion (λ row. is_at (labels_cmp names) row.labels ≡ true)
-        (values_of (cond b ((row.labels, row) ∷ filter (λ item. is_at (labels_cmp names) item.0) (keyed rows)) (filter (λ item. is_at (labels_cmp names) item.0) (keyed rows))))) [
+    (values_of (cond b ((row.labels, row) ∷ filter (λ item. is_at (labels_cmp names) item.0) (keyed rows)) (filter (λ item. is_at (labels_cmp names) item.0) (keyed rows))))) [
       | true ↦ λ e. (e, all_under rows names)
       | false ↦ λ e. all_under rows names
     ] refl
@@ -63,7 +63,7 @@ module _ (rows : List Row) where
   sorted_lone [] s = tt
   sorted_lone (k ∷ ks) s =
       lone_split k ks IsTable (sorted_lone ks s.1)
-        (λ row e. (subst (λ names. AllByRecursion (λ z. labels_cmp names z ≡ Less) (map (λ row. row.labels) (lone_under ks))) e (all_lone (λ z. labels_cmp k z ≡ Less) ks s.0), sorted_lone ks s.1))
+      (λ row e. (subst (λ names. AllByRecursion (λ z. labels_cmp names z ≡ Less) (map (λ row. row.labels) (lone_under ks))) e (all_lone (λ z. labels_cmp k z ≡ Less) ks s.0), sorted_lone ks s.1))
 
   -- rows that share their labels with no other are a table
   pub lone_rows_sorted : IsTable (lone_items (keyed rows))

@@ -45,5 +45,5 @@ module _ {K : Type 0} (R : K → K → Ordering) where
       pub goes_on : R bound y ≡ Greater → (more : List K) → more ≡ all ++ y ∷ [] → IsSame bound more ys all' rest'
       goes_on o more e = record {
         at = λ xs. ap (λ m. m ++ sorted_merge R true (bound ∷ xs) ys) e ∙ append_assoc all (y ∷ []) (sorted_merge R true (bound ∷ xs) ys)
-            ∙ ap (λ r. all ++ r) (sym (merged-greater bound xs y ys o)) ∙ ap (λ r. all ++ sorted_merge R true (bound ∷ xs) r) (sym is) ∙ same.at xs
+            ∙ ap (λ r. all ++ r) (sym (merged-greater bound xs y ys o)) ∙ ap (λ r. all ++ sorted_merge R true (bound ∷ xs) r) (sym is) ∙ same.at xs;
       }

@@ -33,8 +33,8 @@ module _ {K : Type 0} {R : K → K → Ordering} (o : IsTotalOrder R) where
         | Less ↦ λ k. (all_merged R (λ z. R x z ≡ Less) xs (y ∷ ys) s.0 (k, recursion_map (λ z. R y z ≡ Less) (λ z. R x z ≡ Less) (λ z l. o.trans x y z k l) ys t.0), h (y ∷ ys) t)
         | Equal ↦ λ k. (all_merged R (λ z. R x z ≡ Less) xs ys s.0 (recursion_map (λ z. R y z ≡ Less) (λ z. R x z ≡ Less) (λ z l. o.congr x y z k ∙ l) ys t.0), h ys t.1)
         | Greater ↦ λ k.
-          let below : R y x ≡ Less = o.antisymm y x ∙ ap ordering_reverse k in
-          (all_merged R (λ z. R y z ≡ Less) (x ∷ xs) ys (below, recursion_map (λ z. R x z ≡ Less) (λ z. R y z ≡ Less) (λ z l. o.trans y x z below l) xs s.0) t.0, sorted_onto x xs s h ys t.1)
+            let below : R y x ≡ Less = o.antisymm y x ∙ ap ordering_reverse k in
+            (all_merged R (λ z. R y z ≡ Less) (x ∷ xs) ys (below, recursion_map (λ z. R x z ≡ Less) (λ z. R y z ≡ Less) (λ z l. o.trans y x z below l) xs s.0) t.0, sorted_onto x xs s h ys t.1)
       ] refl
 
   -- a union of lists in order is in order

@@ -25,7 +25,7 @@ module _ {A B : Type 0} (f : A → B) where
   items_seen [] names = refl
   items_seen (e ∷ es) names =
       elim (is_at (labels_cmp names) e.0) as (λ b. map f (values_of (cond b (e ∷ filter (λ item. is_at (labels_cmp names) item.0) es) (filter (λ item. is_at (labels_cmp names) item.0) es)))
-          ≡ values_of (cond b ((e.0, f e.1) ∷ filter (λ item. is_at (labels_cmp names) item.0) (seen es)) (filter (λ item. is_at (labels_cmp names) item.0) (seen es)))) [
+      ≡ values_of (cond b ((e.0, f e.1) ∷ filter (λ item. is_at (labels_cmp names) item.0) (seen es)) (filter (λ item. is_at (labels_cmp names) item.0) (seen es)))) [
         | true ↦ ap (λ xs. f e.1 ∷ xs) (items_seen es names)
         | false ↦ items_seen es names
       ]

@@ -48,7 +48,7 @@ paired_well l r op p s t =
     let many : List Row = many_side p.card l.table.rows r.table.rows in
     let ones : List Row = one_side p.card l.table.rows r.table.rows in
     well_if (is_empty l.table.rows || is_empty r.table.rows) _ _ (no_rows _ marks)
-      (record { rows = lone_rows_sorted (uncrowded p.card (left_rows (matches op p many ones))); marks = with_fatal_sets (united l.marks r.marks) (pair_marks op p many ones) marks })
+    (record { rows = lone_rows_sorted (uncrowded p.card (left_rows (matches op p many ones))); marks = with_fatal_sets (united l.marks r.marks) (pair_marks op p many ones) marks })
 
 pub combined_well : (l r : Step) (op : SetOp) (p : Pairing) → IsWellFormed l → IsWellFormed r → IsWellFormed (combined l r op p)
 combined_well l r And p s t = record { rows = sorted_filtered labels_cmp (λ row. row.labels) (is_on p r.table.rows) l.table.rows s.rows; marks = united_sets l.marks r.marks s.marks t.marks }

@@ -13,7 +13,10 @@ pub enum Cell {
     /// The value of a row.
     Value(XFrac),
     /// The samples of a window, in rising time: times in milliseconds, and as many values.
-    Window { times: Items<Ms>, values: Items<XFrac> },
+    Window {
+        times: Items<Ms>,
+        values: Items<XFrac>,
+    },
     /// A sum that is not finished.
     Sum(SumAcc),
     /// How many rows.

@@ -50,10 +50,7 @@ pub struct Parted<T> {
 
 /// Parts the items that share their labels with no other from the labels that items share. The only error is want of
 /// memory.
-pub fn part<T: Drop>(
-    alloc: Global,
-    items: Items<(Labels, T)>,
-) -> Result<Parted<T>, AllocError>
+pub fn part<T: Drop>(alloc: Global, items: Items<(Labels, T)>) -> Result<Parted<T>, AllocError>
     ensures lone { IfOk result (λ parted. parted.lone ≡ lone_items items) }
     ensures shared { IfOk result (λ parted. parted.shared ≡ shared_names items) }
 {

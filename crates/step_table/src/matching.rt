@@ -274,10 +274,7 @@ fn uncrowded_rows(
     Ok(parted.lone)
 }
 
-fn without_signatures(
-    alloc: Global,
-    left: Items<(Labels, Row)>,
-) -> Result<Items<Row>, AllocError>
+fn without_signatures(alloc: Global, left: Items<(Labels, Row)>) -> Result<Items<Row>, AllocError>
     ensures { IfOk result (λ rows. rows ≡ values_of left) }
 {
     let mut rows = Items::new(alloc);
@@ -297,7 +294,11 @@ fn push_crowded(fatal: &mut Items<Mark>, shared: Items<Labels>) -> Result<(), Al
 }
 
 /// Adds a mark for each labels that pairs share.
-fn push_clashes(fatal: &mut Items<Mark>, card: Card, shared: Items<Labels>) -> Result<(), AllocError>
+fn push_clashes(
+    fatal: &mut Items<Mark>,
+    card: Card,
+    shared: Items<Labels>,
+) -> Result<(), AllocError>
     ensures { OnOk result (fatal.new ≡ fatal.old ++ map (mark_of_clash card) shared) }
 {
     for labels in shared.into_vec() {

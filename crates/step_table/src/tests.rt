@@ -314,7 +314,11 @@ fn set_modifier(alloc: Global, p: &mut Pairing, word: &str) -> Result<(), Fail> 
         p.names = list;
         return Ok(());
     }
-    p.card = if kind == "left" { Card::GroupLeft } else { Card::GroupRight };
+    p.card = if kind == "left" {
+        Card::GroupLeft
+    } else {
+        Card::GroupRight
+    };
     p.extra = list;
     Ok(())
 }

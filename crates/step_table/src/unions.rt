@@ -23,11 +23,7 @@ impl Marks {
     }
 
     /// Adds the fatal marks of a list in any order. The only error is want of memory; then nothing is changed.
-    pub(crate) fn add_fatal(
-        &mut self,
-        alloc: Global,
-        fatal: Items<Mark>,
-    ) -> Result<(), AllocError>
+    pub(crate) fn add_fatal(&mut self, alloc: Global, fatal: Items<Mark>) -> Result<(), AllocError>
         ensures ok { OnOk result (self.new ≡ with_fatal self.old fatal) }
         ensures err { OnErr result (self.new ≡ self.old) }
     {

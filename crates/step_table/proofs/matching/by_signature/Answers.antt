@@ -8,4 +8,4 @@ use Rattle.step_table.proofs.matching.by_signature.Goals as goal
 pub returns : goal.returns
 returns c =
     IfOk-weaker c.gather.result (λ groups. groups.entries ≡ gathered c.in_ok-with_signatures.field-0) _
-      (λ groups e. ap read e ∙ read_gathered c.args.p.now c.args.rows.now c.in_ok-with_signatures.field-0 c.in_ok-with_signatures.ensures) c.gather.ensures
+    (λ groups e. ap read e ∙ read_gathered c.args.p.now c.args.rows.now c.in_ok-with_signatures.field-0 c.in_ok-with_signatures.ensures) c.gather.ensures

@@ -32,7 +32,7 @@ module _ (c : goal.In_ok-add_fatal) where
   all_marks : c.push_clashes.new.fatal ≡ pair_marks c.args.op c.args.p.now c.args.many.now c.args.ones.now
   all_marks = c.in_ok-push_clashes.ensures ∙ ap (λ marks. marks ++ map (clash_mark c.args.p.now.card) c.in_ok-parted.parted.shared) more_marks
       ∙ ap (λ shared. ((map DuplicateOneSide (duplicates c.args.p.now c.args.ones.now) ++ faults_of (matches c.args.op c.args.p.now c.args.many.now c.args.ones.now)) ++ map ImplicitManyToOne (crowded c.args.p.now.card (left_rows (matches c.args.op c.args.p.now c.args.many.now c.args.ones.now)))) ++ map (clash_mark c.args.p.now.card) shared)
-          (c.in_ok-parted.ensures.shared ∙ ap shared_names rows_are)
+      (c.in_ok-parted.ensures.shared ∙ ap shared_names rows_are)
 
 pub returns-clause-rows : goal.returns-clause-rows
 returns-clause-rows c = c.in_ok-parted.ensures.lone ∙ ap lone_items (rows_are c)
