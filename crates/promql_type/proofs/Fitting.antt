@@ -1,10 +1,9 @@
 -- A node without refusals fits.
-use Rattle.std.proofs.Common.{◌≡◌, ◌∙◌, ℕ, ◌+◌, List, [], ◌∷◌, ◌++◌, length, ap, sym, refl, subst, Bool, true, false, arith}
+use Rattle.std.proofs.Common.{◌≡◌, ◌∙◌, ℕ, ◌+◌, List, [], ◌∷◌, ◌++◌, length, ap, sym, refl, Bool, true, false, arith}
 use Rattle.std.proofs.Common.{true≢false}
 use Rattle.std.proofs.lemmas.Bool.{false≢true}
 use Rattle.std.specs.Prelude.{Option, Some, None, ◌||◌, IfSome}
 use Rattle.promql_ast.specs.declared.refusal.QueryRefusal.{QueryRefusal}
-use Rattle.promql_ast.specs.declared.tree.Expr.{Expr}
 use Rattle.promql_ast.specs.declared.tree.Node.TheOpen.{Node-F}
 use Rattle.promql_ast.specs.declared.tree.Node.TheFolds.{fold_out-Expr, fold_out-Node}
 use Rattle.promql_type.specs.declared.kind.Kind.{Kind}
@@ -12,10 +11,10 @@ use Rattle.promql_type.specs.declared.kind.Kind.TheVariants.{Scalar, Vector, Win
 use Rattle.promql_type.specs.declared.kind.Operand.{Operand}
 use Rattle.promql_type.specs.declared.signature.Callee.{Callee}
 use Rattle.promql_type.specs.declared.signature.Callee.TheVariants.{Function, Aggregation}
-use Rattle.promql_type.specs.Fits.{FitArguments, Fits, FitsCall, FitsKind, FitsOperand, TypedTreesFit, layer_of}
-use Rattle.promql_type.specs.Judging.{Judgement, Layer, arguments_refusals, call_refusals, expr_step, judged, node_step, refusals, strings_refusals}
+use Rattle.promql_type.specs.Fits.{FitArguments, Fits, FitsCall, TypedTreesFit, layer_of}
+use Rattle.promql_type.specs.Judging.{Judgement, Layer, arguments_refusals, call_refusals, expr_step, node_step, refusals, strings_refusals}
 use Rattle.promql_type.specs.Kinds.{is_kind, is_number, is_scalar}
-use Rattle.promql_type.specs.Rules.{argument_refusals, comparison_refusals, count_refusals, matching_refusals, operand_refusals, unless_true, where_true}
+use Rattle.promql_type.specs.Rules.{argument_refusals, count_refusals, matching_refusals, operand_refusals, unless_true, where_true}
 use Rattle.promql_type.specs.Signatures.{Signature, argument, is_count, signature}
 use Rattle.promql_type.proofs.Taken.{left_none, right_none}
 

@@ -1,8 +1,8 @@
 -- The equations of `judged`, and the least refusal of each kind of node.
-use Rattle.std.proofs.Common.{◌≡◌, ◌<◌, ◌≤◌, ◌+◌, ℕ, suc, refl, ap, ap₂, ◌∙◌, sym, map, drop, get_or, length, List, [], ◌∷◌, ◌++◌, arith}
-use Rattle.std.specs.Prelude.{Option, Some, None}
+use Rattle.std.proofs.Common.{◌≡◌, ◌<◌, ◌≤◌, ◌+◌, ℕ, ap, ap₂, ◌∙◌, sym, map, drop, get_or, length, List, ◌∷◌, ◌++◌}
+use Rattle.std.specs.Prelude.{Option, Some}
 use Rattle.std.proofs.lemmas.List.{drop_more}
-use Rattle.std.proofs.Math.ListN.{drop_of_length-le, length-map}
+use Rattle.std.proofs.Math.ListN.{drop_of_length-le}
 use Rattle.func_table.specs.declared.table.Func.{Func}
 use Rattle.func_table.specs.declared.table.Aggregate.{Aggregate}
 use Rattle.func_table.specs.declared.table.SetOp.{SetOp}
@@ -13,11 +13,9 @@ use Rattle.xfrac.specs.declared.value.PairOp.{PairOp}
 use Rattle.promql_ast.specs.declared.refusal.QueryRefusal.{QueryRefusal}
 use Rattle.promql_ast.specs.declared.tree.Moment.{Moment}
 use Rattle.promql_ast.specs.declared.tree.Expr.{Expr}
-use Rattle.promql_ast.specs.declared.tree.Node.TheVariants.{Paren, Negate, Subquery, Call, Aggregate as Aggregated, Pair, Set}
+use Rattle.promql_ast.specs.declared.tree.Node.TheVariants.{Negate, Subquery, Call, Aggregate as Aggregated, Pair, Set}
 use Rattle.promql_ast.specs.Folds.{fold-Negate, fold-Subquery, fold-Call, fold-Aggregate, fold-Pair, fold-Set}
-use Rattle.promql_type.specs.declared.kind.Kind.{Kind}
 use Rattle.promql_type.specs.declared.kind.Kind.TheVariants.{Vector}
-use Rattle.promql_type.specs.declared.kind.Operand.{Operand}
 use Rattle.promql_type.specs.declared.signature.Callee.TheVariants.{Function, Aggregation}
 use Rattle.promql_type.specs.Judging.{Judgement, judged, node_step, expr_step, arguments_refusals, call_refusals}
 use Rattle.promql_type.specs.Refusals.{lesser, least}

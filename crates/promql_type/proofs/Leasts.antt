@@ -1,24 +1,24 @@
 -- The least of refusals in several parts.
 use Rattle.std.proofs.Common.{◌≡◌, ℕ, refl, ap, ◌∙◌, sym, List, [], ◌∷◌, ◌++◌, arith, Bool, true, false, true≢false}
 use Rattle.std.proofs.lemmas.Bool.{false≢true}
-use Rattle.std.specs.Prelude.{Option, Some, None, nat_lt, ◌==◌, ◌&&◌, ◌||◌, if◌then◌else◌}
+use Rattle.std.specs.Prelude.{Option, Some, None, nat_lt, ◌==◌, ◌&&◌, ◌||◌}
 use Rattle.promql_ast.specs.declared.refusal.QueryRefusal.{QueryRefusal}
 use Rattle.promql_ast.specs.Refusals.{place_of, number_of}
 use Rattle.promql_type.specs.Refusals.{comes_first, lesser, least}
 
-abbrev first : ℕ → ℕ → ℕ → ℕ → Bool
+abbrev pub first : ℕ → ℕ → ℕ → ℕ → Bool
 first p n q m = nat_lt p q || p == q && nat_lt n m
 
 both_first : (p n q m r k : ℕ) → first p n q m ≡ true → first q m r k ≡ true → first p n r k ≡ true
 both_first p n q m r k pq qr = grind arith
 
-none_first : (p n q m r k : ℕ) → first p n q m ≡ false → first q m r k ≡ false → first p n r k ≡ false
+pub none_first : (p n q m r k : ℕ) → first p n q m ≡ false → first q m r k ≡ false → first p n r k ≡ false
 none_first p n q m r k pq qr = grind arith
 
-is_lesser : (a b : QueryRefusal) → comes_first b a ≡ true → lesser (Some a) (Some b) ≡ Some b
+pub is_lesser : (a b : QueryRefusal) → comes_first b a ≡ true → lesser (Some a) (Some b) ≡ Some b
 is_lesser a b is = rw is refl
 
-is_no_lesser : (a b : QueryRefusal) → comes_first b a ≡ false → lesser (Some a) (Some b) ≡ Some a
+pub is_no_lesser : (a b : QueryRefusal) → comes_first b a ≡ false → lesser (Some a) (Some b) ≡ Some a
 is_no_lesser a b is = rw is refl
 
 -- the three ways in which two of three refusals are compared

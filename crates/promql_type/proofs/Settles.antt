@@ -1,17 +1,15 @@
 -- A typed tree is judged as the tree that it is made of.
 use Rattle.std.proofs.Common.{◌≡◌, ◌∙◌, ℕ, List, [], ◌∷◌, ◌++◌, map, ap, ap₂, sym, refl, subst, Bool, true, false}
-use Rattle.std.specs.Prelude.{Option, Some, None}
-use Rattle.func_table.specs.declared.table.Func.{Func}
 use Rattle.label_set.specs.declared.rules.Pairing.{Pairing}
 use Rattle.xfrac.specs.declared.value.PairOp.{PairOp}
 use Rattle.promql_ast.specs.declared.tree.Expr.{Expr}
 use Rattle.promql_ast.specs.declared.tree.Node.{Node}
 use Rattle.promql_ast.specs.declared.tree.Node.TheVariants.{Number, Words, Paren, Negate, Select, Range, Subquery, Call, Aggregate, Pair, Set}
-use Rattle.promql_ast.specs.declared.tree.Node.TheOpen.{Node-F, Expr-F}
+use Rattle.promql_ast.specs.declared.tree.Node.TheOpen.{Node-F}
 use Rattle.promql_ast.specs.declared.tree.Node.TheViews.{roll-Node, roll-Expr, outs-Number, outs-Words, outs-Paren, outs-Negate, outs-Select, outs-Range, outs-Subquery, outs-Call, outs-Aggregate, outs-Pair, outs-Set}
 use Rattle.promql_ast.specs.declared.tree.Node.TheFolds.{map-Node, fold-Node, fold_out-Node, fold-roll-Node, fold-roll-Expr, ind-Expr}
 use Rattle.promql_type.specs.declared.kind.Operand.{Operand}
-use Rattle.promql_type.specs.Judging.{Judgement, Layer, judged, node_step, expr_step}
+use Rattle.promql_type.specs.Judging.{Judgement, judged, node_step, expr_step}
 use Rattle.promql_type.specs.Rules.{matching_refusals, pair_refusals, operand_refusals, comparison_refusals}
 use Rattle.promql_type.specs.Settled.{kind_of, pairing_beside, settled, settled_expr, settled_pairing, settled_step}
 

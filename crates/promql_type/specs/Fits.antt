@@ -1,6 +1,6 @@
 -- What holds of each node of a typed tree: its operands and arguments are of the kinds that the table wants there. By the
 -- Prometheus querying documentation, "Operators" and "Functions".
-use Rattle.std.specs.Prelude.{◌≡◌, ℕ, ◌+◌, Bool, true, false, ◌||◌, ◌&&◌, List, [], ◌∷◌, length, Option, Some, None, IfSome, ⊤}
+use Rattle.std.specs.Prelude.{◌≡◌, ℕ, ◌+◌, true, List, [], ◌∷◌, length, IfSome, ⊤}
 use Rattle.promql_ast.specs.declared.tree.Expr.{Expr}
 use Rattle.promql_ast.specs.declared.tree.Node.{Node}
 use Rattle.promql_ast.specs.declared.tree.Node.TheOpen.{Node-F}
@@ -11,7 +11,7 @@ use Rattle.promql_type.specs.declared.kind.Kind.TheVariants.{Vector}
 use Rattle.promql_type.specs.declared.signature.Callee.{Callee}
 use Rattle.promql_type.specs.declared.signature.Callee.TheVariants.{Function, Aggregation}
 use Rattle.promql_type.specs.Judging.{Judgement, Layer, expr_step, judged, node_step, strings_refusals}
-use Rattle.promql_type.specs.Kinds.{is_number, is_scalar}
+use Rattle.promql_type.specs.Kinds.{is_number}
 use Rattle.promql_type.specs.Rules.{comparison_refusals, matching_refusals}
 use Rattle.promql_type.specs.Signatures.{Signature, argument, is_count, signature}
 

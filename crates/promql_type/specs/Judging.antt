@@ -1,5 +1,5 @@
 -- The type of a tree, and all of its refusals: by one step for each kind of node, over what the same gives for its children.
-use Rattle.std.specs.Prelude.{ℕ, ◌+◌, List, [], ◌∷◌, ◌++◌, length, Option, Some, None, option_and_then, option_map, slice_get}
+use Rattle.std.specs.Prelude.{ℕ, ◌+◌, List, [], ◌∷◌, ◌++◌, length, Option, Some, None, option_and_then, slice_get}
 use Rattle.func_table.specs.declared.table.Func.{Func}
 use Rattle.func_table.specs.declared.table.Func.TheVariants.{LabelJoin, LabelReplace}
 use Rattle.func_table.specs.declared.table.Aggregate.TheVariants.{CountValues}

@@ -2,7 +2,7 @@
 -- pattern is what `regex` answers. The limit of patterns is this project's own.
 use Rattle.std.specs.Prelude.{◌≡◌, ℕ, Bool, true, false, List, [], ◌∷◌, ◌++◌, length, ◌<◌, ◌≤◌, slice_get, Some, Option, None, ⊤}
 use Rattle.promql_ast.specs.declared.refusal.QueryRefusal.{QueryRefusal}
-use Rattle.promql_ast.specs.declared.refusal.QueryRefusal.TheVariants.{TooLong, BadToken, Unterminated, BadEscape, BadNumber, NumberRange, LeadingZero, BadDuration, DurationRange, Expected, TooDeep, UnknownFunction, RefusedFunction, EmptySelector, BadPattern, TooManyPatterns, LabelTwice, NameTwice, BadTemplate, BadLabelName, WrongType, WrongArity, NeedsBool, SetOnScalar, RangeResult, StringResult, TooManyPoints}
+use Rattle.promql_ast.specs.declared.refusal.QueryRefusal.TheVariants.{BadPattern, TooManyPatterns}
 use Rattle.match_rule.specs.Patterns.{IsRefused, is_kept, is_plain, regex_text, with_pattern}
 use Rattle.promql_type.specs.declared.replace.Placed.{Placed}
 use Rattle.promql_type.specs.declared.replace.Replacement.{Replacement}

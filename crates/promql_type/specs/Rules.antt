@@ -1,6 +1,6 @@
 -- Why one node is refused: by the kinds of its operands and arguments, by their number, and by what its strings say. The
 -- kinds are those of the Prometheus querying documentation, "Operators" and "Functions"; the places are this project's own.
-use Rattle.std.specs.Prelude.{ℕ, Bool, ◌&&◌, ◌||◌, if◌then◌else◌, List, [], ◌∷◌, ◌++◌, length, Option, Some, None}
+use Rattle.std.specs.Prelude.{ℕ, Bool, ◌&&◌, ◌||◌, if◌then◌else◌, List, [], ◌∷◌, ◌++◌, Option, Some, None}
 use Rattle.xfrac.specs.declared.value.PairOp.{PairOp}
 use Rattle.xfrac.specs.declared.value.PairOp.TheVariants.{Arith, Filter, Flag}
 use Rattle.label_set.specs.declared.rules.Pairing.{Pairing}
@@ -9,9 +9,8 @@ use Rattle.promql_ast.specs.declared.refusal.QueryRefusal.TheVariants.{BadTempla
 use Rattle.promql_type.specs.declared.kind.Kind.{Kind}
 use Rattle.promql_type.specs.declared.kind.Kind.TheVariants.{Scalar, Vector, Windows, Words}
 use Rattle.promql_type.specs.declared.kind.Operand.{Operand}
-use Rattle.promql_type.specs.declared.signature.Callee.{Callee}
 use Rattle.promql_type.specs.Kinds.{is_kind, is_number, is_scalar}
-use Rattle.promql_type.specs.Signatures.{Signature, argument, is_count}
+use Rattle.promql_type.specs.Signatures.{Signature, is_count}
 use Rattle.promql_type.specs.Templates.{is_named}
 
 -- a refusal, where a fact holds

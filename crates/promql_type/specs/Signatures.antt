@@ -1,6 +1,6 @@
 -- What each function and aggregation takes and gives, by the Prometheus querying documentation, "Functions" and
 -- "Aggregation operators".
-use Rattle.std.specs.Prelude.{ℕ, zero, suc, Bool, ◌==◌, ◌||◌, nat_le, List, [], ◌∷◌, length, Option, None, Some, slice_get}
+use Rattle.std.specs.Prelude.{ℕ, suc, Bool, ◌==◌, ◌||◌, nat_le, List, [], ◌∷◌, length, Option, None, Some, slice_get}
 use Rattle.func_table.specs.declared.table.Func.{Func}
 use Rattle.func_table.specs.declared.table.Element.{Element as ElementFunction}
 use Rattle.func_table.specs.declared.table.Window.{Window as WindowFunction}

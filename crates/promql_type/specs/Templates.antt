@@ -1,6 +1,6 @@
 -- The replacement text of label_replace, by Go's regexp.Expand, which the Prometheus querying documentation refers to:
 -- `$name` and `${name}` are a group, `$$` is a dollar sign. This project takes numbered groups alone.
-use Rattle.std.specs.Prelude.{ℕ, Bool, true, false, not, ◌==◌, ◌&&◌, ◌||◌, if◌then◌else◌, List, [], ◌∷◌, take, drop}
+use Rattle.std.specs.Prelude.{ℕ, Bool, false, not, ◌==◌, ◌&&◌, ◌||◌, if◌then◌else◌, List, [], ◌∷◌, take, drop}
 use Rattle.std.specs.Char.{is_ascii_digit, is_ascii_alphanumeric}
 use Rattle.std.specs.List.{list_all, prefix_len}
 

@@ -1,5 +1,5 @@
 -- What a typed tree shows.
-use Rattle.std.specs.Prelude.{◌≡◌, ℕ, ◌==◌, if◌then◌else◌, List, [], ◌∷◌, Option, None, Some, true, slice_get, option_and_then}
+use Rattle.std.specs.Prelude.{ℕ, ◌==◌, if◌then◌else◌, List, [], ◌∷◌, Option, None, Some}
 use Rattle.label_set.specs.declared.rules.PatternId.{PatternId}
 use Rattle.promql_ast.specs.declared.tree.Expr.{Expr}
 use Rattle.promql_type.specs.declared.replace.Placed.{Placed}

@@ -16,7 +16,7 @@ mod template;
 mod typed_tree;
 
 pub use checking::check;
-pub use law::typed_trees_fit;
+pub use law::{least_is_first, typed_trees_fit};
 pub use typed_tree::{TypeFault, Typed};
 
 #[cfg(test)]

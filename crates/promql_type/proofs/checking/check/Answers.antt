@@ -1,11 +1,11 @@
 use Rattle.std.proofs.Common.{rules, ◌∙◌, ◌≡◌, List, [], ◌∷◌, ap, sym, subst}
-use Rattle.std.specs.Prelude.{Some, None}
+use Rattle.std.specs.Prelude.{Some}
 use Rattle.promql_type.specs.declared.replace.Replacement.{Replacement}
 use Rattle.promql_type.specs.Answers.{MayFault, refusals_of}
 use Rattle.promql_type.specs.Judging.{judged}
 use Rattle.promql_type.specs.Refusals.{lesser}
 use Rattle.promql_type.specs.Replacements.{AreKept, IsFirstRefused}
-use Rattle.promql_type.specs.TypedTrees.{placed_of, tree_of}
+use Rattle.promql_type.specs.TypedTrees.{tree_of}
 use Rattle.promql_type.proofs.Leasts.{least_append}
 use Rattle.promql_type.proofs.Settles.{settled_is_judged}
 use Rattle.promql_type.proofs.Taken.{least_none}

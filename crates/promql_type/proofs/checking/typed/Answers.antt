@@ -1,4 +1,4 @@
-use Rattle.std.proofs.Common.{◌∙◌, ◌≡◌, ap}
+use Rattle.std.proofs.Common.{◌∙◌, ap}
 use Rattle.promql_type.specs.Judging.{judged}
 use Rattle.promql_type.specs.Points.{crowded}
 use Rattle.promql_type.specs.Rules.{result_refusals}

@@ -1,8 +1,8 @@
-use Rattle.std.proofs.Common.{rules, ◌∙◌, ◌≡◌, map, length, sym, ap, ap₂, arith}
-use Rattle.promql_type.specs.Judging.{arguments_refusals, call_refusals, judged, strings_refusals}
+use Rattle.std.proofs.Common.{◌∙◌, map, length, sym, ap, ap₂, arith}
+use Rattle.promql_type.specs.Judging.{arguments_refusals, judged, strings_refusals}
 use Rattle.promql_type.specs.Refusals.{least, lesser}
-use Rattle.promql_type.specs.Rules.{argument_refusals, count_refusals, set_refusals}
-use Rattle.promql_type.specs.Signatures.{argument, signature}
+use Rattle.promql_type.specs.Rules.{argument_refusals, count_refusals}
+use Rattle.promql_type.specs.Signatures.{signature}
 use Rattle.promql_type.proofs.Judged.{least_set, least_three, next_argument}
 use Rattle.std.proofs.Math.ListN.{length-map}
 use Rattle.promql_type.proofs.judge.+judging.Goals as goal

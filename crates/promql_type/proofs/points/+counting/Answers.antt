@@ -1,4 +1,4 @@
-use Rattle.std.proofs.Common.{◌∙◌, ◌≡◌, ◌*◌, min, sym, ap, ap₂, arith}
+use Rattle.std.proofs.Common.{◌∙◌, ◌*◌, min, sym, ap, ap₂}
 use Rattle.promql_type.specs.Points.{crowded}
 use Rattle.promql_type.specs.Refusals.{least, lesser}
 use Rattle.promql_type.proofs.Crowds.{least_pair, least_set, least_subquery, next_crowded}

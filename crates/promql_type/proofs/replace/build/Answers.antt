@@ -1,4 +1,4 @@
-use Rattle.std.proofs.Common.{◌+◌, ◌≡◌, take, sym, subst, refl, List}
+use Rattle.std.proofs.Common.{◌+◌, take, sym, subst, refl, List}
 use Rattle.promql_type.specs.declared.replace.Placed.{Placed}
 use Rattle.promql_type.proofs.Builds.{AreSofar, first_fault, next_kept}
 use Rattle.promql_type.proofs.replace.build.Goals as goal
