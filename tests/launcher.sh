@@ -90,7 +90,7 @@ wanted 'what stays in the folder' 'lock promql toolchain' "$(ls -A "$at/bin/.cac
 part 'what is printed while it builds'
 checkout "$at"
 wanted 'the report' "$good" "$(report "$at")"
-wanted 'the lines' 'promqltest: the crates are proved first, once: about 20 minutes on four processors
+wanted 'the lines' 'promqltest: the crates are proved first, once: about 15 minutes on four processors
 promqltest: proved low, 1 of 2
 promqltest: proved promql, 2 of 2' "$(cat "$room/said")"
 wanted 'the second report' "$good" "$(report "$at")"
@@ -166,6 +166,7 @@ setsid "$at/bin/promqltest" a.test >/dev/null 2>&1 &
 sleep 1
 kill -TERM -- "-$!"
 wait 2>/dev/null
+flock "$at/bin/.cache/lock" true
 wanted 'what stays in the folder' 'lock toolchain' "$(ls -A "$at/bin/.cache" | xargs)"
 wanted 'the next call' "$good" "$(report "$at")"
 
