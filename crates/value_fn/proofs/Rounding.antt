@@ -12,7 +12,7 @@ use Rattle.xfrac.specs.Divisors.{gcd}
 use Rattle.xfrac.specs.Forming.{formed, floor_of}
 use Rattle.xfrac.specs.Fractions.{lowest, is_within}
 use Rattle.xfrac.specs.Gcds.{gcd-is, positive_quotient, product_positive}
-use Rattle.xfrac.specs.Laws.{IsNumber, AtMost, LowestIsEqual, SumIsExact, FloorIsNotAbove, FloorIsGreatest}
+use Rattle.xfrac.specs.Laws.{IsNumber, LowestIsEqual, SumIsExact, FloorIsNotAbove, FloorIsGreatest}
 use Rattle.xfrac.specs.Near.{difference}
 use Rattle.xfrac.specs.Sequencing.{◌>>=◌}
 use Rattle.xfrac.specs.declared.value.ArithOp.TheVariants.{Add, Mul, Div}

@@ -1,6 +1,6 @@
 -- The sum of two fractions is their exact sum.
-use Rattle.std.proofs.Common.{◌≡◌, ℕ, ◌+◌, ◌-◌, ◌*◌, ◌/◌, ◌<◌, ◌≤◌, suc, refl, sym, subst, ap, ◌∙◌, arith, Bool, true, false, [], ◌∷◌, inl, inr, Some, None, cond, ◌&&◌, nat_le}
-use Rattle.std.specs.Prelude.{ℤ, pos, negsuc, neg_ℤ, ◌+ℤ◌, ◌-ℤ◌, ◌*ℤ◌, unsigned_abs, Option, Result, Ok, Err}
+use Rattle.std.proofs.Common.{◌≡◌, ℕ, ◌+◌, ◌-◌, ◌*◌, ◌/◌, ◌<◌, ◌≤◌, refl, sym, subst, ap, ◌∙◌, arith, Bool, true, false, [], ◌∷◌, inl, inr, None, nat_le}
+use Rattle.std.specs.Prelude.{ℤ, pos, negsuc, neg_ℤ, ◌+ℤ◌, ◌-ℤ◌, ◌*ℤ◌, unsigned_abs, Option, Result, Ok}
 use Rattle.std.specs.Option.{ok_or}
 use Rattle.std.specs.Int.{IsGcd}
 use Rattle.std.proofs.lemmas.Int.{ints}
@@ -18,6 +18,7 @@ use Rattle.xfrac.specs.declared.value.XFrac.{XFrac}
 use Rattle.xfrac.specs.declared.value.XFrac.TheVariants.{Fin}
 use Rattle.xfrac.specs.Gcds.{product_positive, gcd-is, gcd_positive, reduced_apart, positive_quotient, reduced_is}
 use Rattle.xfrac.specs.Formed.{lowest-with_sign, unsigned_abs-with_sign}
+use Rattle.xfrac.proofs.Adding.{upper_times, lower_times}
 use Rattle.xfrac.proofs.Products.{with_sign-times_pos}
 use Rattle.xfrac.proofs.Pairs.{two, two_totals, two_some, two_none, scaled_positive, reduced_terms}
 use Rattle.xfrac.proofs.LawProofs.{cross_same}
@@ -63,14 +64,6 @@ minus_scaled p q g =
 
     up : (r q p : ℕ) → r + q ≡ p → pos p -ℤ pos q ≡ pos r
     up r q p e = omega (arith, ints)
-
-upper_times : (s : Bool) (a g : ℕ) → upper s a * g ≡ upper s (a * g)
-upper_times false a g = refl
-upper_times true a g = omega arith
-
-lower_times : (s : Bool) (a g : ℕ) → lower s a * g ≡ lower s (a * g)
-lower_times false a g = omega arith
-lower_times true a g = refl
 
 spread : (x y u v g : ℕ) → x * g ≡ u → y * g ≡ v → (x + y) * g ≡ u + v
 spread x y u v g e f = omega arith
