@@ -12,8 +12,9 @@ use Rattle.xfrac.specs.Formed.{formed_outside, formed_within}
 use Rattle.frac_text.specs.declared.refusal.NumberRefusal.{NumberRefusal}
 use Rattle.frac_text.specs.declared.refusal.NumberRefusal.TheVariants.{BadNumber}
 use Rattle.frac_text.specs.Decimals.{Decimal, scaled, decimal_of, has_leading_zero}
-use Rattle.frac_text.specs.Digits.{number}
-use Rattle.frac_text.specs.Hexadecimals.{hexadecimal_number, is_hexadecimal}
+use Rattle.frac_text.specs.declared.digits.Base.TheVariants.{Sixteen}
+use Rattle.frac_text.specs.Digits.{number, number_in}
+use Rattle.frac_text.specs.Hexadecimals.{is_hexadecimal}
 use Rattle.frac_text.specs.Readings.{judged, decimal_answer, plain_answer, literal_answer, hexadecimal_answer, is_word}
 use Rattle.frac_text.specs.Times.{IsBounded, IsMilliseconds, IsSeconds}
 use Rattle.frac_text.proofs.Lowest.{Terms, terms}
@@ -67,8 +68,8 @@ plain_bounded grouped text v is =
 
 hexadecimal_bounded : (digits : List ℕ) (v : XFrac) → hexadecimal_answer digits ≡ Ok v → IsBounded v
 hexadecimal_bounded digits v is =
-    by_bool (IsBounded v) _ (judged false (formed (pos (hexadecimal_number digits)) 1)) (Err BadNumber) (Ok v) is
-    (λ e. formed_bounded (hexadecimal_number digits) 1 v (omega arith) (judged_some false _ v e))
+    by_bool (IsBounded v) _ (judged false (formed (pos (number_in Sixteen digits)) 1)) (Err BadNumber) (Ok v) is
+    (λ e. formed_bounded (number_in Sixteen digits) 1 v (omega arith) (judged_some false _ v e))
     (λ e. absurd (cc e))
 
 pub literal_bounded : (text : List ℕ) (v : XFrac) → literal_answer text ≡ Ok v → IsBounded v

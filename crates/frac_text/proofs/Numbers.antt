@@ -2,10 +2,10 @@
 use Rattle.std.proofs.Common.{◌≡◌, ℕ, refl, ◌+◌, ◌-◌, ◌*◌, ◌^◌, ◌<◌, ◌≤◌, sym, ap, ◌∙◌, arith, false, true, cond, List, [], ◌∷◌, ◌++◌, length, take, drop, get_or, add-one, take-append-drop, drop-cons}
 use Rattle.std.specs.Char.{digit_value, is_ascii_digit}
 use Rattle.std.specs.Str.Parse.{digits_value_after}
-use Rattle.std.proofs.Math.Nat.{one-le-pow, le-mul_of_pos_right, pow-suc}
+use Rattle.std.proofs.Math.Nat.{one-le-pow, pow-suc}
 use Rattle.std.proofs.lemmas.Bool.{cond-false, cond-true, le-ltb, lt-ltb}
 use Rattle.std.proofs.lemmas.Bool.Decides.{nat_tests}
-use Rattle.std.proofs.lemmas.List.Elements.{filter_more, filter-append}
+use Rattle.std.proofs.lemmas.List.Elements.{filter-append}
 use Rattle.frac_text.specs.Digits.{digits_in, number}
 
 pub ten_positive : (k : ℕ) → 0 < 10 ^ k
@@ -47,31 +47,6 @@ number_push xs c digit = number-append xs (c ∷ []) ∙ (let one = number-cons 
 
 pub digits_parted : (text : List ℕ) (i : ℕ) → digits_in text ≡ digits_in (take i text) ++ digits_in (drop i text)
 digits_parted text i = ap digits_in (sym (take-append-drop i text)) ∙ filter-append is_ascii_digit (take i text) (drop i text)
-
--- one more digit from the left
-pub number_more : (text : List ℕ) (i value next : ℕ) → i < length text → is_ascii_digit (get_or text i 0) ≡ true → next + 48 ≡ value * 10 + get_or text i 0
-    → value ≡ number (digits_in (take i text)) → next ≡ number (digits_in (take (i + 1) text))
-number_more text i value next lt digit is was =
-    let range = digit_range (get_or text i 0) digit in
-    let more : digits_in (take (i + 1) text) ≡ digits_in (take i text) ++ (get_or text i 0 ∷ []) =
-    filter_more is_ascii_digit text i 0 lt ∙ ap (λ b. digits_in (take i text) ++ cond b (get_or text i 0 ∷ []) []) digit in
-    let pushed = number_push (digits_in (take i text)) (get_or text i 0) digit in
-    let worth : next ≡ number (digits_in (take i text)) * 10 + (get_or text i 0 - 48) = omega (arith, range.0, was, is) in
-    worth ∙ sym pushed ∙ ap number (sym more)
-
-pub number_same : (text : List ℕ) (i value : ℕ) → i < length text → is_ascii_digit (get_or text i 0) ≡ false
-    → value ≡ number (digits_in (take i text)) → value ≡ number (digits_in (take (i + 1) text))
-number_same text i value lt other was =
-    let more : digits_in (take (i + 1) text) ≡ digits_in (take i text) ++ [] =
-    filter_more is_ascii_digit text i 0 lt ∙ ap (λ b. digits_in (take i text) ++ cond b (get_or text i 0 ∷ []) []) other in
-    was ∙ sym (ap number more ∙ number-append (digits_in (take i text)) [] ∙ omega arith)
-
--- a front of the digits stands for no more than they all do
-pub number_front : (text : List ℕ) (i : ℕ) → number (digits_in (take i text)) ≤ number (digits_in text)
-number_front text i =
-    let e : number (digits_in text) ≡ _ = ap number (digits_parted text i) ∙ number-append (digits_in (take i text)) (digits_in (drop i text)) in
-    let big : number (digits_in (take i text)) ≤ number (digits_in (take i text)) * 10 ^ length (digits_in (drop i text)) = le-mul_of_pos_right (number (digits_in (take i text))) (ten_positive (length (digits_in (drop i text)))) in
-    omega (arith, e, big)
 
 -- one more digit from the right
 pub digits_drop : (text : List ℕ) (i : ℕ) → i < length text → is_ascii_digit (get_or text i 0) ≡ true → digits_in (drop i text) ≡ get_or text i 0 ∷ digits_in (drop (i + 1) text)

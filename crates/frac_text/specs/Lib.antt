@@ -2,6 +2,7 @@ pub mod Capped
 pub mod Decimals
 pub mod Digits
 pub mod Hexadecimals
+pub mod Literals
 pub mod Readings
 pub mod Scales
 pub mod Spellings

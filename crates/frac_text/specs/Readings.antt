@@ -3,9 +3,11 @@
 use Rattle.std.specs.Prelude.{ℕ, pos, Bool, true, false, not, length, drop, ◌==◌, ◌&&◌, if◌then◌else◌, List, [], ◌∷◌, map, codes, bytes_eq, Option, Some, None, Result, Ok, Err}
 use Rattle.std.specs.Char.{to_ascii_lowercase}
 use Rattle.frac_text.specs.Decimals.{Decimal, decimal_of, value_of, has_leading_zero}
+use Rattle.frac_text.specs.declared.digits.Base.TheVariants.{Sixteen}
 use Rattle.frac_text.specs.declared.refusal.NumberRefusal.{NumberRefusal}
 use Rattle.frac_text.specs.declared.refusal.NumberRefusal.TheVariants.{BadNumber, NumberRange, LeadingZero}
-use Rattle.frac_text.specs.Hexadecimals.{is_hexadecimal, is_hexadecimal_run, hexadecimal_number}
+use Rattle.frac_text.specs.Digits.{is_run_in, number_in}
+use Rattle.frac_text.specs.Hexadecimals.{is_hexadecimal}
 use Rattle.xfrac.specs.Forming.{formed, negated}
 use Rattle.xfrac.specs.declared.value.XFrac.{XFrac}
 use Rattle.xfrac.specs.declared.value.XFrac.TheVariants.{PosInf, NaN}
@@ -44,7 +46,7 @@ script_answer (first ∷ rest) =
 -- at least one digit stands after the prefix
 abbrev pub hexadecimal_answer : List ℕ → Result XFrac NumberRefusal
 hexadecimal_answer digits =
-    if (not (length digits == 0) && is_hexadecimal_run true digits) then judged false (formed (pos (hexadecimal_number digits)) 1) else Err BadNumber
+    if (not (length digits == 0) && is_run_in Sixteen true digits) then judged false (formed (pos (number_in Sixteen digits)) 1) else Err BadNumber
 
 -- a literal has no sign, and single underscores between two digits
 abbrev pub literal_answer : List ℕ → Result XFrac NumberRefusal

@@ -7,7 +7,7 @@ ghost use Rattle.std.specs.Prelude.{◌≡◌, ◌≤◌, ◌++◌, ℕ};
 ghost use Rattle.xfrac.specs.Fractions.{limit};
 
 use crate::NumberRefusal;
-use crate::digits::{digit_count, is_run, run_length, whole_number};
+use crate::digits::{Base, digit_count, is_run, run_length, whole_number};
 use crate::value::value_of;
 use xfrac::{LIMIT, XFrac};
 
@@ -48,7 +48,7 @@ fn significand<'a>(text: &'a [u8], ending: &[u8], grouped: bool) -> &'a [u8]
 fn is_optional_run(text: &[u8]) -> bool
     ensures { result ≡ is_optional_run text.now }
 {
-    text.is_empty() || is_run(text)
+    text.is_empty() || is_run(text, Base::Ten, false)
 }
 
 fn are_digits(whole: &[u8], fraction: &[u8]) -> bool
@@ -63,10 +63,10 @@ fn are_digits(whole: &[u8], fraction: &[u8]) -> bool
 fn count_of(text: &[u8], grouped: bool) -> Option<u128>
     ensures { IsCount (count_of grouped text.now) result }
 {
-    if !split_run(text, grouped).1.is_empty() || !is_run(text) {
+    if !split_run(text, grouped).1.is_empty() || !is_run(text, Base::Ten, false) {
         return None;
     }
-    match whole_number(text) {
+    match whole_number(text, Base::Ten) {
         Some(n) => Some(n),
         None => Some(LIMIT),
     }

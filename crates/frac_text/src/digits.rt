@@ -1,11 +1,55 @@
 //! Runs of digits in a text.
-ghost use Rattle.frac_text.specs.Digits.{is_part, is_run, digits_in, number};
+ghost use Rattle.frac_text.specs.Digits.{is_part, is_digit, radix, is_run_in, digits_in, number_in};
+ghost use Rattle.std.specs.Char.{digit_value};
 ghost use Rattle.std.specs.List.{prefix_len};
 ghost use Rattle.std.specs.Option.{SomeIff};
-ghost use Rattle.std.specs.Prelude.{◌≡◌, ◌≤◌, length, take, drop, false};
+ghost use Rattle.std.specs.Prelude.{◌≡◌, ◌≤◌, ◌<◌, ◌+◌, ◌*◌, IsTrue, IsSome, IfSome, length, take, drop};
 ghost use Rattle.xfrac.specs.Fractions.{limit};
 
 use xfrac::LIMIT;
+
+/// The base of a run of digits.
+#[derive(Clone, Copy)]
+pub enum Base {
+    Ten,
+    Sixteen,
+}
+
+impl Base {
+    fn is_digit(self, byte: u8) -> bool
+        ensures { result ≡ is_digit self byte }
+    {
+        match self {
+            Base::Ten => byte.is_ascii_digit(),
+            Base::Sixteen => byte.is_ascii_hexdigit(),
+        }
+    }
+
+    /// What a digit is worth.
+    fn digit(self, byte: u8) -> Option<u128>
+        ensures value { SomeIff result (IsTrue (is_digit self byte)) (digit_value byte) }
+        ensures below { IfSome result (λ d. d < radix self) }
+    {
+        match (self, byte) {
+            (_, b'0'..=b'9') => Some(u128::from(byte - b'0')),
+            (Base::Sixteen, b'a'..=b'f') => Some(u128::from(byte - b'a' + 10)),
+            (Base::Sixteen, b'A'..=b'F') => Some(u128::from(byte - b'A' + 10)),
+            _ => None,
+        }
+    }
+
+    /// The number with one more digit.
+    fn push(self, n: u128, digit: u128) -> u128
+        requires within { n ≤ limit }
+        requires below { digit < radix self }
+        ensures { result ≡ n * radix self + digit }
+    {
+        match self {
+            Base::Ten => n * 10 + digit,
+            Base::Sixteen => n * 16 + digit,
+        }
+    }
+}
 
 fn is_part(byte: u8, grouped: bool) -> bool
     ensures { result ≡ is_part grouped byte }
@@ -26,15 +70,16 @@ pub fn run_length(text: &[u8], grouped: bool) -> usize
     text.len()
 }
 
-/// Whether a run ends with a digit, and each byte that is none stands right after a digit.
-pub fn is_run(text: &[u8]) -> bool
-    ensures { result ≡ is_run false text.now }
+/// Whether a run ends with a digit, and each byte that is none is an underscore right after a digit. It may begin with one
+/// where `joined` says so.
+pub fn is_run(text: &[u8], base: Base, joined: bool) -> bool
+    ensures { result ≡ is_run_in base joined text.now }
 {
-    let mut after = false;
+    let mut after = joined;
     for byte in text {
-        if byte.is_ascii_digit() {
+        if base.is_digit(*byte) {
             after = true;
-        } else if after {
+        } else if after && *byte == b'_' {
             after = false;
         } else {
             return false;
@@ -52,13 +97,13 @@ pub fn digit_count(text: &[u8]) -> usize
 }
 
 /// The number that the digits stand for, where it is within the limit.
-pub fn whole_number(text: &[u8]) -> Option<u128>
-    ensures { SomeIff result (number (digits_in text.now) ≤ limit) (number (digits_in text.now)) }
+pub fn whole_number(text: &[u8], base: Base) -> Option<u128>
+    ensures { SomeIff result (number_in base text.now ≤ limit) (number_in base text.now) }
 {
     let mut n: u128 = 0;
     for byte in text {
-        if byte.is_ascii_digit() {
-            n = n * 10 + u128::from(*byte - b'0');
+        if let Some(digit) = base.digit(*byte) {
+            n = base.push(n, digit);
             if n > LIMIT {
                 return None;
             }

@@ -1,3 +1,4 @@
+ghost use Rattle.frac_text.specs.Literals.{IsLiteral, IsScriptNumber};
 ghost use Rattle.frac_text.specs.Readings.{literal_answer, script_answer};
 ghost use Rattle.frac_text.specs.Spellings.{IsUnsigned, ends, is_plain, spelling};
 ghost use Rattle.frac_text.specs.Times.{IsBeyond, IsNoTime, IsTaken, amount_of, is_negative, time_answer};
@@ -17,6 +18,13 @@ pub fn times_are_told()
     ensures taken { (text : List ℕ) (t : Ms) → (time_answer text ≡ Ok t) ↔ ((n : ℕ) × IsTaken (amount_of text) n × (t.0 ≡ with_sign (is_negative text) n)) }
     ensures beyond { (text : List ℕ) → (time_answer text ≡ Err TimeRefusal.OutOfRange) ↔ IsBeyond (amount_of text) }
     ensures bad { (text : List ℕ) → (time_answer text ≡ Err TimeRefusal.BadTime) ↔ IsNoTime (amount_of text) }
+{}
+
+/// A law, with nothing to run: a text is read as a number exactly where it spells that number, as a PromQL literal and in a
+/// script.
+pub fn numbers_are_told()
+    ensures literal { (text : List ℕ) (v : XFrac) → (literal_answer text ≡ Ok v) ↔ IsLiteral text v }
+    ensures script { (text : List ℕ) (v : XFrac) → (script_answer text ≡ Ok v) ↔ IsScriptNumber text v }
 {}
 
 /// A law, with nothing to run: the spelling of a duration of at most 100 years, of either sign, is read as that time.

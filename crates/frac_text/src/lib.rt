@@ -12,7 +12,8 @@ mod value;
 mod write;
 
 pub use laws::{
-    decimals_end_by_the_hundredth, durations_are_times, spellings_are_numbers, times_are_told,
+    decimals_end_by_the_hundredth, durations_are_times, numbers_are_told, spellings_are_numbers,
+    times_are_told,
 };
 pub use read::{read_number, read_script_number};
 pub use refusal::{NumberRefusal, TimeRefusal};

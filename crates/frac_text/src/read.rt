@@ -32,10 +32,7 @@ fn read_plain(text: &[u8], grouped: bool) -> Result<XFrac, NumberRefusal>
 fn turned(answer: Result<XFrac, NumberRefusal>) -> Result<XFrac, NumberRefusal>
     ensures { result ≡ turned answer }
 {
-    match answer {
-        Ok(value) => Ok(neg(&value)),
-        Err(refusal) => Err(refusal),
-    }
+    Ok(neg(&answer?))
 }
 
 /// The number that a PromQL literal spells: digits with an optional point and an optional exponent, `0x` and hexadecimal

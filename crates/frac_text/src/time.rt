@@ -38,8 +38,7 @@ fn read_seconds(text: &str) -> Result<u64, TimeRefusal>
 {
     match read_number(text) {
         Err(NumberRefusal::NumberRange) => Err(TimeRefusal::OutOfRange),
-        Err(NumberRefusal::BadNumber) => Err(TimeRefusal::BadTime),
-        Err(NumberRefusal::LeadingZero) => Err(TimeRefusal::BadTime),
+        Err(NumberRefusal::BadNumber | NumberRefusal::LeadingZero) => Err(TimeRefusal::BadTime),
         Ok(value) => match milliseconds_in(&value) {
             None => Err(TimeRefusal::BadTime),
             Some(n) => {
@@ -87,10 +86,7 @@ pub fn read_time(text: &str) -> Result<Ms, TimeRefusal>
     ensures { result ≡ time_answer text.now }
 {
     let (negative, amount) = split_sign(text);
-    match read_amount(amount) {
-        Err(refusal) => Err(refusal),
-        Ok(milliseconds) => Ok(Ms(turned(negative, milliseconds))),
-    }
+    Ok(Ms(turned(negative, read_amount(amount)?)))
 }
 
 fn turned(negative: bool, milliseconds: u64) -> i64

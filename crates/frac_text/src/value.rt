@@ -7,7 +7,7 @@ ghost use Rattle.std.specs.Prelude.{◌≡◌, ◌<◌, ◌≤◌, ◌+◌, ◌*
 ghost use Rattle.xfrac.specs.Forming.{formed};
 ghost use Rattle.xfrac.specs.Fractions.{limit};
 
-use crate::digits::{digit_count, split_digits, whole_number};
+use crate::digits::{Base, digit_count, split_digits, whole_number};
 use xfrac::{LIMIT, XFrac, of, parts};
 
 /// So many places make a denominator within the limit.
@@ -42,10 +42,7 @@ fn tenth(digit: u128, rest: Rest) -> Option<Rest>
     requires within { rest.d ≤ limit }
     ensures { IsScaled result (digit * rest.d + rest.n) (10 * rest.d) }
 {
-    match made(digit * rest.d + rest.n, 10 * rest.d) {
-        None => None,
-        Some(value) => rest_in(&value),
-    }
+    rest_in(&made(digit * rest.d + rest.n, 10 * rest.d)?)
 }
 
 /// The part below 1 that the digits are after a point.
@@ -58,10 +55,7 @@ fn fraction(text: &[u8]) -> Option<Rest>
         place -= 1;
         let byte = text[place];
         if byte.is_ascii_digit() {
-            match tenth(u128::from(byte - b'0'), rest) {
-                Some(next) => rest = next,
-                None => return None,
-            }
+            rest = tenth(u128::from(byte - b'0'), rest)?;
         }
     }
     Some(rest)
@@ -80,10 +74,7 @@ fn lowered(rest: Rest, places: u128) -> Option<Rest>
     let mut lower = rest;
     let mut done: u128 = 0;
     while done < places {
-        match tenth(0, lower) {
-            Some(next) => lower = next,
-            None => return None,
-        }
+        lower = tenth(0, lower)?;
         done += 1;
     }
     Some(lower)
@@ -96,10 +87,7 @@ pub fn made(n: u128, d: u128) -> Option<XFrac>
     requires positive { 0 < d }
     ensures { result ≡ formed (pos n) d }
 {
-    match of(n as i128, d as i128) {
-        Ok(value) => Some(value),
-        Err(_) => None,
-    }
+    of(n as i128, d as i128).ok()
 }
 
 /// A whole number and a rest together.
@@ -109,15 +97,11 @@ fn joined(whole: u128, rest: Rest) -> Option<XFrac>
     requires within { rest.d ≤ limit }
     ensures { result ≡ formed (pos (whole * rest.d + rest.n)) rest.d }
 {
-    match whole.checked_mul(rest.d) {
-        None => None,
-        Some(product) => {
-            if product > LIMIT {
-                return None;
-            }
-            made(product + rest.n, rest.d)
-        }
+    let product = whole.checked_mul(rest.d)?;
+    if product > LIMIT {
+        return None;
     }
+    made(product + rest.n, rest.d)
 }
 
 /// The number with so many zeros after it, where that is within the limit.
@@ -144,13 +128,8 @@ fn raised(n: u128, places: u128) -> Option<u128>
 fn raised_value(text: &[u8], places: u128) -> Option<XFrac>
     ensures { result ≡ formed (pos (number (digits_in text.now) * 10 ^ places)) 1 }
 {
-    match whole_number(text) {
-        None => None,
-        Some(n) => match raised(n, places) {
-            None => None,
-            Some(more) => made(more, 1),
-        },
-    }
+    let n = whole_number(text, Base::Ten)?;
+    made(raised(n, places)?, 1)
 }
 
 /// The number of the digits with so many places after the point. Up to thirty places and digits are formed at once.
@@ -160,7 +139,7 @@ fn lowered_value(text: &[u8], places: u128) -> Option<XFrac>
     if places > MOST_AT_ONCE {
         return lowered_by_parts(text, places);
     }
-    match whole_number(text) {
+    match whole_number(text, Base::Ten) {
         None => lowered_by_parts(text, places),
         Some(n) => made(n, power_of_ten(places)),
     }
@@ -186,16 +165,10 @@ fn lowered_by_parts(text: &[u8], places: u128) -> Option<XFrac>
     let count = digit_count(text) as u128;
     let wholes = count.saturating_sub(places);
     let (front, back) = split_digits(text, wholes as usize);
-    match whole_number(front) {
-        None => None,
-        Some(whole) => match fraction(back) {
-            None => None,
-            Some(rest) => match lowered(rest, places - (count - wholes)) {
-                None => None,
-                Some(lower) => joined(whole, lower),
-            },
-        },
-    }
+    let whole = whole_number(front, Base::Ten)?;
+    let rest = fraction(back)?;
+    let lower = lowered(rest, places - (count - wholes))?;
+    joined(whole, lower)
 }
 
 /// The number of the digits times ten to the power of `up`, over ten to the power of `down`.

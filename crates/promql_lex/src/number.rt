@@ -64,7 +64,7 @@ fn is_run(text: &[u8]) -> bool
     for byte in text {
         if byte.is_ascii_digit() {
             after = true;
-        } else if after {
+        } else if after && *byte == b'_' {
             after = false;
         } else {
             return false;

@@ -2,7 +2,7 @@
 #![tactic(auto)]
 
 mod grid;
-mod law;
+mod laws;
 mod moment;
 mod read;
 mod refusal;
@@ -13,7 +13,7 @@ mod work;
 mod write;
 
 pub use grid::Grid;
-pub use law::{durations_are_found, instants_are_numbered, spellings_are_durations};
+pub use laws::{durations_are_found, instants_are_numbered, spellings_are_durations};
 pub use moment::Ms;
 pub use read::read_duration;
 pub use refusal::TickRefusal;

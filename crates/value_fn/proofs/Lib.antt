@@ -1,3 +1,4 @@
 pub mod Clamps
 pub mod Faults
 pub mod Halves
+pub mod Rounding

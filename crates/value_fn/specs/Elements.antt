@@ -1,5 +1,5 @@
 -- The element functions. (The Prometheus querying documentation, on exact numbers: the order of the operations, and so where they overflow, is this project's own.)
-use Rattle.std.specs.Prelude.{◌≡◌, pos, ◌||◌, false, Option, Some, None, Result, Ok, if◌then◌else◌}
+use Rattle.std.specs.Prelude.{◌≡◌, ℕ, ◌≤◌, ℤ, pos, ◌*ℤ◌, ◌≤ℤ◌, ◌<ℤ◌, ◌||◌, false, Option, Some, None, Result, Ok, if◌then◌else◌}
 use Rattle.std.specs.declared.cmp.Ordering.{Ordering}
 use Rattle.std.specs.declared.cmp.Ordering.TheVariants.{Less, Equal, Greater}
 use Rattle.func_table.specs.declared.table.Element.{Element}
@@ -7,6 +7,8 @@ use Rattle.func_table.specs.declared.table.Element.TheVariants.{Abs, Ceil, Floor
 use Rattle.xfrac.specs.Arithmetic.{arithmetic, whole_number}
 use Rattle.xfrac.specs.Forming.{negated, magnitude, floor_of, ceiling_of}
 use Rattle.xfrac.specs.Kinds.{is_not_a_number}
+use Rattle.xfrac.specs.Laws.{IsNumber}
+use Rattle.xfrac.specs.Near.{difference}
 use Rattle.xfrac.specs.Order.{compares, total_order}
 use Rattle.xfrac.specs.Sequencing.{◌>>=◌}
 use Rattle.xfrac.specs.declared.value.ArithOp.TheVariants.{Add, Mul, Div}
@@ -79,3 +81,19 @@ element_of ClampMax v first second = Ok (Some (lowered v first))
 abbrev pub ClampIsBothHalves : Type 0
 ClampIsBothHalves =
     (v low high : XFrac) → compares Gt low high ≡ false → clamped v low high ≡ Some (lowered (raised v low) high)
+
+-- k times m, over the denominator of m
+abbrev pub multiple : ℤ → ℤ × ℕ → ℤ × ℕ
+multiple k m = (k *ℤ m.0, m.1)
+
+-- r is a multiple of m; no multiple is nearer to v, and none that is as near is greater. (Distances are over the denominators of m and v.)
+pub record IsNearestMultiple (v m r : ℤ × ℕ) : Type 0 where
+  pub times : ℤ
+  pub equal : r.0 *ℤ pos m.1 ≡ (times *ℤ m.0) *ℤ pos r.1
+  pub nearest : (k : ℤ) → difference (multiple times m) v ≤ difference (multiple k m) v
+  pub upper : (k : ℤ) → difference (multiple k m) v ≡ difference (multiple times m) v → k ≤ℤ times
+
+-- what a fraction is rounded to is the nearest multiple of a positive one, the upper one of two, where no operation overflows
+abbrev pub RoundingIsNearest : Type 0
+RoundingIsNearest =
+    (v m : ℤ × ℕ) (x : XFrac) → IsNumber (Fin v) → IsNumber (Fin m) → pos 0 <ℤ m.0 → rounded (Fin v) (Fin m) ≡ Ok x → (r : ℤ × ℕ) × (x ≡ Fin r) × IsNearestMultiple v m r

@@ -7,4 +7,4 @@ mod laws;
 mod tests;
 
 pub use formulas::element;
-pub use laws::clamp_is_both_halves;
+pub use laws::{clamp_is_both_halves, rounding_is_nearest};

@@ -23,11 +23,11 @@ below-with_sign false m d = refl
 below-with_sign true zero d = refl
 below-with_sign true (suc m) d = omega arith
 
-upper_times : (s : Bool) (m k : ℕ) → upper s m * k ≡ upper s (m * k)
+pub upper_times : (s : Bool) (m k : ℕ) → upper s m * k ≡ upper s (m * k)
 upper_times false m k = refl
 upper_times true m k = omega arith
 
-lower_times : (s : Bool) (m k : ℕ) → lower s m * k ≡ lower s (m * k)
+pub lower_times : (s : Bool) (m k : ℕ) → lower s m * k ≡ lower s (m * k)
 lower_times false m k = omega arith
 lower_times true m k = refl
 

@@ -29,7 +29,7 @@ use Rattle.xfrac.proofs.Totalling.{totals-append, same_totals}
 
 -- ---- lowest terms
 
-cross_same : (a b g : ℕ) → IsGcd a b g → a / g * b ≡ a * (b / g)
+pub cross_same : (a b g : ℕ) → IsGcd a b g → a / g * b ≡ a * (b / g)
 cross_same a b g h =
     let l : a / g * g ≡ a = div-mul_cancel g h.0 in
     let r : b / g * g ≡ b = div-mul_cancel g h.1 in

@@ -1,5 +1,6 @@
 pub mod Adding
 pub mod Comparing
+pub mod Exact
 pub mod Floors
 pub mod LawProofs
 pub mod Multiples

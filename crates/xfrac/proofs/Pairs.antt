@@ -14,7 +14,7 @@ use Rattle.xfrac.specs.Gcds.{product_positive, gcd-unique, dvd_other_factor, apa
 use Rattle.xfrac.specs.Formed.{reduced_parts, lowest-with_sign}
 use Rattle.xfrac.proofs.Multiples.{lcm-is}
 use Rattle.xfrac.proofs.Totalling.{same_totals, totals-single, joined_totals}
-use Rattle.xfrac.proofs.Adding.{above-with_sign, below-with_sign}
+use Rattle.xfrac.proofs.Adding.{above-with_sign, below-with_sign, upper_times, lower_times}
 
 -- the totals of two fractions over a common denominator
 abbrev pub two : Bool → Bool → ℕ → ℕ → ℕ → Totals
@@ -28,14 +28,6 @@ two s t multiple left right =
       has_nan = false;
       count = 2;
     }
-
-upper_times : (s : Bool) (m k : ℕ) → upper s m * k ≡ upper s (m * k)
-upper_times false m k = refl
-upper_times true m k = omega arith
-
-lower_times : (s : Bool) (m k : ℕ) → lower s m * k ≡ lower s (m * k)
-lower_times false m k = omega arith
-lower_times true m k = refl
 
 pub two_joined : (s t : Bool) (m d n e g k l : ℕ) → 0 < d → 0 < e → IsGcd d e g → k ≡ e / g → l ≡ d / g → joined (alone (Fin (with_sign s m, d))) (alone (Fin (with_sign t n, e))) ≡ two s t (d * k) (m * k) (n * l)
 unfolding lcm

@@ -1,16 +1,18 @@
 -- What users rely on of sums, nearness, the order and rounding to whole numbers. (This project's own.)
-use Rattle.std.specs.Prelude.{◌≡◌, ℕ, ◌<◌, ◌≤◌, ◌+◌, ℤ, pos, ◌*ℤ◌, List, [], ◌∷◌, ◌++◌, None, unsigned_abs, IsTrue}
+use Rattle.std.specs.Prelude.{◌≡◌, ℕ, ◌<◌, ◌≤◌, ◌+◌, ◌*◌, ℤ, pos, ◌+ℤ◌, ◌*ℤ◌, List, [], ◌∷◌, ◌++◌, None, Ok, unsigned_abs, IsTrue}
 use Rattle.std.specs.Int.{IsGcd, ◌∣◌}
 use Rattle.std.specs.List.{All}
 use Rattle.std.specs.List.Sorted.{IsPermutation}
 use Rattle.std.specs.declared.cmp.Ordering.TheVariants.{Less, Equal}
 use Rattle.std.specs.Ordering.{ordering_reverse, is_le}
+use Rattle.xfrac.specs.Arithmetic.{arithmetic}
 use Rattle.xfrac.specs.Divisors.{lcm}
 use Rattle.xfrac.specs.Forming.{floor_of, ceiling_of}
 use Rattle.xfrac.specs.Fractions.{IsReduced, lowest}
 use Rattle.xfrac.specs.Near.{is_near}
 use Rattle.xfrac.specs.Order.{total_order}
 use Rattle.xfrac.specs.Sums.{Totals, StandsFor, alone, joined, totals, sum_of}
+use Rattle.xfrac.specs.declared.value.ArithOp.TheVariants.{Add}
 use Rattle.xfrac.specs.declared.value.XFrac.{XFrac}
 use Rattle.xfrac.specs.declared.value.XFrac.TheVariants.{Fin}
 
@@ -22,6 +24,11 @@ IsNumber _ = Unit {0}
 -- a sum doesn't depend on the order of its list
 abbrev pub SumIgnoresOrder : Type 0
 SumIgnoresOrder = (xs ys : List XFrac) → All IsNumber xs → IsPermutation xs ys → sum_of ys ≡ sum_of xs
+
+-- the sum of two fractions is (a * e + b * d)/(d * e) in lowest terms, whatever common denominator it is formed over
+abbrev pub SumIsExact : Type 0
+SumIsExact =
+    (a b : ℤ × ℕ) (v : XFrac) → 0 < a.1 → 0 < b.1 → arithmetic Add (Fin a) (Fin b) ≡ Ok v → IsNumber v × (v ≡ Fin (lowest (a.0 *ℤ pos b.1 +ℤ b.0 *ℤ pos a.1) (a.1 * b.1)))
 
 -- joined totals stand for both lists together, and the totals of one number for that number
 abbrev pub JoinedStandsForBoth : Type 0

@@ -36,8 +36,7 @@ fn remainder(a: &XFrac, b: &XFrac) -> Option<XFrac>
                 fraction_remainder(x, y)
             }
         }
-        (XFrac::Fin(_), XFrac::PosInf) => Some(*a),
-        (XFrac::Fin(_), XFrac::NegInf) => Some(*a),
+        (XFrac::Fin(_), XFrac::PosInf | XFrac::NegInf) => Some(*a),
         _ => Some(XFrac::NaN),
     }
 }
@@ -50,17 +49,8 @@ fn fraction_remainder(a: &Frac, b: &Frac) -> Option<XFrac>
 {
     let (negative, m, d) = a.split();
     let (_, n, e) = b.split();
-    let multiple = match limited_multiple(d, e) {
-        Some(multiple) => multiple,
-        None => return None,
-    };
-    let left = match limited_product(m, quotient(multiple, d)) {
-        Some(left) => left,
-        None => return None,
-    };
-    let right = match limited_product(n, quotient(multiple, e)) {
-        Some(right) => right,
-        None => return None,
-    };
+    let multiple = limited_multiple(d, e)?;
+    let left = limited_product(m, quotient(multiple, d))?;
+    let right = limited_product(n, quotient(multiple, e))?;
     Some(XFrac::Fin(lowest_terms(negative, rest(left, right), multiple)))
 }

@@ -71,9 +71,7 @@ pub fn shared_divisor(a: u128, b: u128) -> u128
 {
     if a == b {
         b
-    } else if b == 1 {
-        1
-    } else if a == 1 {
+    } else if a == 1 || b == 1 {
         1
     } else {
         gcd(a, b)
@@ -130,16 +128,13 @@ pub fn limited_multiple(a: u128, b: u128) -> Option<u128>
     requires right_within { b ≤ limit }
     ensures { SomeIff result (lcm a b ≤ limit) (lcm a b) }
 {
-    if a == b {
-        return Some(a);
+    if a == b || b == 1 {
+        Some(a)
+    } else if a == 1 {
+        Some(b)
+    } else {
+        limited_product(quotient(a, gcd(a, b)), b)
     }
-    if b == 1 {
-        return Some(a);
-    }
-    if a == 1 {
-        return Some(b);
-    }
-    limited_product(quotient(a, gcd(a, b)), b)
 }
 
 /// The magnitude m and the denominator d in lowest terms.

@@ -1,5 +1,5 @@
 //! Laws of numbers that users rely on. The functions do nothing: each stands for what its contract says.
-ghost use Rattle.xfrac.specs.Laws.{IsNumber, SumIgnoresOrder, JoinedStandsForBoth, AloneStandsForOne, TotalsNeverFall, PartOverflowsWhole, NearIsSymmetric, EqualIsSame, OrderIsReflexive, OrderIsReversed, LessIsTransitive, LowestIsEqual, LowestIsReduced, LcmIsMultiple, LcmIsLeast, FloorIsWhole, FloorIsNotAbove, FloorIsGreatest, CeilingIsWhole, CeilingIsNotBelow, CeilingIsLeast};
+ghost use Rattle.xfrac.specs.Laws.{IsNumber, SumIsExact, SumIgnoresOrder, JoinedStandsForBoth, AloneStandsForOne, TotalsNeverFall, PartOverflowsWhole, NearIsSymmetric, EqualIsSame, OrderIsReflexive, OrderIsReversed, LessIsTransitive, LowestIsEqual, LowestIsReduced, LcmIsMultiple, LcmIsLeast, FloorIsWhole, FloorIsNotAbove, FloorIsGreatest, CeilingIsWhole, CeilingIsNotBelow, CeilingIsLeast};
 
 use crate::value::XFrac;
 
@@ -12,6 +12,11 @@ pub fn is_number(v: &XFrac)
         fraction.is_reduced();
     }
 }
+
+/// The sum of two fractions is their exact sum, in lowest terms.
+pub fn sum_is_exact()
+    ensures { SumIsExact }
+{}
 
 /// A sum doesn't depend on the order of its list.
 pub fn sum_ignores_order()

@@ -71,8 +71,7 @@ fn infinite_power(magnitude: Ordering, b: &XFrac) -> XFrac
     match (magnitude, b) {
         (Ordering::Equal, _) => whole(1),
         (Ordering::Greater, XFrac::NegInf) => whole(0),
-        (Ordering::Greater, _) => XFrac::PosInf,
-        (Ordering::Less, XFrac::NegInf) => XFrac::PosInf,
+        (Ordering::Greater, _) | (Ordering::Less, XFrac::NegInf) => XFrac::PosInf,
         (Ordering::Less, _) => whole(0),
     }
 }
@@ -138,14 +137,9 @@ fn raise(negative: bool, m: u128, d: u128, k: u128) -> Option<XFrac>
     requires base { IsReduced m d }
     ensures { result ≡ formed (with_sign (negative && k % 2 == 1) (m ^ k)) (d ^ k) }
 {
-    let p = match limited_power(m, k) {
-        Some(p) => p,
-        None => return None,
-    };
-    match limited_power(d, k) {
-        Some(q) => Some(XFrac::Fin(Frac::with_parts(has_negative_power(negative, k), p, q))),
-        None => None,
-    }
+    let p = limited_power(m, k)?;
+    let q = limited_power(d, k)?;
+    Some(XFrac::Fin(Frac::with_parts(has_negative_power(negative, k), p, q)))
 }
 
 /// The power, by squaring, where it is within the limit. It stops at the first square that isn't.
@@ -157,14 +151,8 @@ fn limited_power(base: u128, k: u128) -> Option<u128>
     if k == 0 {
         return Some(1);
     }
-    let half = match limited_power(base, k / 2) {
-        Some(half) => half,
-        None => return None,
-    };
-    let square = match limited_product(half, half) {
-        Some(square) => square,
-        None => return None,
-    };
+    let half = limited_power(base, k / 2)?;
+    let square = limited_product(half, half)?;
     if k % 2 == 1 {
         limited_product(square, base)
     } else {

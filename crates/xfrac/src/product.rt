@@ -35,8 +35,7 @@ pub fn divide(a: &XFrac, b: &XFrac) -> Option<XFrac>
                 divide_by_fraction(a, y)
             }
         }
-        (XFrac::Fin(_), XFrac::PosInf) => Some(whole(0)),
-        (XFrac::Fin(_), XFrac::NegInf) => Some(whole(0)),
+        (XFrac::Fin(_), XFrac::PosInf | XFrac::NegInf) => Some(whole(0)),
         _ => Some(XFrac::NaN),
     }
 }
@@ -69,14 +68,9 @@ fn ratio_product(negative: bool, m: u128, d: u128, n: u128, e: u128) -> Option<X
 {
     let left = reduce(m, e);
     let right = reduce(n, d);
-    let p = match limited_product(left.0, right.0) {
-        Some(p) => p,
-        None => return None,
-    };
-    match limited_product(right.1, left.1) {
-        Some(q) => Some(XFrac::Fin(Frac::with_parts(negative, p, q))),
-        None => None,
-    }
+    let p = limited_product(left.0, right.0)?;
+    let q = limited_product(right.1, left.1)?;
+    Some(XFrac::Fin(Frac::with_parts(negative, p, q)))
 }
 
 fn sign(a: &XFrac) -> Ordering

@@ -171,10 +171,7 @@ impl SumAcc {
         ensures left { 0 < self.now.multiple }
         ensures right { 0 < other.now.multiple }
     {
-        let multiple = match limited_multiple(self.multiple, other.multiple) {
-            Some(multiple) => multiple,
-            None => return None,
-        };
+        let multiple = limited_multiple(self.multiple, other.multiple)?;
         let left = quotient(multiple, self.multiple);
         let right = quotient(multiple, other.multiple);
         match (
@@ -251,18 +248,9 @@ fn sum_of_fractions(x: &Frac, y: &Frac) -> Option<XFrac>
     let shared = shared_divisor(d, e);
     let k = quotient(e, shared);
     let l = quotient(d, shared);
-    let multiple = match limited_product(d, k) {
-        Some(multiple) => multiple,
-        None => return None,
-    };
-    let left = match limited_product(m, k) {
-        Some(left) => left,
-        None => return None,
-    };
-    let right = match limited_product(n, l) {
-        Some(right) => right,
-        None => return None,
-    };
+    let multiple = limited_product(d, k)?;
+    let left = limited_product(m, k)?;
+    let right = limited_product(n, l)?;
     if left + right > LIMIT {
         return None;
     }
@@ -305,10 +293,7 @@ fn sum_of_any(a: &XFrac, b: &XFrac) -> Option<XFrac>
 {
     let left = SumAcc::of(a);
     let right = SumAcc::of(b);
-    match left.joined(&right) {
-        Some(sum) => Some(sum.value()),
-        None => None,
-    }
+    Some(left.joined(&right)?.value())
 }
 
 /// The denominator, and how far the numerator is above and below 0.

@@ -1,6 +1,6 @@
-use Rattle.std.proofs.Common.{◌≡◌, drop, false}
-use Rattle.frac_text.specs.Digits.{is_run}
+use Rattle.std.proofs.Common.{◌≡◌, drop}
+use Rattle.frac_text.specs.Digits.{is_run_in}
 use Rattle.frac_text.proofs.digits.is_run.Given as goal
 
 abbrev pub invariant-loop-byte : goal.invariant-loop-byte
-invariant-loop-byte l = is_run l.after (drop l.byte-index l.text) ≡ is_run false l.text
+invariant-loop-byte l = is_run_in l.base l.after (drop l.byte-index l.text) ≡ is_run_in l.base l.joined l.text

@@ -1,28 +1,24 @@
-use Rattle.std.proofs.Common.{◌≡◌, ◌+◌, ◌*◌, ◌-◌, ℕ, arith, get_or, sym, true, false, take}
-use Rattle.std.specs.Char.{is_ascii_digit}
-use Rattle.frac_text.specs.Digits.{digits_in, number}
-use Rattle.frac_text.proofs.Numbers.{digit_range, number_more, number_same, number_front}
+use Rattle.std.proofs.Common.{◌≡◌, ◌+◌, arith, ◌∙◌, get_or, false}
+use Rattle.frac_text.specs.Digits.{is_digit}
+use Rattle.frac_text.proofs.Bases.{digit_more, digit_none, digits_front, not_true}
 use Rattle.frac_text.proofs.digits.whole_number.Goals as goal
-use Rattle.frac_text.proofs.digits.whole_number.Goals.{then-is_ascii_digit+else-n-gt-LIMIT, else-is_ascii_digit}
+use Rattle.frac_text.proofs.digits.whole_number.Goals.{in-Some+else-n-gt-LIMIT, in_default}
 
 pub returns-then-n-gt-LIMIT : goal.returns-then-n-gt-LIMIT
 returns-then-n-gt-LIMIT c = λ within.
-    let digit : is_ascii_digit (get_or c.args.text.now c.loop-byte.byte-index 0) ≡ true = rw c.if-is_ascii_digit.true at (sym c.is_ascii_digit.ensures.value) in
-    let range = digit_range (get_or c.args.text.now c.loop-byte.byte-index 0) digit in
-    let next : ℕ = c.loop-byte.n * 10 + (get_or c.args.text.now c.loop-byte.byte-index 0 - 48) in
-    let is : next ≡ number (digits_in (take (c.loop-byte.byte-index + 1) c.args.text.now)) =
-    number_more c.args.text.now c.loop-byte.byte-index c.loop-byte.n next c.loop-byte-test.true digit (omega (arith, range.0)) c.loop-byte.invariant.is in
-    let front = number_front c.args.text.now (c.loop-byte.byte-index + 1) in
-    omega (arith, is, front, within)
+    let is = digit_more c.args.base c.args.text.now c.loop-byte.byte-index c.loop-byte.n c.in-Some.digit c.push-n.result c.loop-byte-test.true c.in-Some.ensures.value.0 c.in-Some.ensures.value.1 c.push-n.ensures c.loop-byte.invariant.is in
+    let front = digits_front c.args.base c.args.text.now (c.loop-byte.byte-index + 1) in
+    omega (arith, is, front, within, c.if-n-gt-LIMIT.true)
 
 pub loop-byte-preserved : goal.loop-byte-preserved
 loop-byte-preserved c =
-    elim c.if-is_ascii_digit.branch [
-      | then-is_ascii_digit+else-n-gt-LIMIT w ↦
-          let digit : is_ascii_digit (get_or c.args.text.now c.loop-byte.byte-index 0) ≡ true = rw w.if-is_ascii_digit.true at (sym c.is_ascii_digit.ensures.value) in
-          let range = digit_range (get_or c.args.text.now c.loop-byte.byte-index 0) digit in
-          record { is = number_more c.args.text.now c.loop-byte.byte-index c.loop-byte.n c.if-is_ascii_digit.n c.loop-byte-test.true digit (omega (arith, range.0)) c.loop-byte.invariant.is; within = omega arith }
-      | else-is_ascii_digit w ↦
-          let other : is_ascii_digit (get_or c.args.text.now c.loop-byte.byte-index 0) ≡ false = rw w.if-is_ascii_digit.false at (sym c.is_ascii_digit.ensures.value) in
-          record { is = number_same c.args.text.now c.loop-byte.byte-index c.if-is_ascii_digit.n c.loop-byte-test.true other (omega arith); within = omega arith }
+    elim c.match-digit.branch [
+      | in-Some+else-n-gt-LIMIT w ↦
+          record {
+            is = digit_more c.args.base c.args.text.now c.loop-byte.byte-index c.loop-byte.n w.in-Some.digit c.match-digit.n c.loop-byte-test.true w.in-Some.ensures.value.0 w.in-Some.ensures.value.1 (w.n-is ∙ w.push-n.ensures) c.loop-byte.invariant.is;
+            within = omega arith;
+          }
+      | in_default w ↦
+          let other : is_digit c.args.base (get_or c.args.text.now c.loop-byte.byte-index 0) ≡ false = not_true _ (rw w.in_default.is at c.digit.ensures.value) in
+          record { is = w.n-is ∙ digit_none c.args.base c.args.text.now c.loop-byte.byte-index c.loop-byte.n c.loop-byte-test.true other c.loop-byte.invariant.is; within = omega arith }
     ]

@@ -1,5 +1,5 @@
 use Rattle.ticks.specs.Written.{IsDuration-spelling}
-use Rattle.ticks.proofs.law.spellings_are_durations.Goals as goal
+use Rattle.ticks.proofs.laws.spellings_are_durations.Goals as goal
 
 pub returns : goal.returns
 returns c = IsDuration-spelling

@@ -1,5 +1,5 @@
 use Rattle.ticks.proofs.Instants.{instants-numbered}
-use Rattle.ticks.proofs.law.instants_are_numbered.Goals as goal
+use Rattle.ticks.proofs.laws.instants_are_numbered.Goals as goal
 
 pub returns : goal.returns
 returns c = instants-numbered
