@@ -37,7 +37,8 @@ impl<T> Boxed<T> {
         &mut self.inner
     }
 
-    /// The allocator that the box was made with.
+    /// The allocator that the box was made with. Contracts see the box as its value alone, so that no clause can say which
+    /// one that is.
     pub fn allocator(&self) -> Global {
         *Box::allocator(&self.inner)
     }

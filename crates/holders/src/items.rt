@@ -32,6 +32,15 @@ impl<T> Items<T> {
         }
     }
 
+    /// The empty list, with room for so many items. The only error is want of memory.
+    pub fn with_capacity(alloc: Global, most: usize) -> Result<Items<T>, AllocError>
+        ensures { IfOk result (λ it. it ≡ []) }
+    {
+        Ok(Items {
+            items: Vec::with_capacity(alloc, most)?,
+        })
+    }
+
     /// The items of std's list, in order. It takes no memory.
     pub fn from_vec(items: Vec<T>) -> Items<T>
         ensures { result ≡ items.items }
@@ -39,7 +48,8 @@ impl<T> Items<T> {
         Items { items }
     }
 
-    /// The allocator that the list was made with.
+    /// The allocator that the list was made with. Contracts see the list as its items alone, so that no clause can say which
+    /// one that is.
     pub fn allocator(&self) -> Global {
         *self.items.allocator()
     }

@@ -1,5 +1,6 @@
 pub mod LabelLemmas
 pub mod Texts
 pub mod Sameness
-pub mod Found
 pub mod Marks
+pub mod SpanLemmas
+pub mod PairSteps

@@ -1,15 +1,15 @@
 -- One more label of a printed list.
-use Rattle.std.proofs.Common.{None, Some, ◌≡◌, ◌<◌, ◌+◌, ℕ, Bool, true, false, List, [], ◌∷◌, ◌++◌, length, get_or, drop, map, refl, sym, ap, ◌∙◌, if◌then◌else◌}
-use Rattle.std.proofs.lemmas.List.{at_drop_more}
+use Rattle.std.proofs.Common.{None, Some, ◌≡◌, ◌+◌, ℕ, Bool, true, false, List, [], ◌∷◌, ◌++◌, slice_get, drop, map, refl, ap, ◌∙◌, if◌then◌else◌}
 use Rattle.label_set.specs.Labels.{is_named, metric_name, value_at, without}
 use Rattle.label_set.specs.LabelText.{comma_list, label_text, labels_text, series_text}
+use Rattle.label_set.proofs.PairSteps.{drop_at_get}
 
 abbrev pub parts : List (List ℕ × List ℕ) → List (List ℕ)
 parts ps = map label_text (without (metric_name ∷ []) ps)
 
-module _ (started : Bool) (ps : List (List ℕ × List ℕ)) (i : ℕ) (x : List ℕ × List ℕ) (w : i < length ps) (here : x ≡ get_or ps i x) where
+module _ (started : Bool) (ps : List (List ℕ × List ℕ)) (i : ℕ) (x : List ℕ × List ℕ) (at : slice_get ps i ≡ Some x) where
   more : comma_list started (parts (drop i ps)) ≡ comma_list started (parts (x ∷ drop (i + 1) ps))
-  more = at_drop_more (λ qs. comma_list started (parts qs)) ps i x w ∙ ap (λ y. comma_list started (parts (y ∷ drop (i + 1) ps))) (sym here)
+  more = ap (λ qs. comma_list started (parts qs)) (drop_at_get ps i x at)
 
   pub skips : is_named (metric_name ∷ []) x.0 ≡ true → comma_list started (parts (drop i ps)) ≡ comma_list started (parts (drop (i + 1) ps))
   skips e = more ∙ rw e refl

@@ -3,3 +3,4 @@ pub mod LabelOrder
 pub mod LabelText
 pub mod Labels
 pub mod Entries
+pub mod Spans

@@ -4,11 +4,11 @@ ghost use Rattle.std.specs.List.{list_all};
 ghost use Rattle.std.specs.Prelude.{◌≡◌, ◌+◌, false, Some, [], ◌∷◌, ◌++◌, length, map, if◌then◌else◌, OnOk};
 
 use crate::labels::is_metric;
-use holders::Text;
+use crate::pairs::Pairs;
 use std::alloc::AllocError;
 
 /// Appends the name of a metric and its labels, as a series is printed. `pairs` are all its labels, with the name.
-pub fn push_named(out: &mut Vec<u8>, name: &str, pairs: &[(Text, Text)]) -> Result<(), AllocError>
+pub fn push_named(out: &mut Vec<u8>, name: &str, pairs: &Pairs) -> Result<(), AllocError>
     requires { length pairs.now ≡ length (without (metric_name ∷ []) pairs.now) + 1 }
     ensures { OnOk result (out.new.items ≡ out.old.items ++ series_text (Some name.now) (map label_text (without (metric_name ∷ []) pairs.now))) }
 {
@@ -24,7 +24,7 @@ pub fn push_named(out: &mut Vec<u8>, name: &str, pairs: &[(Text, Text)]) -> Resu
 }
 
 /// Appends in braces a metric's name in quotes, and its labels.
-fn push_braced_name(out: &mut Vec<u8>, name: &str, pairs: &[(Text, Text)]) -> Result<(), AllocError>
+fn push_braced_name(out: &mut Vec<u8>, name: &str, pairs: &Pairs) -> Result<(), AllocError>
     ensures { OnOk result (out.new.items ≡ out.old.items ++ braced (quoted name.now ∷ map label_text (without (metric_name ∷ []) pairs.now))) }
 {
     out.push(b'{')?;
@@ -35,7 +35,7 @@ fn push_braced_name(out: &mut Vec<u8>, name: &str, pairs: &[(Text, Text)]) -> Re
 }
 
 /// Appends in braces the labels but for the metric's name.
-pub fn push_braced(out: &mut Vec<u8>, pairs: &[(Text, Text)]) -> Result<(), AllocError>
+pub fn push_braced(out: &mut Vec<u8>, pairs: &Pairs) -> Result<(), AllocError>
     ensures { OnOk result (out.new.items ≡ out.old.items ++ braced (map label_text (without (metric_name ∷ []) pairs.now))) }
 {
     out.push(b'{')?;
@@ -46,32 +46,30 @@ pub fn push_braced(out: &mut Vec<u8>, pairs: &[(Text, Text)]) -> Result<(), Allo
 
 /// Appends the labels but for the metric's name, with a comma before each, or before each but the first where nothing
 /// has started.
-fn push_labels(
-    out: &mut Vec<u8>,
-    mut started: bool,
-    pairs: &[(Text, Text)],
-) -> Result<(), AllocError>
+fn push_labels(out: &mut Vec<u8>, mut started: bool, pairs: &Pairs) -> Result<(), AllocError>
     ensures { OnOk result (out.new.items ≡ out.old.items ++ comma_list started (map label_text (without (metric_name ∷ []) pairs.now))) }
 {
-    for pair in pairs {
-        if !is_metric(&pair.0) {
-            push_label(out, started, pair)?;
-            started = true;
+    for place in 0..pairs.len() {
+        let (name, value) = pairs.pair(place);
+        if is_metric(name) {
+            continue;
         }
+        push_label(out, started, name, value)?;
+        started = true;
     }
     Ok(())
 }
 
 /// Appends one label, with a comma before it where something has started.
-fn push_label(out: &mut Vec<u8>, started: bool, pair: &(Text, Text)) -> Result<(), AllocError>
-    ensures { OnOk result (out.new.items ≡ out.old.items ++ ((if started then 44 ∷ [] else []) ++ label_text pair.now)) }
+fn push_label(out: &mut Vec<u8>, started: bool, name: &str, value: &str) -> Result<(), AllocError>
+    ensures { OnOk result (out.new.items ≡ out.old.items ++ ((if started then 44 ∷ [] else []) ++ label_text (name.now, value.now))) }
 {
     if started {
         out.push(b',')?;
     }
-    push_label_name(out, pair.0.as_str())?;
+    push_label_name(out, name)?;
     out.push(b'=')?;
-    push_quoted(out, pair.1.as_str())
+    push_quoted(out, value)
 }
 
 /// Appends a label's name, in quotes where it needs them.

@@ -7,6 +7,7 @@ ghost use Rattle.std.specs.declared.cmp.Ordering.TheVariants.{Equal};
 ghost use Rattle.std.specs.Prelude.{◌≡◌, ◌<◌, ◌≤◌, ℕ, List, [], Err, None, Some, ◌∷◌, ◌++◌, ◌↔◌, filter, length, insert, slice_get, IsTrue, IfOk, OnOk, OnErr, IsOkUnless, MatchOption, MatchResult};
 
 use crate::label_text::{push_braced, push_named};
+use crate::pairs::Pairs;
 use holders::{Items, Text};
 use std::alloc::{AllocError, AllocFailed, Global};
 use std::cmp::Ordering;
@@ -69,7 +70,7 @@ impl<T: Drop> From<AllocFailed<T>> for LabelRefusal {
 /// list of the pairs. They keep the allocator that they were made with.
 #[derive(Debug, Drop)]
 pub struct Labels {
-    pairs: Vec<(Text, Text)>,
+    pairs: Pairs,
 }
 
 impl Model for Labels {
@@ -78,9 +79,9 @@ impl Model for Labels {
 
     ghost Value = { List (List ℕ × List ℕ) };
 
-    ghost view = { λ l. l.pairs.items };
+    ghost view = { λ l. l.pairs };
 
-    ghost invariant = { λ l. IsLabelSet l.pairs.items };
+    ghost invariant = { λ l. IsLabelSet l.pairs };
 }
 
 impl Labels {
@@ -89,7 +90,7 @@ impl Labels {
         ensures { result ≡ [] }
     {
         Labels {
-            pairs: Vec::new(alloc),
+            pairs: Pairs::new(alloc),
         }
     }
 
@@ -106,8 +107,7 @@ impl Labels {
         requires { i < length self.now }
         ensures { slice_get self.now i ≡ Some (result.0.now, result.1.now) }
     {
-        let pair = &self.pairs[i];
-        (pair.0.as_str(), pair.1.as_str())
+        self.pairs.pair(i)
     }
 
     /// The value under a name. One that is missing reads as the empty text.
@@ -115,7 +115,7 @@ impl Labels {
         ensures { result.now ≡ value_of self.now name.now }
     {
         match find(&self.pairs, name) {
-            Ok(place) => self.pairs[place].1.as_str(),
+            Ok(place) => self.pairs.pair(place).1,
             Err(_) => "",
         }
     }
@@ -144,9 +144,7 @@ impl Labels {
         if self.pairs.len() >= MOST_PAIRS {
             return Err(LabelRefusal::TooMany);
         }
-        let alloc = *self.pairs.allocator();
-        let pair = (Text::of(alloc, name)?, Text::of(alloc, value)?);
-        self.pairs.insert(place, pair)?;
+        self.pairs.insert(place, name, value)?;
         Ok(())
     }
 
@@ -181,10 +179,11 @@ impl Labels {
         ensures err { OnErr result (self.new ≡ self.old) }
     {
         if value.is_empty() {
-            self.pairs.remove(place);
+            let rest = self.pairs.without(place)?;
+            self.pairs = rest;
         } else {
-            let text = Text::of(*self.pairs.allocator(), value)?;
-            self.pairs[place].1 = text;
+            let changed = self.pairs.with_value(place, value)?;
+            self.pairs = changed;
         }
         Ok(())
     }
@@ -221,12 +220,14 @@ impl Labels {
         ensures { IfOk result (λ l. l ≡ filter (λ p. is_chosen listed (with_metric metric names.now) p.0) self.now) }
     {
         let marks = marks_of(&self.pairs, metric, names);
-        let mut pairs = Vec::new(*self.pairs.allocator());
-        for (place, pair) in self.pairs.as_slice().iter().enumerate() {
+        let mut pairs = Pairs::new(self.pairs.allocator());
+        for place in 0..self.pairs.len() {
             let marked = marks[place];
-            if marked == listed {
-                pairs.push(copy_pair(pair)?)?;
+            if marked != listed {
+                continue;
             }
+            let (name, value) = self.pairs.pair(place);
+            pairs.push(name, value)?;
         }
         Ok(Labels { pairs })
     }
@@ -245,14 +246,10 @@ impl Labels {
     fn text(&self) -> Result<Vec<u8>, AllocError>
         ensures { IfOk result (λ v. v.items ≡ labels_text self.now) }
     {
-        let mut text = Vec::new(*self.pairs.allocator());
+        let mut text = Vec::new(self.pairs.allocator());
         match find(&self.pairs, METRIC_NAME) {
-            Ok(place) => push_named(
-                &mut text,
-                self.pairs[place].1.as_str(),
-                self.pairs.as_slice(),
-            )?,
-            Err(_) => push_braced(&mut text, self.pairs.as_slice())?,
+            Ok(place) => push_named(&mut text, self.pairs.pair(place).1, &self.pairs)?,
+            Err(_) => push_braced(&mut text, &self.pairs)?,
         }
         Ok(text)
     }
@@ -269,22 +266,16 @@ impl Labels {
         ensures { IfOk result (λ l. l ≡ self.now) }
     {
         Ok(Labels {
-            pairs: Vec::from_clones(*self.pairs.allocator(), self.pairs.as_slice())?,
+            pairs: self.pairs.copy()?,
         })
     }
 }
 
-fn copy_pair(pair: &(Text, Text)) -> Result<(Text, Text), AllocError>
-    ensures { IfOk result (λ p. p ≡ pair.now) }
-{
-    Ok((pair.0.copy()?, pair.1.copy()?))
-}
-
 /// Marks the pairs whose names are listed, each by a search for a name. Where `metric` says so, the metric's name counts
 /// as listed.
-fn marks_of(pairs: &Vec<(Text, Text)>, metric: bool, names: &Items<Text>) -> [bool; MOST_PAIRS]
-    requires { IsLabelSet pairs.now.items }
-    ensures { IsMarked (with_metric metric names.now) pairs.now.items result }
+fn marks_of(pairs: &Pairs, metric: bool, names: &Items<Text>) -> [bool; MOST_PAIRS]
+    requires { IsLabelSet pairs.now }
+    ensures { IsMarked (with_metric metric names.now) pairs.now result }
 {
     let mut marks = [false; MOST_PAIRS];
     if metric {
@@ -297,9 +288,9 @@ fn marks_of(pairs: &Vec<(Text, Text)>, metric: bool, names: &Items<Text>) -> [bo
 }
 
 /// Marks the pair with one more name, if there is one.
-fn mark(marks: &mut [bool; MOST_PAIRS], pairs: &Vec<(Text, Text)>, name: &str)
-    requires { IsLabelSet pairs.now.items }
-    ensures { (names : List (List ℕ)) → IsMarked names pairs.now.items marks.old → IsMarked (names ++ name.now ∷ []) pairs.now.items marks.new }
+fn mark(marks: &mut [bool; MOST_PAIRS], pairs: &Pairs, name: &str)
+    requires { IsLabelSet pairs.now }
+    ensures { (names : List (List ℕ)) → IsMarked names pairs.now marks.old → IsMarked (names ++ name.now ∷ []) pairs.now marks.new }
 {
     if let Ok(place) = find(pairs, name) {
         marks[place] = true;
@@ -307,22 +298,32 @@ fn mark(marks: &mut [bool; MOST_PAIRS], pairs: &Vec<(Text, Text)>, name: &str)
 }
 
 /// Whether a name is the one that names the metric.
-pub fn is_metric(name: &Text) -> bool
+pub fn is_metric(name: &str) -> bool
     ensures { result ≡ is_named (metric_name ∷ []) name.now }
 {
-    METRIC_NAME == name.as_str()
+    METRIC_NAME == name
 }
 
 /// The place of a name among the pairs, or the place where it would stand.
-fn find(pairs: &Vec<(Text, Text)>, name: &str) -> Result<usize, usize>
-    requires { IsLabelSet pairs.now.items }
+fn find(pairs: &Pairs, name: &str) -> Result<usize, usize>
+    requires { IsLabelSet pairs.now }
     ensures { MatchResult result
-        (λ i. (i < length pairs.now.items) × (value_at pairs.now.items name.now ≡ option_map (λ p. p.1) (slice_get pairs.now.items i))
-        × (option_map (λ p. p.0) (slice_get pairs.now.items i) ≡ Some name.now))
-        (λ i. (i ≤ length pairs.now.items) × (value_at pairs.now.items name.now ≡ None)
-        × ((v : List ℕ) → insert_entry byte_cmp pairs.now.items name.now v ≡ insert pairs.now.items i (name.now, v))) }
+        (λ i. (i < length pairs.now) × (value_at pairs.now name.now ≡ option_map (λ p. p.1) (slice_get pairs.now i))
+        × (option_map (λ p. p.0) (slice_get pairs.now i) ≡ Some name.now))
+        (λ i. (i ≤ length pairs.now) × (value_at pairs.now name.now ≡ None)
+        × ((v : List ℕ) → insert_entry byte_cmp pairs.now name.now v ≡ insert pairs.now i (name.now, v))) }
 {
-    pairs.binary_search_by(|pair| pair.0.as_str().cmp(name))
+    let mut low = 0;
+    let mut high = pairs.len();
+    while low < high {
+        let middle = low + (high - low) / 2;
+        match name.cmp(pairs.pair(middle).0) {
+            Ordering::Less => high = middle,
+            Ordering::Equal => return Ok(middle),
+            Ordering::Greater => low = middle + 1,
+        }
+    }
+    Err(low)
 }
 
 impl Clone for Labels {
@@ -345,7 +346,7 @@ impl PartialEq for Labels {
     ghost laws = { Prim.search (comparing, rules) };
 
     fn eq(&self, other: &Labels) -> bool {
-        self.pairs == other.pairs
+        self.pairs.is_equal(&other.pairs)
     }
 }
 
@@ -386,7 +387,7 @@ impl Ord for Labels {
     ghost matches_eq = { labels_ties };
 
     fn cmp(&self, other: &Labels) -> Ordering {
-        self.pairs.cmp(&other.pairs)
+        self.pairs.compare(&other.pairs)
     }
 }
 
@@ -398,7 +399,7 @@ impl Hash for Labels {
     ghost respects_eq = { labels_hash_alike };
 
     fn hash<H: Hasher>(&self, state: &mut H) {
-        self.pairs.hash(state);
+        self.pairs.feed(state);
     }
 }
 

@@ -4,6 +4,7 @@
 
 mod label_text;
 mod labels;
+mod pairs;
 mod rules;
 
 pub use holders::{Boxed, Items, Memory, Text};

@@ -1,6 +1,9 @@
 -- Where a pattern is among the kept ones.
-use Rattle.std.proofs.Common.{◌≡◌, ℕ, ◌<◌, ◌≤◌, ◌+◌, suc, zero, length-append, Bool, true, false, not, cond, List, [], ◌∷◌, ◌++◌, length, get_or, drop, map, Option, None, Some, is_none, slice_get, refl, subst, sym, ap, ◌∙◌, arith, ◌&&◌, ◌||◌, bytes_eq}
-use Rattle.std.proofs.lemmas.List.{at_drop_all, at_drop_more, length-map}
+use Rattle.std.proofs.Common.{◌≡◌, ℕ, ◌<◌, ◌≤◌, ◌+◌, suc, zero, length-append, Bool, true, false, not, cond, List, [], ◌∷◌, ◌++◌, length, map, Option, None, Some, is_none, slice_get, refl, subst, sym, ap, ◌∙◌, arith, ◌&&◌, ◌||◌, bytes_eq}
+use Rattle.std.specs.Prelude.{nat_lt, unwrap_or}
+use Rattle.std.specs.List.{position, position_or_len}
+use Rattle.std.proofs.lemmas.Bool.Decides.{nat_tests}
+use Rattle.std.proofs.lemmas.List.{length-map}
 use Rattle.std.proofs.lemmas.Slice.Eq.{bytes_eq-Decides}
 use Rattle.match_rule.specs.declared.patterns.Kept.{Kept}
 use Rattle.regex.specs.declared.string.regex.Regex.{Regex}
@@ -10,19 +13,28 @@ use Rattle.match_rule.specs.Patterns.{IsFinder, is_pattern, is_plain, is_readabl
 abbrev pub pattern_of : Kept → Bool × List ℕ
 pattern_of k = (k.whole, k.text)
 
-module _ (q : Bool × List ℕ) (ks : List Kept) (i : ℕ) where
-  pub hit : (x : Kept) → i < length ks → x ≡ get_or ks i x → is_pattern q (pattern_of x) ≡ true → number_of q (map pattern_of (drop i ks)) ≡ 0
-  hit x w here e =
-      at_drop_more (λ xs. number_of q (map pattern_of xs)) ks i x w
-      ∙ ap (λ y. number_of q (map pattern_of (y ∷ drop (i + 1) ks))) (sym here) ∙ rw e refl
+pub number_at_most : (q : Bool × List ℕ) (ps : List (Bool × List ℕ)) → number_of q ps ≤ length ps
+number_at_most q [] = omega arith
+number_at_most q (p ∷ ps) = let h = number_at_most q ps in elim (is_pattern q p) as (λ b. cond (not b) (1 + number_of q ps) 0 ≤ suc (length ps)) [ true ↦ omega arith | false ↦ omega arith ]
 
-  pub miss : (x : Kept) → i < length ks → x ≡ get_or ks i x → is_pattern q (pattern_of x) ≡ false → number_of q (map pattern_of (drop i ks)) ≡ 1 + number_of q (map pattern_of (drop (i + 1) ks))
-  miss x w here e =
-      at_drop_more (λ xs. number_of q (map pattern_of xs)) ks i x w
-      ∙ ap (λ y. number_of q (map pattern_of (y ∷ drop (i + 1) ks))) (sym here) ∙ rw e refl
+mapped : (q : Bool × List ℕ) (ks : List Kept) → position_or_len (λ k. is_pattern q (pattern_of k)) ks ≡ number_of q (map pattern_of ks)
+mapped q [] = refl
+mapped q (k ∷ ks) = ap (λ n. cond (not (is_pattern q (pattern_of k))) (1 + n) 0) (mapped q ks)
 
-  pub none_left : length ks ≤ i → number_of q (map pattern_of (drop i ks)) ≡ 0
-  none_left w = at_drop_all (λ xs. number_of q (map pattern_of xs)) ks i w
+or_length : (n l : ℕ) → n ≤ l → unwrap_or (cond (nat_lt n l) (Some n) None) l ≡ n
+or_length n l h = by (nat_lt n l) refl
+  where
+    by : (b : Bool) → nat_lt n l ≡ b → unwrap_or (cond b (Some n) None) l ≡ n
+    by true e = refl
+    by false e = grind (arith, nat_tests)
+
+-- the place that a search finds, or how many there are
+pub number_by_position : (q : Bool × List ℕ) (ks : List Kept) → unwrap_or (position (λ k. is_pattern q (pattern_of k)) ks) (length ks) ≡ number_of q (map pattern_of ks)
+number_by_position q ks =
+    let few = number_at_most q (map pattern_of ks) in
+    let all = length-map ks pattern_of in
+    let at = mapped q ks in
+    or_length (position_or_len (λ k. is_pattern q (pattern_of k)) ks) (length ks) (omega (arith, few, all, at)) ∙ at
 
 same_flag : (a b : Bool) → cond a b (not b) ≡ true → b ≡ a
 same_flag true b e = e
@@ -48,10 +60,6 @@ number_there q (p ∷ ps) w = go (is_pattern q p) refl (number_there q ps) w
     go : (b : Bool) → is_pattern q p ≡ b → (number_of q ps < length ps → slice_get ps (number_of q ps) ≡ Some q) → cond (not b) (1 + number_of q ps) 0 < suc (length ps) → slice_get (p ∷ ps) (cond (not b) (1 + number_of q ps) 0) ≡ Some q
     go true e rest w = ap Some (is_pattern_same q p e)
     go false e rest w = let one : 1 + number_of q ps ≡ suc (number_of q ps) = omega arith in rw one (rest (omega arith))
-
-pub number_at_most : (q : Bool × List ℕ) (ps : List (Bool × List ℕ)) → number_of q ps ≤ length ps
-number_at_most q [] = omega arith
-number_at_most q (p ∷ ps) = let h = number_at_most q ps in elim (is_pattern q p) as (λ b. cond (not b) (1 + number_of q ps) 0 ≤ suc (length ps)) [ true ↦ omega arith | false ↦ omega arith ]
 
 module _ (q : Bool × List ℕ) (ks : List Kept) where
   pub there_among : number_of q (map pattern_of ks) < length ks → slice_get (map pattern_of ks) (number_of q (map pattern_of ks)) ≡ Some q

@@ -1,6 +1,6 @@
 ghost use Rattle.match_rule.specs.Patterns.{IsFinder, IsRefused, IsWholeId, MayRefuse, first_locations, group_spans, groups_at, pattern_groups, plain_passes, is_kept, is_pattern, is_plain, is_readable, number_of, passes_at, regex_text, with_pattern};
 ghost use Rattle.std.specs.Option.{option_map};
-ghost use Rattle.std.specs.Prelude.{◌≡◌, ◌<◌, ◌≤◌, ℕ, true, false, [], ◌∷◌, None, Some, Err, if◌then◌else◌, MatchOption, length, is_none, map, slice_get, string_bytes, IfOk, IfErr, OnOk, OnErr, IsOk};
+ghost use Rattle.std.specs.Prelude.{◌≡◌, ◌<◌, ◌≤◌, ℕ, true, false, [], ◌∷◌, None, Some, Err, if◌then◌else◌, MatchOption, length, is_none, map, position, slice_get, string_bytes, IfOk, IfErr, OnOk, OnErr, IsOk};
 ghost use Rattle.regex.specs.Patterns.{find_str};
 ghost use Rattle.regex.specs.Strings.{regex_names, regex_pattern};
 ghost use Rattle.std.specs.Option.{ForSome};
@@ -269,12 +269,14 @@ fn copied(
 fn number_of(kept: &[Kept], whole: bool, text: &str) -> usize
     ensures { result ≡ number_of (whole, text.now) (map (λ k. (k.whole, k.text)) kept.now) }
 {
-    for (place, pattern) in kept.iter().enumerate() {
-        if is_pattern(pattern, whole, text) {
-            return place;
-        }
-    }
-    kept.len()
+    place_of(kept, whole, text).unwrap_or(kept.len())
+}
+
+fn place_of(kept: &[Kept], whole: bool, text: &str) -> Option<usize>
+    ensures { result ≡ position (λ k. is_pattern (whole, text.now) (k.whole, k.text)) kept.now }
+{
+    kept.iter()
+        .position(|pattern| is_pattern(pattern, whole, text))
 }
 
 fn is_pattern(kept: &Kept, whole: bool, text: &str) -> bool

@@ -9,12 +9,19 @@ const SPECIAL: &[u8] = b"\\.+*?()[]{}^$";
 pub fn is_plain(text: &str) -> bool
     ensures { result ≡ is_plain text.now }
 {
-    for byte in text.as_bytes() {
-        if SPECIAL.contains(byte) {
-            return false;
-        }
-    }
-    true
+    !has_special(text.as_bytes())
+}
+
+fn has_special(bytes: &[u8]) -> bool
+    ensures { result ≡ list_any is_special bytes.now }
+{
+    bytes.iter().any(|byte| is_special(*byte))
+}
+
+fn is_special(byte: u8) -> bool
+    ensures { result ≡ is_special byte }
+{
+    SPECIAL.contains(&byte)
 }
 
 /// Whether a plain text passes a value: the value is one of its words or, where `whole` is false, has one of them in it.

@@ -3,7 +3,7 @@ use Rattle.label_set.specs.Labels.{metric_name, without}
 use Rattle.label_set.specs.LabelText.{comma_list, label_text}
 use Rattle.label_set.proofs.label_text.push_labels.Given as goal
 
-abbrev pub invariant-loop-pair : goal.invariant-loop-pair
-invariant-loop-pair l =
-    l.out.items ++ comma_list l.started (map label_text (without (metric_name ∷ []) (drop l.pair-index l.pairs)))
+abbrev pub invariant-loop-place : goal.invariant-loop-place
+invariant-loop-place l =
+    l.out.items ++ comma_list l.started (map label_text (without (metric_name ∷ []) (drop l.place l.pairs)))
     ≡ l.initial.out.items ++ comma_list l.initial.started (map label_text (without (metric_name ∷ []) l.pairs))

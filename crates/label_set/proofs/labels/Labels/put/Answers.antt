@@ -7,7 +7,7 @@ use Rattle.label_set.proofs.labels.Labels.put.Goals as goal
 
 pub invariant_of-self-2 : goal.invariant_of-self-2
 invariant_of-self-2 c =
-    let e : c.insert.new.self.items ≡ insert_entry byte_cmp c.self.inside.pairs.items c.args.name.now c.args.value.now = grind (arith, common_steps) in
+    let e : c.insert.new.self ≡ insert_entry byte_cmp c.self.inside.pairs c.args.name.now c.args.value.now = grind (arith, common_steps) in
     let filled : c.args.value.now ≢ [] = grind (arith, common_steps) in
-    let few : length c.insert.new.self.items ≤ 64 = grind (arith, common_steps) in
+    let few : length c.insert.new.self ≤ 64 = grind (arith, common_steps) in
     subst IsLabelSet (sym e) (IsLabelSet-insert _ _ _ c.self.invariant filled (subst (λ ps. length ps ≤ 64) e few))
