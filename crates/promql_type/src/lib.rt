@@ -4,7 +4,7 @@
 mod checking;
 mod judge;
 mod kind;
-mod law;
+mod laws;
 mod least;
 mod literal;
 mod points;
@@ -16,7 +16,7 @@ mod template;
 mod typed_tree;
 
 pub use checking::check;
-pub use law::{least_is_first, typed_trees_fit};
+pub use laws::{least_is_first, typed_trees_fit};
 pub use typed_tree::{TypeFault, Typed};
 
 #[cfg(test)]

@@ -461,6 +461,183 @@ fn trees_have_types(rt: HostRuntime) -> Result<(), Fail> {
     Ok(())
 }
 
+/// Each function and aggregation with the kinds of its arguments, what it gives, and numbers of arguments that it refuses.
+const SIGNATURES: &str = "f:abs v vector 0 2
+f:ceil v vector 0 2
+f:floor v vector 0 2
+f:sgn v vector 0 2
+f:sort v vector 0 2
+f:sort_desc v vector 0 2
+f:timestamp v vector 0 2
+f:absent v vector 0 2
+f:round v vector 0
+f:round vn vector 0 3
+f:clamp vnn vector 0 1 2 4
+f:clamp_min vn vector 0 1 3
+f:clamp_max vn vector 0 1 3
+f:scalar v scalar 0 2
+f:vector n vector 0 2
+f:time  scalar 1 2
+f:label_replace vwwww vector 0 1 2 3 4 6
+f:label_join vww vector 0 1 2
+f:label_join vwwww vector 0 1 2
+f:histogram_quantile nv vector 0 1 3
+f:rate r vector 0 2
+f:increase r vector 0 2
+f:delta r vector 0 2
+f:irate r vector 0 2
+f:idelta r vector 0 2
+f:deriv r vector 0 2
+f:changes r vector 0 2
+f:resets r vector 0 2
+f:avg_over_time r vector 0 2
+f:min_over_time r vector 0 2
+f:max_over_time r vector 0 2
+f:sum_over_time r vector 0 2
+f:count_over_time r vector 0 2
+f:stdvar_over_time r vector 0 2
+f:last_over_time r vector 0 2
+f:present_over_time r vector 0 2
+f:absent_over_time r vector 0 2
+f:predict_linear rn vector 0 1 3
+f:quantile_over_time nr vector 0 1 3
+a:sum v vector 0 2
+a:avg v vector 0 2
+a:min v vector 0 2
+a:max v vector 0 2
+a:count v vector 0 2
+a:group v vector 0 2
+a:stdvar v vector 0 2
+a:topk nv vector 0 1 3
+a:bottomk nv vector 0 1 3
+a:quantile nv vector 0 1 3
+a:count_values wv vector 0 1 3";
+
+/// A call of arguments of these kinds, which stand at places 1, 2 and so on.
+fn call_of(alloc: Global, callee: &str, kinds: &str) -> Result<String, Fail> {
+    let mut text = String::new(alloc);
+    let mut at: u32 = 0;
+    for kind in kinds.chars() {
+        at = at.saturating_add(1);
+        let word = format!(in alloc; "{at}:{kind}:a ")?;
+        text.push_str(word.as_str())?;
+    }
+    let word = format!(in alloc; "0:{callee}:{at}")?;
+    text.push_str(word.as_str())?;
+    Ok(text)
+}
+
+/// Puts a call to the list where its answer isn't the wanted one.
+fn try_call(
+    alloc: Global,
+    callee: &str,
+    kinds: &str,
+    wanted: &str,
+    wrong: &mut String,
+) -> Result<(), Fail> {
+    let call = call_of(alloc, callee, kinds)?;
+    let found = answer(alloc, call.as_str())?;
+    if found.as_str() != wanted {
+        let line = format!(in alloc; "{callee} {kinds} {wanted}\n")?;
+        wrong.push_str(line.as_str())?;
+    }
+    Ok(())
+}
+
+/// The kinds with another one at a place, counted from 1.
+fn replaced(alloc: Global, kinds: &str, place: u32, other: char) -> Result<String, AllocError> {
+    let mut text = String::new(alloc);
+    let mut at: u32 = 0;
+    for kind in kinds.chars() {
+        at = at.saturating_add(1);
+        text.push(if at == place { other } else { kind })?;
+    }
+    Ok(text)
+}
+
+/// The first kinds, or all and instant vectors behind them.
+fn counted(alloc: Global, kinds: &str, count: u32) -> Result<String, AllocError> {
+    let mut text = String::new(alloc);
+    let mut left = kinds.chars();
+    for _ in 0..count {
+        text.push(left.next().unwrap_or('v'))?;
+    }
+    Ok(text)
+}
+
+/// Tries each other kind at a place.
+fn try_place(
+    alloc: Global,
+    callee: &str,
+    kinds: &str,
+    place: u32,
+    right: char,
+    wrong: &mut String,
+) -> Result<u32, Fail> {
+    let mut tried: u32 = 0;
+    for other in ['n', 'v', 'r', 'w'] {
+        if other != right {
+            let changed = replaced(alloc, kinds, place, other)?;
+            let wanted = format!(in alloc; "WrongType({place})")?;
+            try_call(alloc, callee, changed.as_str(), wanted.as_str(), wrong)?;
+            tried = tried.saturating_add(1);
+        }
+    }
+    Ok(tried)
+}
+
+fn try_places(alloc: Global, callee: &str, kinds: &str, wrong: &mut String) -> Result<u32, Fail> {
+    let mut tried: u32 = 0;
+    let mut place: u32 = 0;
+    for right in kinds.chars() {
+        place = place.saturating_add(1);
+        let more = try_place(alloc, callee, kinds, place, right, wrong)?;
+        tried = tried.saturating_add(more);
+    }
+    Ok(tried)
+}
+
+fn try_counts(
+    alloc: Global,
+    callee: &str,
+    kinds: &str,
+    counts: &str,
+    wrong: &mut String,
+) -> Result<u32, Fail> {
+    let mut tried: u32 = 0;
+    for count in counts.split(' ') {
+        let count: u32 = count.parse()?;
+        let changed = counted(alloc, kinds, count)?;
+        try_call(alloc, callee, changed.as_str(), "WrongArity(0)", wrong)?;
+        tried = tried.saturating_add(1);
+    }
+    Ok(tried)
+}
+
+/// Tries a call as it is taken, each other kind in each place, and each refused number of arguments.
+fn try_row(alloc: Global, row: &str, wrong: &mut String) -> Result<u32, Fail> {
+    let (callee, rest) = row.split_once(' ').ok_or("no kinds")?;
+    let (kinds, rest) = rest.split_once(' ').ok_or("no result")?;
+    let (gives, counts) = rest.split_once(' ').ok_or("no counts")?;
+    try_call(alloc, callee, kinds, gives, wrong)?;
+    let places = try_places(alloc, callee, kinds, wrong)?;
+    let counts = try_counts(alloc, callee, kinds, counts, wrong)?;
+    Ok(places.saturating_add(counts).saturating_add(1))
+}
+
+#[test]
+fn calls_have_signatures(rt: HostRuntime) -> Result<(), Fail> {
+    let mut wrong = String::new(rt.alloc());
+    let mut tried: u32 = 0;
+    for row in SIGNATURES.lines() {
+        let more = try_row(rt.alloc(), row, &mut wrong)?;
+        tried = tried.saturating_add(more);
+    }
+    assert_eq!(rt; wrong.as_str(), "");
+    assert_eq!(rt; tried, 379);
+    Ok(())
+}
+
 /// `-label_replace(x, "a", "$1", "b", "p.*") + on() group_left(c) 1`
 const REPLACED: &str =
     "15:v: 18:w:a 23:w:$1 29:w:b 34:w:p.* 1:f:label_replace:5 0:m: 63:n: 0:o:+:o!Lc";

@@ -1,3 +1,4 @@
+//! Laws of the depth of a tree.
 ghost use Rattle.func_table.specs.declared.table.Aggregate.{Aggregate};
 ghost use Rattle.func_table.specs.declared.table.Func.{Func};
 ghost use Rattle.func_table.specs.declared.table.SetOp.{SetOp};

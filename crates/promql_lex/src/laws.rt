@@ -1,3 +1,4 @@
+//! Laws of the tokens of a text.
 ghost use Rattle.promql_lex.specs.Laws.{AreLaidOut, IsSpelling};
 ghost use Rattle.promql_lex.specs.Tokens.{is_bad, tokens_of};
 ghost use Rattle.promql_lex.specs.declared.token.Token.{Token};
@@ -14,7 +15,7 @@ pub fn refused_spellings_are_last()
     ensures { (text : List ℕ) (front : List Token) (t : Token) (back : List Token) → tokens_of text ≡ front ++ t ∷ back → IsTrue (is_bad t.kind) → back ≡ [] }
 {}
 
-/// A law, with nothing to run: the kind of each token is that of its span's spelling.
+/// A law, with nothing to run: the kind of each token, each refusal among them, is that of its span's spelling.
 pub fn kinds_are_of_spellings()
     ensures { (text : List ℕ) (front : List Token) (t : Token) (back : List Token) → tokens_of text ≡ front ++ t ∷ back → IsSpelling t.at (take (t.end - t.at) (drop t.at text)) t.kind }
 {}

@@ -1,6 +1,6 @@
 use Rattle.promql_ast.specs.Depth.{node_depth}
 use Rattle.promql_ast.specs.Folds.{fold-Number, fold-Words, fold-Paren, fold-Negate, fold-Select, fold-Range, fold-Subquery, fold-Call, fold-Aggregate, fold-Pair, fold-Set}
-use Rattle.promql_ast.proofs.law.depths_are_by_nodes.Goals as goal
+use Rattle.promql_ast.proofs.laws.depths_are_by_nodes.Goals as goal
 
 pub returns-clause-number : goal.returns-clause-number
 returns-clause-number c = fold-Number node_depth (λ e. e.node)
