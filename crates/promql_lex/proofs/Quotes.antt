@@ -1,5 +1,5 @@
 -- The closing quote of a string is the first that closes it.
-use Rattle.std.proofs.Common.{◌≡◌, ℕ, zero, suc, ◌+◌, ◌++◌, ◌∙◌, Bool, true, false, List, [], ◌∷◌, length, take, refl, ap, subst, arith, not, eqb-true}
+use Rattle.std.proofs.Common.{◌≡◌, ℕ, suc, ◌+◌, ◌++◌, ◌∙◌, Bool, true, false, List, [], ◌∷◌, length, take, refl, ap, subst, arith, not, eqb-true}
 use Rattle.std.specs.Prelude.{◌&&◌, ◌==◌, if◌then◌else◌, Option, Some, None, option_map}
 use Rattle.promql_lex.specs.Quoted.{body_len, raw_len}
 use Rattle.promql_lex.proofs.Sizes.{if_both}

@@ -99,7 +99,7 @@ digit_behind (a ∷ (b ∷ (c ∷ text))) h =
     digit_is_word c text (and_right (b == 43 || b == 45) (is_ascii_digit c) (and_right (a == 101 || a == 69) ((b == 43 || b == 45) && is_ascii_digit c) h))
 
 exponent_step : (a b : Bool) (m : ℕ) (text : List ℕ) → begins_exponent text ≡ b → cond (a && b) 2 0 + prefix_len is_word_byte (drop (cond (a && b) 2 0) text) ≤ m
-    → cond (a && begins_exponent (take m text)) 2 0 ≡ cond (a && b) 2 0
+    → ◌≡◌ {A = ℕ} (cond (a && begins_exponent (take m text)) 2 0) (cond (a && b) 2 0)
 exponent_step false b m text is h = refl
 exponent_step true false m text is h = ap (λ c. cond c 2 0) (exponent_none m text is)
 exponent_step true true m text is h = ap (λ c. cond c 2 0) (exponent_near m text (omega (arith, h, digit_behind text is)) ∙ is)

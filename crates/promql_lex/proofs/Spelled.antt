@@ -153,29 +153,29 @@ record IsNoSign (byte : ℕ) (bytes : List ℕ) : Type 0 where
 
 begins_none : (inside : Bool) (byte : ℕ) (bytes : List ℕ) → IsNoSign byte bytes → starts_name inside byte ≡ false → begins_double byte bytes ≡ false → is_single byte ≡ false
     → begins_piece byte (take (prefix_len is_continuation bytes) bytes) ≡ false
-begins_none inside byte bytes no name double single =
+begins_none inside byte bytes bare name double single =
     let k = prefix_len is_continuation bytes in
     let cut = take k bytes in
-    or_none (is_blank byte) _ no.blank (or_none (begins_comment byte) _ no.comment (or_none (is_quote byte) _ no.quote (or_none (byte == 96) _ no.raw
-    (or_none (begins_number byte cut) _ (number_cut k byte bytes no.number) (or_none (starts_name false byte) _ (no_name inside byte name single)
+    or_none (is_blank byte) _ bare.blank (or_none (begins_comment byte) _ bare.comment (or_none (is_quote byte) _ bare.quote (or_none (byte == 96) _ bare.raw
+    (or_none (begins_number byte cut) _ (number_cut k byte bytes bare.number) (or_none (starts_name false byte) _ (no_name inside byte name single)
     (or_none (begins_double byte cut) (is_single byte) (double_cut k byte bytes double) single))))))
 
 refused_told : (inside : Bool) (at byte : ℕ) (bytes : List ℕ) → IsNoSign byte bytes → starts_name inside byte ≡ false → begins_double byte bytes ≡ false → is_single byte ≡ false
     → IsTold at (byte ∷ bytes) (token (character_len bytes) (Bad (BadToken at)))
-refused_told inside at byte bytes no name double single =
+refused_told inside at byte bytes bare name double single =
     let k = prefix_len is_continuation bytes in
     told at (character_len bytes) (byte ∷ bytes) (Bad (BadToken at))
-    (IsSpelling.refused byte (take k bytes) (take (character_len bytes) (byte ∷ bytes)) (begins_none inside byte bytes no name double single) (all_front is_continuation bytes) (take_first k byte bytes))
+    (IsSpelling.refused byte (take k bytes) (take (character_len bytes) (byte ∷ bytes)) (begins_none inside byte bytes bare name double single) (all_front is_continuation bytes) (take_first k byte bytes))
 
 sign_told : (inside : Bool) (at byte : ℕ) (bytes : List ℕ) → IsNoSign byte bytes → starts_name inside byte ≡ false
     → IsTold at (byte ∷ bytes) (if begins_double byte bytes then token 2 Sign else if is_single byte then token 1 Sign else token (character_len bytes) (Bad (BadToken at)))
-sign_told inside at byte bytes no name =
+sign_told inside at byte bytes bare name =
     let P = λ (p : Piece). IsTold at (byte ∷ bytes) p in
     if_both P (begins_double byte bytes) (token 2 Sign) (if is_single byte then token 1 Sign else token (character_len bytes) (Bad (BadToken at)))
     (λ h. told at 2 (byte ∷ bytes) Sign (IsSpelling.signed (take 2 (byte ∷ bytes)) (double_sign byte bytes h)))
     (λ double. if_both P (is_single byte) (token 1 Sign) (token (character_len bytes) (Bad (BadToken at)))
     (λ h. told at 1 (byte ∷ bytes) Sign (IsSpelling.signed (take 1 (byte ∷ bytes)) h))
-    (λ single. refused_told inside at byte bytes no name double single))
+    (λ single. refused_told inside at byte bytes bare name double single))
 
 piece_told : (inside : Bool) (at byte : ℕ) (bytes : List ℕ) → IsTold at (byte ∷ bytes) (piece_at inside at byte bytes)
 piece_told inside at byte bytes =
