@@ -2,11 +2,11 @@
 #![tactic(auto)]
 
 mod equal;
-mod law;
+mod laws;
 mod refusal;
 mod tree;
 
-pub use law::depths_are_by_nodes;
+pub use laws::depths_are_by_nodes;
 pub use refusal::QueryRefusal;
 pub use tree::{Expr, Fixed, Moment, Node, Selector};
 

@@ -51,7 +51,7 @@ within_signed : (text : List ℕ) → signed_len text ≤ length text
 within_signed text =
     omega (arith, within_mantissa text, within_exponent (take (mantissa_len text) text) (drop (mantissa_len text) text), length-drop (mantissa_len text) text)
 
-within_run : (text : List ℕ) → run_len text ≤ length text
+pub within_run : (text : List ℕ) → run_len text ≤ length text
 within_run text =
     omega (arith, within_signed text, prefix_len-le-length is_word_byte (drop (signed_len text) text), length-drop (signed_len text) text)
 
@@ -118,16 +118,17 @@ module _ (P : Piece → Type 0) (inside : Bool) (at byte : ℕ) (bytes : List �
   but_blank = if begins_comment byte then gap (1 + prefix_len is_comment_byte bytes) else but_comment
 
   pub by_piece : (is_blank byte ≡ true → P (gap 1)) → (begins_comment byte ≡ true → P (gap (1 + prefix_len is_comment_byte bytes))) → ((byte == 34 || byte == 39) ≡ true → P (string_at byte at bytes)) → ((byte == 96) ≡ true → P (raw_at at bytes))
-      → (begins_number byte bytes ≡ true → P (number_at at (byte ∷ bytes))) → (starts_name inside byte ≡ true → P (name_at inside (byte ∷ bytes))) → P (sign_at at byte bytes)
+      → (begins_number byte bytes ≡ true → P (number_at at (byte ∷ bytes))) → (starts_name inside byte ≡ true → P (name_at inside (byte ∷ bytes)))
+      → (is_blank byte ≡ false → begins_comment byte ≡ false → (byte == 34 || byte == 39) ≡ false → (byte == 96) ≡ false → begins_number byte bytes ≡ false → starts_name inside byte ≡ false → P (sign_at at byte bytes))
       → P (piece_at inside at byte bytes)
   by_piece blank comment quoted raw number name sign =
       if_both P (is_blank byte) (gap 1) but_blank blank
-      (λ _. if_both P (begins_comment byte) (gap (1 + prefix_len is_comment_byte bytes)) but_comment comment
-      (λ _. if_both P (byte == 34 || byte == 39) (string_at byte at bytes) but_quoted quoted
-      (λ _. if_both P (byte == 96) (raw_at at bytes) but_raw raw
-      (λ _. if_both P (begins_number byte bytes) (number_at at (byte ∷ bytes)) but_number number
-      (λ _. if_both P (starts_name inside byte) (name_at inside (byte ∷ bytes)) (sign_at at byte bytes) name
-      (λ _. sign))))))
+      (λ a. if_both P (begins_comment byte) (gap (1 + prefix_len is_comment_byte bytes)) but_comment comment
+      (λ b. if_both P (byte == 34 || byte == 39) (string_at byte at bytes) but_quoted quoted
+      (λ c. if_both P (byte == 96) (raw_at at bytes) but_raw raw
+      (λ d. if_both P (begins_number byte bytes) (number_at at (byte ∷ bytes)) but_number number
+      (λ e. if_both P (starts_name inside byte) (name_at inside (byte ∷ bytes)) (sign_at at byte bytes) name
+      (λ f. sign a b c d e f))))))
 
 sign_fits : (at byte : ℕ) (bytes : List ℕ) → Fits (1 + length bytes) (sign_at at byte bytes)
 sign_fits at byte bytes =
@@ -143,4 +144,4 @@ piece_fits inside at byte bytes =
     (λ _. closed_fits byte at bytes (body_len false byte bytes) (body_within false byte bytes)) (λ _. raw_fits at bytes (raw_len bytes) (raw_within bytes))
     (λ h. (some_run byte bytes h, omega (arith, within_run (byte ∷ bytes))))
     (λ h. (some_name inside byte bytes h, omega (arith, prefix_len-le-length (continues_name inside) (byte ∷ bytes))))
-    (sign_fits at byte bytes)
+    (λ _ _ _ _ _ _. sign_fits at byte bytes)

@@ -126,7 +126,7 @@ gap_joins inside at byte bytes =
     (λ _ h. absurd (closed_some byte at bytes (body_len false byte bytes) h)) (λ _ h. absurd (raw_some at bytes (raw_len bytes) h))
     (λ _ h. absurd (token_some (run_len (byte ∷ bytes)) (run_kind at (take (run_len (byte ∷ bytes)) (byte ∷ bytes))) h))
     (λ _ h. absurd (token_some (prefix_len (continues_name inside) (byte ∷ bytes)) (name_kind (take (prefix_len (continues_name inside) (byte ∷ bytes)) (byte ∷ bytes))) h))
-    (by_sign P at byte bytes (λ _ h. absurd (token_some 2 Sign h)) (λ h. absurd (token_some 1 Sign h)) (λ h. absurd (token_some (character_len bytes) (Bad (BadToken at)) h)))
+    (λ _ _ _ _ _ _. by_sign P at byte bytes (λ _ h. absurd (token_some 2 Sign h)) (λ h. absurd (token_some 1 Sign h)) (λ h. absurd (token_some (character_len bytes) (Bad (BadToken at)) h)))
 
 -- the tokens behind a gap, and behind a token
 

@@ -1,23 +1,27 @@
 -- Each token's kind is that of its span's spelling.
 use Rattle.std.proofs.Common.{◌≡◌, ℕ, zero, suc, ◌+◌, ◌-◌, ◌<◌, ◌++◌, ◌∙◌, Bool, true, false, cond, List, [], ◌∷◌, length, take, drop, refl, ap, sym, subst, arith, not, eqb-true}
 use Rattle.std.specs.Prelude.{◌&&◌, ◌||◌, ◌==◌, if◌then◌else◌, Option, Some, None, option_map, ⊤}
+use Rattle.std.proofs.Math.Seq.{take-length}
+use Rattle.std.proofs.lemmas.Bool.{false_from_ne_true}
 use Rattle.std.proofs.lemmas.List.{drop-drop}
-use Rattle.std.specs.Char.{is_ascii_digit}
+use Rattle.std.specs.Char.{is_ascii_alphabetic, is_ascii_digit}
 use Rattle.std.specs.List.{list_all, prefix_len}
-use Rattle.promql_lex.specs.Gaps.{is_comment_byte}
-use Rattle.promql_lex.specs.Laws.{IsSpelling, first_is, is_quote, is_sign}
+use Rattle.promql_lex.specs.Gaps.{begins_comment, is_blank, is_comment_byte}
+use Rattle.promql_lex.specs.Laws.{IsSpelling, begins_piece, first_is, is_quote, is_sign}
 use Rattle.promql_lex.specs.Names.{continues_name, name_kind, starts_name}
-use Rattle.promql_lex.specs.Numbers.{begins_with_digit, run_len}
+use Rattle.promql_lex.specs.Numbers.{begins_number, begins_with_digit, run_len}
 use Rattle.promql_lex.specs.Pieces.{closed_piece, decoded_kind, gap, piece_at, raw_piece, run_kind, text_kind, token}
 use Rattle.promql_lex.specs.Quoted.{body_len, decoded, raw_len}
-use Rattle.promql_lex.specs.Signs.{begins_double, character_len, is_single}
+use Rattle.promql_lex.specs.Signs.{begins_double, character_len, is_continuation, is_single}
 use Rattle.promql_lex.specs.Tokens.{inside_behind, is_bad, tokens_from, with_kind}
 use Rattle.promql_lex.specs.declared.piece.Piece.{Piece}
 use Rattle.promql_lex.specs.declared.token.Token.{Token}
 use Rattle.promql_lex.specs.declared.token.TokenKind.{TokenKind}
 use Rattle.promql_lex.specs.declared.token.TokenKind.TheVariants.{Sign, Bad}
 use Rattle.promql_ast.specs.declared.refusal.QueryRefusal.TheVariants.{BadToken, Unterminated}
-use Rattle.promql_lex.proofs.Sizes.{by_piece, if_both, some_name, some_run}
+use Rattle.promql_lex.proofs.Quotes.{and_second, body_first, none_some, raw_first, some_inner}
+use Rattle.promql_lex.proofs.Runs.{whole_run}
+use Rattle.promql_lex.proofs.Sizes.{by_piece, if_both, some_name}
 use Rattle.promql_lex.proofs.Spans.{and_both}
 
 some_same : (n : ℕ) (k kind : TokenKind) → (token n k).kind ≡ Some kind → k ≡ kind
@@ -41,15 +45,6 @@ all_front : (p : ℕ → Bool) (xs : List ℕ) → list_all p (take (prefix_len 
 all_front p [] = refl
 all_front p (x ∷ xs) = all_step p (p x) (prefix_len p xs) x xs refl (all_front p xs)
 
-or_weaker : (a b c : Bool) → (a || (b && c)) ≡ true → (a || b) ≡ true
-or_weaker true b c h = refl
-or_weaker false true c h = refl
-or_weaker false false c h = absurd (cc)
-
-or_left : (a b : Bool) → a ≡ true → (a || b) ≡ true
-or_left true b h = refl
-or_left false b h = absurd (cc)
-
 -- where the closing quote stands
 
 close_step : (o : Option ℕ) (quote b n : ℕ) (bs : List ℕ) → ((k : ℕ) → o ≡ Some k → take (k + 1) bs ≡ take k bs ++ quote ∷ []) → option_map (λ k. k + 1) o ≡ Some n
@@ -59,21 +54,11 @@ close_step (Some k) quote b n bs later h =
     let e : n ≡ suc k = omega (arith, some_inner (k + 1) n h) in
     let f : n + 1 ≡ suc (k + 1) = omega (arith, e) in
     ap (λ m. take m (b ∷ bs)) f ∙ ap (λ xs. b ∷ xs) (later k refl) ∙ sym (ap (λ m. take m (b ∷ bs) ++ quote ∷ []) e)
-  where
-    some_inner : (x y : ℕ) → Some x ≡ Some y → x ≡ y
-    some_inner x y h = cc
 
 close_here : (quote b n : ℕ) (bs : List ℕ) → b ≡ quote → Some 0 ≡ Some n → take (n + 1) (b ∷ bs) ≡ take n (b ∷ bs) ++ quote ∷ []
 close_here quote b n bs same h =
     let e : 0 ≡ n = cc in
     subst (λ m. take (m + 1) (b ∷ bs) ≡ take m (b ∷ bs) ++ quote ∷ []) e (ap (λ x. x ∷ []) same)
-
-none_some : (n : ℕ) (A : Type 0) → ◌≡◌ {A = Option ℕ} None (Some n) → A
-none_some n A h = absurd (cc)
-
-and_second : (a b : Bool) → (a && b) ≡ true → b ≡ true
-and_second true b h = h
-and_second false b h = absurd (cc)
 
 body_closes : (escaped : Bool) (quote n : ℕ) (text : List ℕ) → body_len escaped quote text ≡ Some n → take (n + 1) text ≡ take n text ++ quote ∷ []
 body_closes escaped quote n [] h = absurd (none_some n ⊥ h)
@@ -102,42 +87,95 @@ IsTold at text p = (kind : TokenKind) → p.kind ≡ Some kind → IsSpelling at
 told : (at n : ℕ) (text : List ℕ) (k : TokenKind) → IsSpelling at (take n text) k → IsTold at text (token n k)
 told at n text k s kind h = subst (IsSpelling at (take n text)) (some_same n k kind h) s
 
+whole_text : (x : ℕ) (xs : List ℕ) → take (1 + length xs) (x ∷ xs) ≡ x ∷ xs
+whole_text x xs = take_first (length xs) x xs ∙ ap (λ ys. x ∷ ys) (take-length xs)
+
 closed_told : (quote at : ℕ) (text : List ℕ) (o : Option ℕ) → is_quote quote ≡ true → body_len false quote text ≡ o → IsTold at (quote ∷ text) (closed_piece quote at text o)
 closed_told quote at text None is len =
-    told at (1 + length text) (quote ∷ text) (Bad (Unterminated at))
-    (IsSpelling.unclosed (take (1 + length text) (quote ∷ text)) (first_of (λ b. is_quote b || b == 96) (1 + length text) quote text (omega arith) (or_left (is_quote quote) (quote == 96) is)))
+    told at (1 + length text) (quote ∷ text) (Bad (Unterminated at)) (IsSpelling.unclosed quote text (take (1 + length text) (quote ∷ text)) is len (whole_text quote text))
 closed_told quote at text (Some n) is len =
     told at (n + 2) (quote ∷ text) (decoded_kind at (decoded 0 quote (at + 1) (take n text)))
-    (IsSpelling.quoted quote (take n text) (take (n + 2) (quote ∷ text)) is (closed_text quote n text (body_closes false quote n text len)))
+    (IsSpelling.quoted quote (take n text) (take (n + 2) (quote ∷ text)) is (body_first false quote n text len) (closed_text quote n text (body_closes false quote n text len)))
 
-raw_first : (b : ℕ) → (b == 96) ≡ true → (is_quote b || b == 96) ≡ true
-raw_first b h = or_right (is_quote b) (b == 96) h
-  where
-    or_right : (x y : Bool) → y ≡ true → (x || y) ≡ true
-    or_right true y e = refl
-    or_right false y e = e
-
-raw_told : (byte at : ℕ) (text : List ℕ) (o : Option ℕ) → (byte == 96) ≡ true → raw_len text ≡ o → IsTold at (byte ∷ text) (raw_piece at text o)
+raw_told : (byte at : ℕ) (text : List ℕ) (o : Option ℕ) → byte ≡ 96 → raw_len text ≡ o → IsTold at (byte ∷ text) (raw_piece at text o)
 raw_told byte at text None is len =
     told at (1 + length text) (byte ∷ text) (Bad (Unterminated at))
-    (IsSpelling.unclosed (take (1 + length text) (byte ∷ text)) (first_of (λ b. is_quote b || b == 96) (1 + length text) byte text (omega arith) (raw_first byte is)))
+    (IsSpelling.raw_unclosed text (take (1 + length text) (byte ∷ text)) len (whole_text byte text ∙ ap (λ x. x ∷ text) is))
 raw_told byte at text (Some n) is len =
-    let same : 96 ≡ byte = sym (eqb-true byte 96 is) in
     told at (n + 2) (byte ∷ text) (text_kind at (take n text))
-    (IsSpelling.raw (take n text) (take (n + 2) (byte ∷ text)) (subst (λ x. take (n + 2) (x ∷ text) ≡ 96 ∷ take n text ++ 96 ∷ []) same (closed_text 96 n text (raw_closes n text len))))
+    (IsSpelling.raw (take n text) (take (n + 2) (byte ∷ text)) (raw_first n text len)
+    (subst (λ x. take (n + 2) (x ∷ text) ≡ 96 ∷ take n text ++ 96 ∷ []) (sym is) (closed_text 96 n text (raw_closes n text len))))
 
 double_sign : (a : ℕ) (text : List ℕ) → begins_double a text ≡ true → is_sign (take 2 (a ∷ text)) ≡ true
 double_sign a [] h = absurd (cc)
 double_sign a (b ∷ text) h = h
 
-sign_told : (at byte : ℕ) (bytes : List ℕ) → IsTold at (byte ∷ bytes) (if begins_double byte bytes then token 2 Sign else if is_single byte then token 1 Sign else token (character_len bytes) (Bad (BadToken at)))
-sign_told at byte bytes =
+-- a character that begins nothing begins nothing alone
+
+or_none : (a b : Bool) → a ≡ false → b ≡ false → (a || b) ≡ false
+or_none true b p q = absurd (cc)
+or_none false b p q = q
+
+no_digit : (a b c : Bool) → (a || (b && c)) ≡ false → (a || (b && false)) ≡ false
+no_digit true b c h = h
+no_digit false true c h = refl
+no_digit false false c h = refl
+
+number_cut : (k byte : ℕ) (bytes : List ℕ) → begins_number byte bytes ≡ false → begins_number byte (take k bytes) ≡ false
+number_cut zero byte bytes h = no_digit (is_ascii_digit byte) (byte == 46) (begins_with_digit bytes) h
+number_cut (suc k) byte [] h = h
+number_cut (suc k) byte (x ∷ xs) h = h
+
+double_cut : (k byte : ℕ) (bytes : List ℕ) → begins_double byte bytes ≡ false → begins_double byte (take k bytes) ≡ false
+double_cut zero byte bytes h = refl
+double_cut (suc k) byte [] h = h
+double_cut (suc k) byte (x ∷ xs) h = h
+
+no_colon : (byte : ℕ) → is_single byte ≡ false → (byte == 58) ≡ false
+no_colon byte single = false_from_ne_true (byte == 58) (λ e. let s : is_single 58 ≡ false = subst (λ x. is_single x ≡ false) (eqb-true byte 58 e) single in absurd (cc))
+
+name_step : (a b c : Bool) → (a || (b || (c && false))) ≡ false → c ≡ false → (a || (b || (c && true))) ≡ false
+name_step true b c h e = h
+name_step false true c h e = h
+name_step false false c h e = ap (λ x. x && true) e
+
+-- outside of brackets too, since a colon is a sign
+no_name : (inside : Bool) (byte : ℕ) → starts_name inside byte ≡ false → is_single byte ≡ false → starts_name false byte ≡ false
+no_name false byte h single = h
+no_name true byte h single = name_step (is_ascii_alphabetic byte) (byte == 95) (byte == 58) h (no_colon byte single)
+
+record IsNoSign (byte : ℕ) (bytes : List ℕ) : Type 0 where
+  blank : is_blank byte ≡ false
+  comment : begins_comment byte ≡ false
+  quote : is_quote byte ≡ false
+  raw : (byte == 96) ≡ false
+  number : begins_number byte bytes ≡ false
+
+begins_none : (inside : Bool) (byte : ℕ) (bytes : List ℕ) → IsNoSign byte bytes → starts_name inside byte ≡ false → begins_double byte bytes ≡ false → is_single byte ≡ false
+    → begins_piece byte (take (prefix_len is_continuation bytes) bytes) ≡ false
+begins_none inside byte bytes bare name double single =
+    let k = prefix_len is_continuation bytes in
+    let cut = take k bytes in
+    or_none (is_blank byte) _ bare.blank (or_none (begins_comment byte) _ bare.comment (or_none (is_quote byte) _ bare.quote (or_none (byte == 96) _ bare.raw
+    (or_none (begins_number byte cut) _ (number_cut k byte bytes bare.number) (or_none (starts_name false byte) _ (no_name inside byte name single)
+    (or_none (begins_double byte cut) (is_single byte) (double_cut k byte bytes double) single))))))
+
+refused_told : (inside : Bool) (at byte : ℕ) (bytes : List ℕ) → IsNoSign byte bytes → starts_name inside byte ≡ false → begins_double byte bytes ≡ false → is_single byte ≡ false
+    → IsTold at (byte ∷ bytes) (token (character_len bytes) (Bad (BadToken at)))
+refused_told inside at byte bytes bare name double single =
+    let k = prefix_len is_continuation bytes in
+    told at (character_len bytes) (byte ∷ bytes) (Bad (BadToken at))
+    (IsSpelling.refused byte (take k bytes) (take (character_len bytes) (byte ∷ bytes)) (begins_none inside byte bytes bare name double single) (all_front is_continuation bytes) (take_first k byte bytes))
+
+sign_told : (inside : Bool) (at byte : ℕ) (bytes : List ℕ) → IsNoSign byte bytes → starts_name inside byte ≡ false
+    → IsTold at (byte ∷ bytes) (if begins_double byte bytes then token 2 Sign else if is_single byte then token 1 Sign else token (character_len bytes) (Bad (BadToken at)))
+sign_told inside at byte bytes bare name =
     let P = λ (p : Piece). IsTold at (byte ∷ bytes) p in
     if_both P (begins_double byte bytes) (token 2 Sign) (if is_single byte then token 1 Sign else token (character_len bytes) (Bad (BadToken at)))
     (λ h. told at 2 (byte ∷ bytes) Sign (IsSpelling.signed (take 2 (byte ∷ bytes)) (double_sign byte bytes h)))
-    (λ _. if_both P (is_single byte) (token 1 Sign) (token (character_len bytes) (Bad (BadToken at)))
+    (λ double. if_both P (is_single byte) (token 1 Sign) (token (character_len bytes) (Bad (BadToken at)))
     (λ h. told at 1 (byte ∷ bytes) Sign (IsSpelling.signed (take 1 (byte ∷ bytes)) h))
-    (λ _. told at (character_len bytes) (byte ∷ bytes) (Bad (BadToken at)) (IsSpelling.refused (take (character_len bytes) (byte ∷ bytes)))))
+    (λ single. refused_told inside at byte bytes bare name double single))
 
 piece_told : (inside : Bool) (at byte : ℕ) (bytes : List ℕ) → IsTold at (byte ∷ bytes) (piece_at inside at byte bytes)
 piece_told inside at byte bytes =
@@ -145,12 +183,11 @@ piece_told inside at byte bytes =
     let run = run_len text in
     let name = prefix_len (continues_name inside) text in
     by_piece (IsTold at text) inside at byte bytes (λ _ kind h. absurd (gap_none 1 kind h)) (λ _ kind h. absurd (gap_none (1 + prefix_len is_comment_byte bytes) kind h))
-    (λ h. closed_told byte at bytes (body_len false byte bytes) h refl) (λ h. raw_told byte at bytes (raw_len bytes) h refl)
-    (λ h. told at run text (run_kind at (take run text))
-    (IsSpelling.counted (take run text) (first_of (λ b. is_ascii_digit b || b == 46) run byte bytes (some_run byte bytes h) (or_weaker (is_ascii_digit byte) (byte == 46) (begins_with_digit bytes) h))))
+    (λ h. closed_told byte at bytes (body_len false byte bytes) h refl) (λ h. raw_told byte at bytes (raw_len bytes) (eqb-true byte 96 h) refl)
+    (λ h. told at run text (run_kind at (take run text)) (IsSpelling.counted (take run text) (whole_run byte bytes h)))
     (λ h. told at name text (name_kind (take name text))
     (IsSpelling.named inside (take name text) (first_of (starts_name inside) name byte bytes (some_name inside byte bytes h) h) (all_front (continues_name inside) text)))
-    (sign_told at byte bytes)
+    (λ a b c d e f. sign_told inside at byte bytes (record { blank = a; comment = b; quote = c; raw = d; number = e }) f)
 
 -- tokens
 

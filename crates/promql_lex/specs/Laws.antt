@@ -1,16 +1,16 @@
 -- What holds of the tokens of every text: how their spans lie in it, and what each spelling is.
-use Rattle.std.specs.Prelude.{◌≡◌, ℕ, ◌+◌, ◌-◌, ◌<◌, ◌≤◌, Bool, true, false, ◌++◌, ◌==◌, ◌&&◌, ◌||◌, if◌then◌else◌, List, [], ◌∷◌, length, take, drop, IsTrue}
+use Rattle.std.specs.Prelude.{◌≡◌, ℕ, ◌+◌, ◌-◌, ◌<◌, ◌≤◌, Bool, true, false, ◌++◌, ◌==◌, ◌&&◌, ◌||◌, if◌then◌else◌, List, [], ◌∷◌, length, take, drop, None, Some, IsTrue}
 use Rattle.promql_lex.specs.Gaps.{begins_comment, is_blank, is_comment_byte}
 use Rattle.promql_lex.specs.Names.{continues_name, name_kind, starts_name}
+use Rattle.promql_lex.specs.Numbers.{begins_number, run_len}
 use Rattle.promql_lex.specs.Pieces.{decoded_kind, run_kind, text_kind}
-use Rattle.promql_lex.specs.Quoted.{decoded}
-use Rattle.promql_lex.specs.Signs.{is_double, is_single}
+use Rattle.promql_lex.specs.Quoted.{body_len, decoded, raw_len}
+use Rattle.promql_lex.specs.Signs.{begins_double, is_continuation, is_double, is_single}
 use Rattle.promql_lex.specs.Tokens.{is_bad}
 use Rattle.promql_lex.specs.declared.token.Token.{Token}
 use Rattle.promql_lex.specs.declared.token.TokenKind.{TokenKind}
 use Rattle.promql_lex.specs.declared.token.TokenKind.TheVariants.{Sign, Bad}
 use Rattle.promql_ast.specs.declared.refusal.QueryRefusal.TheVariants.{BadToken, Unterminated}
-use Rattle.std.specs.Char.{is_ascii_digit}
 use Rattle.std.specs.List.{list_all}
 
 -- blanks and comments alone (`commented`: the text begins within a comment)
@@ -40,19 +40,33 @@ is_sign (a ∷ []) = is_single a
 is_sign (a ∷ (b ∷ [])) = is_double a b
 is_sign _ = false
 
+-- a number's first bytes, and nothing behind the run that they begin
+abbrev pub is_whole_run : List ℕ → Bool
+is_whole_run [] = false
+is_whole_run (byte ∷ bytes) = begins_number byte bytes && run_len (byte ∷ bytes) == length (byte ∷ bytes)
+
+-- a byte, with what stands behind it, that begins a gap, a string, a number, a name or a sign
+abbrev pub begins_piece : ℕ → List ℕ → Bool
+begins_piece byte bytes =
+    is_blank byte || (begins_comment byte || (is_quote byte || (byte == 96
+    || (begins_number byte bytes || (starts_name false byte || (begins_double byte bytes || is_single byte))))))
+
 -- what a spelling at a place is: its kind is told by its bytes alone
 pub data IsSpelling (at : ℕ) : List ℕ → TokenKind → Type 0 where
   -- a name, which may be a word, or `Inf` or `NaN`
   named : (inside : Bool) (s : List ℕ) → IsTrue (first_is (starts_name inside) s) → IsTrue (list_all (continues_name inside) s) → IsSpelling at s (name_kind s)
-  -- a run of digits: a number or a duration, or refused
-  counted : (s : List ℕ) → IsTrue (first_is (λ b. is_ascii_digit b || b == 46) s) → IsSpelling at s (run_kind at s)
-  -- a body between two equal quotes, with escapes
-  quoted : (quote : ℕ) (body s : List ℕ) → IsTrue (is_quote quote) → s ≡ quote ∷ body ++ quote ∷ [] → IsSpelling at s (decoded_kind at (decoded 0 quote (at + 1) body))
-  -- a body between backquotes
-  raw : (body s : List ℕ) → s ≡ 96 ∷ body ++ 96 ∷ [] → IsSpelling at s (text_kind at body)
-  -- a quote without its end
-  unclosed : (s : List ℕ) → IsTrue (first_is (λ b. is_quote b || b == 96) s) → IsSpelling at s (Bad (Unterminated at))
+  -- a run of digits: the number or the duration that its reader gives, or the refusal
+  counted : (s : List ℕ) → IsTrue (is_whole_run s) → IsSpelling at s (run_kind at s)
+  -- a body between two equal quotes, of which the second is the first that closes: what it stands for, or its first bad escape
+  quoted : (quote : ℕ) (body s : List ℕ) → IsTrue (is_quote quote) → body_len false quote (body ++ quote ∷ []) ≡ Some (length body) → s ≡ quote ∷ body ++ quote ∷ []
+      → IsSpelling at s (decoded_kind at (decoded 0 quote (at + 1) body))
+  -- a body without backquotes between two of them
+  raw : (body s : List ℕ) → raw_len (body ++ 96 ∷ []) ≡ Some (length body) → s ≡ 96 ∷ body ++ 96 ∷ [] → IsSpelling at s (text_kind at body)
+  -- a quote that nothing closes up to the end of its line or of the text
+  unclosed : (quote : ℕ) (body s : List ℕ) → IsTrue (is_quote quote) → body_len false quote body ≡ None → s ≡ quote ∷ body → IsSpelling at s (Bad (Unterminated at))
+  -- a backquote that none follows
+  raw_unclosed : (body s : List ℕ) → raw_len body ≡ None → s ≡ 96 ∷ body → IsSpelling at s (Bad (Unterminated at))
   -- a sign
   signed : (s : List ℕ) → IsTrue (is_sign s) → IsSpelling at s Sign
-  -- a character that begins no token
-  refused : (s : List ℕ) → IsSpelling at s (Bad (BadToken at))
+  -- a character that begins nothing
+  refused : (byte : ℕ) (bytes s : List ℕ) → begins_piece byte bytes ≡ false → IsTrue (list_all is_continuation bytes) → s ≡ byte ∷ bytes → IsSpelling at s (Bad (BadToken at))

@@ -4,7 +4,7 @@
 mod cut;
 mod escape;
 mod fault;
-mod law;
+mod laws;
 mod name;
 mod number;
 mod piece;
@@ -14,7 +14,7 @@ mod token;
 
 pub use cut::tokens;
 pub use fault::LexFault;
-pub use law::{kinds_are_of_spellings, refused_spellings_are_last, spans_lie_in_order};
+pub use laws::{kinds_are_of_spellings, refused_spellings_are_last, spans_lie_in_order};
 pub use std::alloc::AllocError as Memory;
 pub use token::{Token, TokenKind};
 

@@ -1,0 +1,77 @@
+-- Patterns that are kept one after another.
+use Rattle.std.proofs.Common.{◌≡◌, ◌<◌, ◌+◌, ℕ, refl, ap, ◌∙◌, sym, subst, take, drop, get_or, length, List, [], ◌∷◌, ◌++◌, arith, Bool, true}
+use Rattle.std.specs.Prelude.{Some, slice_get}
+use Rattle.std.proofs.lemmas.Option.{slice_get_within}
+use Rattle.std.proofs.lemmas.List.{drop_more, take_more, take-append-drop}
+use Rattle.promql_ast.specs.declared.refusal.QueryRefusal.{QueryRefusal}
+use Rattle.match_rule.specs.Patterns.{with_pattern}
+use Rattle.promql_type.specs.declared.replace.Placed.{Placed}
+use Rattle.promql_type.specs.declared.replace.Replacement.{Replacement}
+use Rattle.promql_type.specs.declared.typed_tree.TypeFault.{TypeFault}
+use Rattle.promql_type.specs.declared.typed_tree.TypeFault.TheVariants.{Refused, Memory}
+use Rattle.promql_type.specs.Answers.{MayFault}
+use Rattle.promql_type.specs.Replacements.{AreKept, Gains, HasCause, IsFirstRefused, Kept, kept_with}
+
+pub kept_more : (kept : Kept) (front : List Replacement) (r : Replacement) → kept_with kept (front ++ r ∷ []) ≡ with_pattern (true, r.text) (kept_with kept front)
+kept_more kept [] r = refl
+kept_more kept (s ∷ front) r = kept_more (with_pattern (true, s.text) kept) front r
+
+abbrev Numbers : Kept → Placed → Replacement → Type 0
+Numbers kept p r = (p.at ≡ r.at) × (slice_get kept p.id.0 ≡ Some (true, r.text))
+
+within : (kept : Kept) (k : ℕ) (x : Bool × List ℕ) → slice_get kept k ≡ Some x → k < length kept
+within kept k x is = slice_get_within kept k x is
+
+pub placed_more : (old kept : Kept) (front : List Replacement) (placed : List Placed) (r : Replacement) (p : Placed)
+    → AreKept old front placed → Gains old kept → Numbers kept p r → AreKept kept (front ++ r ∷ []) (placed ++ p ∷ [])
+placed_more old kept [] [] r p are gains is = (is.0, is.1, record {})
+placed_more old kept [] (q ∷ qs) r p are gains is = absurd are
+placed_more old kept (s ∷ front) [] r p are gains is = absurd are
+placed_more old kept (s ∷ front) (q ∷ qs) r p are gains is =
+    (are.0, gains.earlier q.id.0 (within old q.id.0 (true, s.text) are.1) ∙ are.1, placed_more old kept front qs r p are.2 gains is)
+
+pub gains_all : (a b c : Kept) → Gains a b → Gains b c → Gains a c
+gains_all a b c ab bc = record {
+  earlier = λ k lt. bc.earlier k (omega (arith, lt, ab.more)) ∙ ab.earlier k lt;
+  more = omega (arith, ab.more, bc.more);
+}
+
+pub gains_none : (a b : Kept) → b ≡ a → Gains a b
+gains_none a b is = subst (λ (x : Kept). Gains a x) (sym is) (record { earlier = λ k lt. refl; more = omega arith })
+
+-- what is kept and placed once those at the front are
+pub record AreSofar (before now : Kept) (done : List Replacement) (numbers : List Placed) : Type 0 where
+  pub kept : now ≡ kept_with before done
+  pub placed : AreKept now done numbers
+  pub gains : Gains before now
+
+pub next_kept : (before old now : Kept) (wanted : List Replacement) (placed : List Placed) (i : ℕ) (r : Replacement) (p : Placed)
+    → i < length wanted → r ≡ get_or wanted i r
+    → AreSofar before old (take i wanted) placed → now ≡ with_pattern (true, r.text) old → Gains old now → Numbers now p r
+    → AreSofar before now (take (i + 1) wanted) (placed ++ p ∷ [])
+next_kept before old now wanted placed i r p lt is sofar kept gains numbers =
+    let more : take (i + 1) wanted ≡ take i wanted ++ r ∷ [] = take_more wanted i r lt ∙ ap (λ x. take i wanted ++ x ∷ []) (sym is) in
+    subst (λ (done : List Replacement). AreSofar before now done (placed ++ p ∷ [])) (sym more)
+    (record {
+      kept = kept ∙ ap (with_pattern (true, r.text)) sofar.kept ∙ sym (kept_more before (take i wanted) r);
+      placed = placed_more old now (take i wanted) placed r p sofar.placed gains numbers;
+      gains = gains_all before old now sofar.gains gains;
+    })
+
+pub first_refused : (before old now : Kept) (wanted : List Replacement) (placed : List Placed) (i : ℕ) (r : Replacement) (refusal : QueryRefusal)
+    → i < length wanted → r ≡ get_or wanted i r
+    → AreSofar before old (take i wanted) placed → now ≡ old → HasCause old r refusal → IsFirstRefused before wanted now refusal
+first_refused before old now wanted placed i r refusal lt is sofar same cause = record {
+  front = take i wanted;
+  string = r;
+  behind = drop (i + 1) wanted;
+  split = sym (take-append-drop i wanted) ∙ ap (λ rest. take i wanted ++ rest) (drop_more wanted i r lt ∙ ap (λ x. x ∷ drop (i + 1) wanted) (sym is));
+  kept = same ∙ sofar.kept;
+  cause = subst (λ (k : Kept). HasCause k r refusal) (sym same) cause;
+}
+
+pub first_fault : (before old now : Kept) (wanted : List Replacement) (placed : List Placed) (i : ℕ) (r : Replacement) (fault : TypeFault)
+    → i < length wanted → r ≡ get_or wanted i r
+    → AreSofar before old (take i wanted) placed → now ≡ old → MayFault (HasCause old r) fault → MayFault (IsFirstRefused before wanted now) fault
+first_fault before old now wanted placed i r (Refused refusal) lt is sofar same cause = first_refused before old now wanted placed i r refusal lt is sofar same cause
+first_fault before old now wanted placed i r Memory lt is sofar same cause = record {}

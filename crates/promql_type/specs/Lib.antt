@@ -1,0 +1,12 @@
+pub mod Answers
+pub mod Fits
+pub mod Judging
+pub mod Kinds
+pub mod Points
+pub mod Refusals
+pub mod Replacements
+pub mod Rules
+pub mod Settled
+pub mod Signatures
+pub mod Templates
+pub mod TypedTrees

@@ -1,0 +1,23 @@
+//! The types of queries: what an expression gives, and why a query that can be read is refused all the same.
+#![tactic(auto)]
+
+mod checking;
+mod judge;
+mod kind;
+mod laws;
+mod least;
+mod literal;
+mod points;
+mod replace;
+mod rules;
+mod settle;
+mod signature;
+mod template;
+mod typed_tree;
+
+pub use checking::check;
+pub use laws::{least_is_first, typed_trees_fit};
+pub use typed_tree::{TypeFault, Typed};
+
+#[cfg(test)]
+mod tests;
