@@ -1,8 +1,8 @@
 -- The labels of a grouped pair, name by name.
 use Rattle.std.proofs.Common.{◌≡◌, ◌∙◌, ℕ, Bool, true, false, cond, List, [], ◌∷◌, refl, sym, ap, subst, Some, None, Option}
-use Rattle.std.specs.Prelude.{◌||◌, filter, is_some, not, unwrap_or, if◌then◌else◌}
+use Rattle.std.specs.Prelude.{is_some, not, unwrap_or, if◌then◌else◌}
 use Rattle.std.specs.declared.cmp.Ordering.TheVariants.{Less, Equal, Greater}
-use Rattle.std.specs.Ordering.{is_eq, match_ordering}
+use Rattle.std.specs.Ordering.{match_ordering}
 use Rattle.std.specs.BTreeMap.{insert_entry, is_at}
 use Rattle.std.specs.List.{AllByRecursion}
 use Rattle.std.specs.List.Sorted.{IsStrictlySortedBy}
@@ -13,7 +13,7 @@ use Rattle.std.proofs.lemmas.Option.{same_Some}
 use Rattle.label_set.specs.Labels.{byte_cmp, is_named, keep, put_refusal, value_at, value_of, with_pair, without}
 use Rattle.step_table.specs.Groups.{Names}
 use Rattle.step_table.specs.Laws.{GroupListTakesOver}
-use Rattle.step_table.specs.Operators.{all_put, grouped_labels}
+use Rattle.step_table.specs.Operators.{all_put}
 use Rattle.step_table.proofs.LoneRows.{equal_from_is}
 
 same_name : (name n : List ℕ) → is_at (byte_cmp name) n ≡ true → name ≡ n

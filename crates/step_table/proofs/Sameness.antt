@@ -1,5 +1,5 @@
 -- Marks and notes are equal by `==` exactly where they are the same.
-use Rattle.std.proofs.Common.{◌≡◌, Bool, true, refl, ap, subst}
+use Rattle.std.proofs.Common.{◌≡◌, Bool, true, ap, subst}
 use Rattle.std.specs.Bool.{Decides}
 use Rattle.std.specs.Cmp.{IsTotalOrder}
 use Rattle.std.specs.Ordering.{eq_by_cmp, is_eq}

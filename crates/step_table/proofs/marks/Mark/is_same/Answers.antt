@@ -1,4 +1,4 @@
-use Rattle.std.proofs.Common.{◌≡◌, sym}
+use Rattle.std.proofs.Common.{sym}
 use Rattle.step_table.proofs.Sameness.{mark_decides, told}
 use Rattle.step_table.proofs.marks.Mark.is_same.Goals as goal
 

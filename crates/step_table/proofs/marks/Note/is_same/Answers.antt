@@ -1,4 +1,4 @@
-use Rattle.std.proofs.Common.{◌≡◌, sym}
+use Rattle.std.proofs.Common.{sym}
 use Rattle.step_table.proofs.Sameness.{note_decides, told}
 use Rattle.step_table.proofs.marks.Note.is_same.Goals as goal
 
