@@ -1,10 +1,8 @@
 -- The latest of some items in an order is one of them, and none is later.
 use Rattle.std.proofs.Common.{◌≡◌, Bool, true, false, cond, List, [], ◌∷◌, fold, refl, sym, ap, subst}
 use Rattle.std.specs.List.{All, Contains}
-use Rattle.std.specs.Ordering.{is_lt}
 use Rattle.std.proofs.lemmas.List.Elements.{All-head, All-tail, All-cons, All-nil, All-contains_itself}
 use Rattle.xfrac.specs.Laws.{IsNumber, EqualIsSame, LessIsTransitive, OrderIsReversed}
-use Rattle.xfrac.specs.Order.{total_order}
 use Rattle.xfrac.specs.declared.value.XFrac.{XFrac}
 use Rattle.window_fn.specs.Aggregates.{greatest, is_before, least}
 use Rattle.window_fn.specs.Laws.{GreatestIsGreatest, LeastIsLeast}
