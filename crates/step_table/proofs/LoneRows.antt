@@ -16,7 +16,7 @@ use Rattle.step_table.specs.WellFormed.{IsTable}
 use Rattle.step_table.specs.declared.step.Row.{Row}
 use Rattle.step_table.proofs.Gathers.{names_sorted}
 
-equal_from_is : (o : Ordering) → is_eq o ≡ true → o ≡ Equal
+pub equal_from_is : (o : Ordering) → is_eq o ≡ true → o ≡ Equal
 equal_from_is Less e = absurd (cc)
 equal_from_is Equal e = refl
 equal_from_is Greater e = absurd (cc)

@@ -1,5 +1,5 @@
 //! Laws of steps that users rely on. The functions do nothing: each stands for what its contract says.
-ghost use Rattle.step_table.specs.Laws.{AndUnlessPart, CombinedIsWellFormed, OrOfItself, PairedIsWellFormed, PlusIsExchanged, SettledIsWellFormed, TakenHasSets, UnionHasMarks, UnionHasNotes, UnionIsSet};
+ghost use Rattle.step_table.specs.Laws.{AndUnlessPart, CombinedIsWellFormed, GroupListTakesOver, OrOfItself, PairedIsWellFormed, PlusExchangesPairs, PlusExchangesRows, PlusIsExchanged, PlusKeepsSignature, SettledIsWellFormed, TakenHasSets, TakenIsTable, UnionHasMarks, UnionHasNotes, UnionIsSet};
 
 use xfrac::laws::sum_ignores_order;
 
@@ -14,6 +14,7 @@ pub fn unions_are_sets()
 pub fn steps_are_well_formed()
     ensures settled { SettledIsWellFormed }
     ensures taken { TakenHasSets }
+    ensures table { TakenIsTable }
     ensures paired { PairedIsWellFormed }
     ensures combined { CombinedIsWellFormed }
 {}
@@ -28,9 +29,18 @@ pub fn or_of_itself()
     ensures { OrOfItself }
 {}
 
-/// One to one, a pair under `+` gives the same with its sides exchanged.
+/// One to one, a sum of two vectors without marks is the same with its sides exchanged, and so is that of two rows with
+/// equal signatures; its labels are those that both keep.
 pub fn plus_is_exchanged()
-    ensures { PlusIsExchanged }
+    ensures labels { PlusKeepsSignature }
+    ensures pairs { PlusExchangesPairs }
+    ensures rows { PlusExchangesRows }
+    ensures steps { PlusIsExchanged }
 {
     sum_ignores_order();
 }
+
+/// The labels of a grouped pair are the one side's under the names of the group list, and else the many side's.
+pub fn group_list_is_taken_over()
+    ensures { GroupListTakesOver }
+{}

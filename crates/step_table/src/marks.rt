@@ -1,4 +1,4 @@
-ghost use Rattle.std.specs.Prelude.{◌≡◌, IfOk};
+ghost use Rattle.std.specs.Prelude.{◌≡◌, ◌↔◌, IfOk, IsTrue};
 
 use label_set::{Items, Labels, Text};
 use std::alloc::AllocError;
@@ -22,6 +22,13 @@ pub enum Mark {
 }
 
 impl Mark {
+    /// Whether the two are the same mark.
+    pub fn is_same(&self, other: &Mark) -> bool
+        ensures { IsTrue result ↔ (self.now ≡ other.now) }
+    {
+        self == other
+    }
+
     /// An equal value, on the allocators of this one. The only error is want of memory.
     pub fn copy(&self) -> Result<Mark, AllocError>
         ensures { IfOk result (λ m. m ≡ self.now) }
@@ -59,6 +66,13 @@ pub enum Note {
 }
 
 impl Note {
+    /// Whether the two are the same note.
+    pub fn is_same(&self, other: &Note) -> bool
+        ensures { IsTrue result ↔ (self.now ≡ other.now) }
+    {
+        self == other
+    }
+
     /// An equal value, on the allocators of this one. The only error is want of memory.
     pub fn copy(&self) -> Result<Note, AllocError>
         ensures { IfOk result (λ m. m ≡ self.now) }
@@ -88,6 +102,13 @@ pub struct Marks {
 }
 
 impl Marks {
+    /// Whether the two have the same marks and notes, listed alike. It takes no memory.
+    pub fn is_same(&self, other: &Marks) -> bool
+        ensures { IsTrue result ↔ (self.now ≡ other.now) }
+    {
+        are_same_marks(&self.fatal, &other.fatal) && are_same_notes(&self.notes, &other.notes)
+    }
+
     /// An equal value, on the allocators of this one. The only error is want of memory.
     pub fn copy(&self) -> Result<Marks, AllocError>
         ensures { IfOk result (λ m. m ≡ self.now) }
@@ -105,4 +126,16 @@ impl Clone for Marks {
     fn clone(&self) -> Result<Marks, AllocError> {
         self.copy()
     }
+}
+
+fn are_same_marks(a: &Items<Mark>, b: &Items<Mark>) -> bool
+    ensures { IsTrue result ↔ (a.now ≡ b.now) }
+{
+    a == b
+}
+
+fn are_same_notes(a: &Items<Note>, b: &Items<Note>) -> bool
+    ensures { IsTrue result ↔ (a.now ≡ b.now) }
+{
+    a == b
 }

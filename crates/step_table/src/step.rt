@@ -1,4 +1,4 @@
-ghost use Rattle.std.specs.Prelude.{◌≡◌, IfOk};
+ghost use Rattle.std.specs.Prelude.{◌≡◌, ◌↔◌, IfOk, IsTrue};
 
 use crate::marks::Marks;
 use label_set::{Items, Labels};
@@ -13,6 +13,13 @@ pub struct Row {
 }
 
 impl Row {
+    /// Whether the two have the same labels and the same value.
+    pub fn is_same(&self, other: &Row) -> bool
+        ensures { IsTrue result ↔ (self.now ≡ other.now) }
+    {
+        self.labels.is_same(&other.labels) && self.value == other.value
+    }
+
     /// An equal value, on the allocators of this one. The only error is want of memory.
     pub fn copy(&self) -> Result<Row, AllocError>
         ensures { IfOk result (λ r. r ≡ self.now) }
@@ -39,6 +46,13 @@ pub struct Table {
 }
 
 impl Table {
+    /// Whether the two have the same rows. It takes no memory.
+    pub fn is_same(&self, other: &Table) -> bool
+        ensures { IsTrue result ↔ (self.now ≡ other.now) }
+    {
+        are_same_rows(self.rows.as_slice(), other.rows.as_slice())
+    }
+
     /// An equal value, on the allocators of this one. The only error is want of memory.
     pub fn copy(&self) -> Result<Table, AllocError>
         ensures { IfOk result (λ t. t ≡ self.now) }
@@ -57,6 +71,21 @@ impl Clone for Table {
     }
 }
 
+fn are_same_rows(a: &[Row], b: &[Row]) -> bool
+    ensures same { IsTrue result → a.now ≡ b.now }
+    ensures complete { a.now ≡ b.now → IsTrue result }
+{
+    if a.len() != b.len() {
+        return false;
+    }
+    for i in 0..a.len() {
+        if !a[i].is_same(&b[i]) {
+            return false;
+        }
+    }
+    true
+}
+
 /// What an expression gives at one instant.
 #[derive(Debug, Drop, PartialEq, Eq)]
 pub struct Step {
@@ -65,6 +94,13 @@ pub struct Step {
 }
 
 impl Step {
+    /// Whether the two have the same rows, marks and notes. It takes no memory.
+    pub fn is_same(&self, other: &Step) -> bool
+        ensures { IsTrue result ↔ (self.now ≡ other.now) }
+    {
+        self.table.is_same(&other.table) && self.marks.is_same(&other.marks)
+    }
+
     /// An equal value, on the allocators of this one. The only error is want of memory.
     pub fn copy(&self) -> Result<Step, AllocError>
         ensures { IfOk result (λ s. s ≡ self.now) }

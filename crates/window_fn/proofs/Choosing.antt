@@ -23,7 +23,7 @@ use Rattle.window_fn.proofs.Permuting.{IsOrderless, fold-permutation}
 use Rattle.window_fn.proofs.Ranking.{before_is_strict, equal_is, less_is, ranked-one_way}
 
 -- the later of two items in an order
-abbrev picked : {A : Type 0} → (A → A → Bool) → A → A → A
+abbrev pub picked : {A : Type 0} → (A → A → Bool) → A → A → A
 picked lt m x = cond (lt m x) x m
 
 module _ {A : Type 0} (P : A → Type 0) (lt : A → A → Bool) (o : IsStrictOrder P lt) where
@@ -62,7 +62,7 @@ turned Less r e = ap is_gt e
 turned Equal r e = ap is_gt e
 turned Greater r e = ap is_gt e
 
-greater_picks : OrderIsReversed → (m x : XFrac) → greater m x ≡ picked is_before m x
+pub greater_picks : OrderIsReversed → (m x : XFrac) → greater m x ≡ picked is_before m x
 greater_picks reversed NaN NaN = refl
 greater_picks reversed NaN (Fin b) = refl
 greater_picks reversed NaN PosInf = refl
@@ -81,10 +81,10 @@ greater_picks reversed NegInf (Fin b) = refl
 greater_picks reversed NegInf PosInf = refl
 greater_picks reversed NegInf NegInf = refl
 
-abbrev is_after : XFrac → XFrac → Bool
+abbrev pub is_after : XFrac → XFrac → Bool
 is_after m x = is_lt (total_order x m)
 
-lesser_picks : (m x : XFrac) → lesser m x ≡ picked is_after m x
+pub lesser_picks : (m x : XFrac) → lesser m x ≡ picked is_after m x
 lesser_picks NaN NaN = refl
 lesser_picks NaN (Fin b) = refl
 lesser_picks NaN PosInf = refl
@@ -102,7 +102,7 @@ lesser_picks NegInf (Fin b) = refl
 lesser_picks NegInf PosInf = refl
 lesser_picks NegInf NegInf = refl
 
-after_is_strict : EqualIsSame → OrderIsReversed → LessIsTransitive → IsStrictOrder IsNumber is_after
+pub after_is_strict : EqualIsSame → OrderIsReversed → LessIsTransitive → IsStrictOrder IsNumber is_after
 after_is_strict equal reversed transitive = record {
   one_way = λ x y px py h. ranked-one_way false false (total_order y x) (total_order x y) (reversed y x) h;
   carries = λ x y z px py pz h k. ap is_lt (transitive z y x pz py px (less_is (total_order z y) k) (less_is (total_order y x) h));

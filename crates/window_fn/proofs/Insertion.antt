@@ -18,7 +18,7 @@ Rises lt [] = ⊤
 Rises lt (x ∷ []) = ⊤
 Rises lt (x ∷ y ∷ ys) = (lt y x ≡ false) × Rises lt (y ∷ ys)
 
-rises-tail : {A : Type 0} (lt : A → A → Bool) (x : A) (xs : List A) → Rises lt (x ∷ xs) → Rises lt xs
+pub rises-tail : {A : Type 0} (lt : A → A → Bool) (x : A) (xs : List A) → Rises lt (x ∷ xs) → Rises lt xs
 rises-tail lt x [] up = tt
 rises-tail lt x (y ∷ ys) up = up.1
 

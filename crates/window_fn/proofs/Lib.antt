@@ -1,5 +1,6 @@
 pub mod Adding
 pub mod Choosing
+pub mod Extremes
 pub mod Fitting
 pub mod Insertion
 pub mod Lost
@@ -7,5 +8,6 @@ pub mod Permuting
 pub mod Places
 pub mod Plain
 pub mod Ranking
+pub mod Rising
 pub mod Sorting
 pub mod Tenths

@@ -1,9 +1,11 @@
 -- What readers of alerts rely on. (Prometheus querying, "Functions" and "Aggregation operators".)
 use Rattle.std.specs.Prelude.{◌≡◌, Bool, true, false, List, [], ◌∷◌}
-use Rattle.std.specs.List.{All}
-use Rattle.std.specs.List.Sorted.{IsPermutation}
+use Rattle.std.specs.List.{All, Contains}
+use Rattle.std.specs.List.Sorted.{IsPermutation, IsSortedBy}
+use Rattle.std.specs.Ordering.{is_lt}
 use Rattle.xfrac.specs.Arithmetic.{arithmetic, whole_number}
 use Rattle.xfrac.specs.Laws.{IsNumber}
+use Rattle.xfrac.specs.Order.{total_order}
 use Rattle.xfrac.specs.Sequencing.{◌>>=◌}
 use Rattle.xfrac.specs.declared.value.ArithOp.TheVariants.{Sub}
 use Rattle.xfrac.specs.declared.value.XFrac.{XFrac}
@@ -11,7 +13,7 @@ use Rattle.func_table.specs.declared.table.Window.{Window}
 use Rattle.func_table.specs.declared.table.Window.TheVariants.{AvgOver, MinOver, MaxOver, SumOver, CountOver, StdvarOver, QuantileOver}
 use Rattle.ticks.specs.declared.moment.Ms.{Ms}
 use Rattle.window_fn.specs.declared.frame.WindowFrame.{WindowFrame}
-use Rattle.window_fn.specs.Aggregates.{average, count_of, greatest, least, quantile_of, total}
+use Rattle.window_fn.specs.Aggregates.{ascending, average, count_of, greatest, is_before, least, quantile_of, total}
 use Rattle.window_fn.specs.Increases.{carried, increase, layout_of}
 use Rattle.window_fn.specs.Points.{first_of, last_of}
 use Rattle.window_fn.specs.Steps.{changes, resets}
@@ -56,3 +58,27 @@ pub record AreAggregatedAlike (xs ys : List XFrac) : Type 0 where
 -- the order of the values doesn't matter
 abbrev pub OrderDoesntMatter : Type 0
 OrderDoesntMatter = (xs ys : List XFrac) → All IsNumber xs → IsPermutation xs ys → AreAggregatedAlike xs ys
+
+-- the greatest of some values: one of them that none comes after, in the order that has NaN before all others
+pub record IsGreatest (values : List XFrac) (most : XFrac) : Type 0 where
+  pub one : Contains values most
+  pub none_after : All (λ value. is_before most value ≡ false) values
+
+-- the least of some values: one of them that none is below, in the order that has NaN above all others
+pub record IsLeast (values : List XFrac) (least : XFrac) : Type 0 where
+  pub one : Contains values least
+  pub none_below : All (λ value. is_lt (total_order value least) ≡ false) values
+
+abbrev pub GreatestIsGreatest : Type 0
+GreatestIsGreatest = (value : XFrac) (values : List XFrac) → All IsNumber (value ∷ values) → IsGreatest (value ∷ values) (greatest (value ∷ values))
+
+abbrev pub LeastIsLeast : Type 0
+LeastIsLeast = (value : XFrac) (values : List XFrac) → All IsNumber (value ∷ values) → IsLeast (value ∷ values) (least (value ∷ values))
+
+-- what a quantile ranks are the values themselves, none before the one that it follows
+pub record AreRanked (values ranked : List XFrac) : Type 0 where
+  pub same : IsPermutation values ranked
+  pub rising : IsSortedBy is_before ranked
+
+abbrev pub AscendingIsRanked : Type 0
+AscendingIsRanked = (values : List XFrac) → All IsNumber values → AreRanked values (ascending values)

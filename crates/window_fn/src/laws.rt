@@ -1,5 +1,5 @@
 //! Laws of functions over windows that users rely on. The functions do nothing: each stands for what its contract says.
-ghost use Rattle.window_fn.specs.Laws.{IncreaseWithoutResets, OneValueStays, OrderDoesntMatter, TimesDontMatter};
+ghost use Rattle.window_fn.specs.Laws.{AscendingIsRanked, GreatestIsGreatest, IncreaseWithoutResets, LeastIsLeast, OneValueStays, OrderDoesntMatter, TimesDontMatter};
 
 use xfrac::laws::{order_is_total, sum_ignores_order};
 
@@ -25,4 +25,19 @@ pub fn order_doesnt_matter()
 {
     order_is_total();
     sum_ignores_order();
+}
+
+/// The greatest value is one of the values that none comes after, the least one that none is below.
+pub fn extremes_are_values()
+    ensures greatest { GreatestIsGreatest }
+    ensures least { LeastIsLeast }
+{
+    order_is_total();
+}
+
+/// A quantile ranks the values themselves, in rising order with NaN first.
+pub fn ranks_are_of_values()
+    ensures { AscendingIsRanked }
+{
+    order_is_total();
 }

@@ -1,0 +1,6 @@
+use Rattle.std.proofs.Common.{sym}
+use Rattle.step_table.proofs.Sameness.{note_decides, told}
+use Rattle.step_table.proofs.marks.Note.is_same.Goals as goal
+
+pub returns : goal.returns
+returns c = told _ _ _ (sym c.eq.ensures) (note_decides c.args.self.now c.args.other.now)
