@@ -1,12 +1,11 @@
 -- One turn of a loop over two lists of pairs, and its end.
-use Rattle.std.proofs.Common.{◌≡◌, ◌<◌, ◌≤◌, ◌+◌, ℕ, Bool, true, false, List, [], ◌∷◌, ◌++◌, Some, length, take, drop, slice_get, refl, sym, subst, ap, ◌∙◌, ◌&&◌, zero, suc, arith, length-drop, ◌⊎◌, inl, inr, cond, get_or, append_assoc, set}
+use Rattle.std.proofs.Common.{◌≡◌, ◌<◌, ◌≤◌, ◌+◌, ℕ, true, false, List, [], ◌∷◌, ◌++◌, Some, length, take, drop, slice_get, refl, sym, ap, ◌∙◌, ◌&&◌, suc, arith, length-drop, ◌⊎◌, inl, inr, cond}
 use Rattle.std.specs.Prelude.{bytes_eq}
-use Rattle.std.specs.List.{between, flat_map, fold}
+use Rattle.std.specs.List.{flat_map, fold}
 use Rattle.std.specs.Prelude.{remove, slice_range, slice_set}
 use Rattle.std.proofs.lemmas.List.Edits.{between_more, sets-eq}
 use Rattle.std.proofs.lemmas.Slice.{between_from_start, between_to_end}
 use Rattle.std.specs.Ordering.{MatchOrdering, is_lt, is_ne, nat_cmp, ord_min, ordering_then}
-use Rattle.std.specs.Cmp.Lexicographic.{slice_cmp}
 use Rattle.std.specs.declared.cmp.Ordering.{Ordering}
 use Rattle.std.specs.declared.cmp.Ordering.TheVariants.{Less, Equal, Greater}
 use Rattle.std.proofs.lemmas.Cmp.{ranked}

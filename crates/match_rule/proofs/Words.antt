@@ -1,6 +1,6 @@
 -- A word stands in a text, as std's search says.
-use Rattle.std.proofs.Common.{◌≡◌, ℕ, Bool, true, false, List, [], ◌∷◌, ◌++◌, ◌&&◌, ◌||◌, ◌==◌, refl, sym, ap, subst, ◌∙◌}
-use Rattle.std.specs.Prelude.{◌↔◌, ◌⊎◌, MatchBool, None}
+use Rattle.std.proofs.Common.{◌≡◌, ℕ, Bool, true, false, List, [], ◌∷◌, ◌++◌, ◌&&◌, ◌||◌, ◌==◌, refl, sym, ap, subst}
+use Rattle.std.specs.Prelude.{◌⊎◌, MatchBool, None}
 use Rattle.std.proofs.Common.{inl, inr}
 use Rattle.std.specs.Str.Iter.{HasSubslice}
 use Rattle.std.specs.Str.Pattern.{FindsText, HasMatch}

@@ -1,6 +1,6 @@
 -- The numbers of a selection stand for the series that pass, in the order of their labels.
-use Rattle.std.proofs.Common.{◌≡◌, Bool, true, false, ℕ, zero, suc, ◌+◌, ◌<◌, List, [], ◌∷◌, length, map, Option, None, Some, Contains, cond, filter, inl, inr, refl, sym, ap, subst, ◌∙◌, arith, get_or, true≢false}
-use Rattle.std.specs.Prelude.{◌↔◌, ◌⊎◌, slice_get, unwrap_or}
+use Rattle.std.proofs.Common.{◌≡◌, Bool, true, false, ℕ, zero, suc, ◌<◌, List, [], ◌∷◌, length, map, Option, None, Some, Contains, cond, filter, inl, inr, refl, sym, ap, subst, ◌∙◌, arith, get_or, true≢false}
+use Rattle.std.specs.Prelude.{◌⊎◌, slice_get, unwrap_or}
 use Rattle.std.specs.Option.{option_map}
 use Rattle.std.specs.BTreeMap.{insert_entry}
 use Rattle.std.specs.List.{AllByRecursion, IsDistinct, cons_option, filter_map}

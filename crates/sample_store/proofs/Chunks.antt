@@ -1,20 +1,21 @@
 -- A timeline in chunks is the list of their samples.
-use Rattle.std.proofs.Common.{◌≡◌, Bool, true, false, ℕ, zero, suc, ◌+◌, ◌<◌, ◌≤◌, List, [], ◌∷◌, ◌++◌, length, take, drop, insert, slice_set, Option, None, Some, slice_get, refl, sym, ap, subst, ◌∙◌, arith, cond, inl, inr, ◌-◌}
+use Rattle.std.proofs.Common.{◌≡◌, ℕ, zero, suc, ◌+◌, ◌<◌, ◌≤◌, List, [], ◌∷◌, ◌++◌, length, take, drop, insert, slice_set, Option, None, Some, slice_get, refl, sym, ap, subst, ◌∙◌, arith, cond, ◌-◌}
 use Rattle.std.specs.Prelude.{ℤ, ◌<ℤ◌, ◌≤ℤ◌, Result, Ok, Err, MatchOption, nat_le, if◌then◌else◌}
 use Rattle.std.specs.List.{AllByRecursion}
 use Rattle.std.specs.Option.{option_map}
 use Rattle.std.specs.List.Sorted.{IsStrictlySortedBy}
 use Rattle.std.specs.BTreeMap.{insert_entry, is_at}
-use Rattle.std.specs.Map.{keys_of, lookup}
-use Rattle.std.specs.Ordering.{int_cmp, match_ordering, is_eq}
+use Rattle.std.specs.Map.{keys_of}
+use Rattle.std.specs.Ordering.{match_ordering, is_eq}
 use Rattle.std.specs.Cmp.{int_ranked}
 use Rattle.std.specs.declared.cmp.Ordering.{Ordering}
 use Rattle.std.specs.declared.cmp.Ordering.TheVariants.{Less, Equal, Greater}
-use Rattle.std.proofs.lemmas.Int.{ints, by_lt_z}
+use Rattle.std.proofs.lemmas.Int.{ints}
 use Rattle.ticks.specs.declared.moment.Ms.{Ms}
 use Rattle.xfrac.specs.declared.value.Held.{Held}
 use Rattle.label_set.specs.Entries.{sorted_insert}
-use Rattle.sample_store.specs.Samples.{AreFilled, IsChunkOf, IsRising, Puts, Samples, flat, held_in, refusal_beside, refusal_in, time_cmp}
+use Rattle.sample_store.specs.Chunks.{AreFilled, IsChunkOf, flat}
+use Rattle.sample_store.specs.Samples.{IsRising, Puts, Samples, held_in, refusal_beside, refusal_in, time_cmp}
 use Rattle.sample_store.specs.declared.refusal.StoreRefusal.{StoreRefusal}
 use Rattle.sample_store.specs.declared.refusal.StoreRefusal.TheVariants.{Memory, TooManySamples}
 use Rattle.sample_store.proofs.Halves.{is-greater, is-less}
@@ -281,8 +282,8 @@ module _ (chunks : List Samples) (at : Ms) (rising : IsRising (flat chunks)) (fi
       let w = p.within in
       record { some = p.some; ordered = l; within = omega (arith, w, g); early = p.early; late = behind-chunk m c h (λ u e. subst (λ (z : Ms). at.0 <ℤ z.0) (one-some (sym i ∙ e)) f) }
 
-  pub parted-upper : (low high m : ℕ) (c : Samples) (t : Ms) → IsParted chunks at low high → low ≤ m → m < high → slice_get chunks m ≡ Some c → option_map (λ (s : Ms × Held). s.0) (slice_get c 0) ≡ Some t → t.0 ≤ℤ at.0 → IsParted chunks at (m + 1) high
-  parted-upper low high m c t p l g h i f =
+  pub parted-upper : (low high m : ℕ) (c : Samples) (t : Ms) → IsParted chunks at low high → m < high → slice_get chunks m ≡ Some c → option_map (λ (s : Ms × Held). s.0) (slice_get c 0) ≡ Some t → t.0 ≤ℤ at.0 → IsParted chunks at (m + 1) high
+  parted-upper low high m c t p g h i f =
       let e : m + 1 - 1 ≡ m = omega arith in
       record {
         some = omega arith;

@@ -2,9 +2,8 @@
 use Rattle.std.proofs.Common.{List, ◌≡◌, ℕ, zero, suc, ◌+◌, ◌*◌, ◌<◌, ◌≤◌, ◌-◌, ◌^◌, [], ◌∷◌, length, drop, Some, slice_get, inl, inr, eq-or-lt_of_le, refl, sym, ap, subst, arith, true, false}
 use Rattle.std.specs.Prelude.{ℤ, pos, ◌<ℤ◌, ◌≤ℤ◌, int_lt}
 use Rattle.std.specs.Ordering.{int_cmp}
-use Rattle.std.specs.Cmp.{IsTotalOrder, int_cmp_total, int_ranked}
-use Rattle.std.specs.declared.cmp.Ordering.TheVariants.{Less, Equal, Greater}
-use Rattle.std.proofs.lemmas.Cmp.{on_total}
+use Rattle.std.specs.Cmp.{int_ranked}
+use Rattle.std.specs.declared.cmp.Ordering.TheVariants.{Less, Greater}
 use Rattle.std.proofs.lemmas.Int.{ints, by_lt_z}
 use Rattle.std.proofs.Math.Nat.{mul-le-mul_right, pow-le-pow_right, pow-succ'}
 use Rattle.ticks.specs.declared.moment.Ms.{Ms}

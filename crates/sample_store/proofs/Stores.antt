@@ -1,5 +1,5 @@
 -- A store stays a store when it gains a series or a sample.
-use Rattle.std.proofs.Common.{◌≡◌, Bool, true, false, ℕ, zero, suc, ◌+◌, ◌<◌, List, [], ◌∷◌, length, Option, None, Some, get_or, unwrap_or, slice_get, slice_set, insert, refl, sym, ap, subst, ◌∙◌, arith, ◌++◌, cond, true≢false}
+use Rattle.std.proofs.Common.{◌≡◌, Bool, true, false, ℕ, zero, suc, ◌+◌, ◌<◌, List, [], ◌∷◌, length, Option, None, Some, unwrap_or, slice_get, slice_set, insert, refl, sym, ap, subst, ◌∙◌, arith, ◌++◌, cond, true≢false}
 use Rattle.std.proofs.lemmas.List.Kept.{IsStrictlySortedBy-filter}
 use Rattle.std.proofs.lemmas.Option.{slice_get_within}
 use Rattle.std.specs.Prelude.{◌&&◌, ◌≤◌, nat_le, is_none, filter, int_lt, if◌then◌else◌, Result, Ok, Err, IsOk, IsOkUnless, MatchOption, OnOk, OnErr}

@@ -1,5 +1,5 @@
 -- Laws of what a store holds: the order of times, when two samples are the same, and what one more sample changes.
-use Rattle.std.proofs.Common.{◌≡◌, Bool, List, [], ◌∷◌, Option, None, Some, unwrap_or, cond, refl, sym, ap, subst, ◌∙◌}
+use Rattle.std.proofs.Common.{◌≡◌, Bool, [], ◌∷◌, Option, Some, unwrap_or, cond, refl, sym, ap, ◌∙◌}
 use Rattle.std.specs.Prelude.{ℕ, ℤ, true, false}
 use Rattle.std.specs.Bool.{Decides}
 use Rattle.std.specs.BTreeMap.{insert_entry}

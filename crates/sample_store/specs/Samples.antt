@@ -1,6 +1,6 @@
 -- What a store holds: series in the order of their first samples, each with its samples in rising time (Prometheus, "Data
 -- model"). That an equal sample is taken twice and another one refused, and the limits, are this project's own.
-use Rattle.std.specs.Prelude.{Bool, true, false, ◌&&◌, ◌==◌, nat_le, is_none, ⊤, if◌then◌else◌, ◌≡◌, ◌<◌, ◌≤◌, ◌+◌, slice_get, slice_set, insert, ℕ, List, [], ◌∷◌, length, Option, None, Some, int_lt, unwrap_or, filter, Result, Ok, Err, MatchOption, map, Contains, ◌↔◌, ◌++◌, take, drop, ◌<ℤ◌}
+use Rattle.std.specs.Prelude.{Bool, true, false, ◌&&◌, ◌==◌, nat_le, is_none, if◌then◌else◌, ◌≡◌, ◌<◌, ◌≤◌, ◌+◌, slice_get, slice_set, insert, ℕ, List, [], ◌∷◌, length, Option, None, Some, int_lt, unwrap_or, filter, Result, Ok, Err, MatchOption, map, Contains, ◌↔◌}
 use Rattle.std.specs.BTreeMap.{insert_entry, is_at}
 use Rattle.std.specs.List.{AllByRecursion, IsDistinct}
 pub use Rattle.indexmap.specs.IndexMap.{insert_entry as put_entry}
@@ -190,45 +190,7 @@ pub record IsInOrder (pairs : List (Names × ℕ)) (places : List ℕ) : Type 0 
   pub numbers : places ≡ map (λ (p : Names × ℕ). p.1) sorted
   pub rising : IsDistinct labels_eq (keys_of pairs) → IsStrictlySortedBy labels_cmp (keys_of sorted)
 
--- the samples of chunks, one behind another
-abbrev pub flat : List Samples → Samples
-flat [] = []
-flat (c ∷ chunks) = c ++ flat chunks
-
--- no chunk is empty
-abbrev pub AreFilled : List Samples → Type 0
-AreFilled chunks = AllByRecursion (λ c. 0 < length c) chunks
-
--- a time that is not among the samples of earlier and later chunks goes into this one
-pub record IsChunkOf (chunks : List Samples) (at : Ms) (k : ℕ) : Type 0 where
-  pub within : k < length chunks
-  pub before : AllByRecursion (λ s. s.0.0 <ℤ at.0) (flat (take k chunks))
-  pub behind : AllByRecursion (λ s. at.0 <ℤ s.0.0) (flat (drop (k + 1) chunks))
-
 -- what a cursor stands between
 pub record Between : Type 0 where
   pub before : Samples
   pub rest : Samples
-
--- the samples of the chunk at a place, none where there is no chunk
-abbrev pub chunk_at : List Samples → ℕ → Samples
-chunk_at chunks k = unwrap_or (slice_get chunks k) []
-
-abbrev pub cursor_at : List Samples → ℕ → ℕ → Between
-cursor_at chunks k i = record { before = flat (take k chunks) ++ take i (chunk_at chunks k); rest = drop i (chunk_at chunks k) ++ flat (drop (k + 1) chunks) }
-
--- a cursor stands at a sample, or behind the last one
-pub record IsCursor (chunks : List Samples) (k i place : ℕ) : Type 0 where
-  pub filled : AreFilled chunks
-  pub few : length (flat chunks) ≤ 2000000
-  pub within : k ≤ length chunks
-  pub stands : k < length chunks → i < length (chunk_at chunks k)
-  pub ended : length chunks ≤ k → i ≡ 0
-  pub counted : place ≡ length (flat (take k chunks)) + i
-
--- where a sample with a number stands among chunks, or the end
-pub record IsPlace (chunks : List Samples) (place k i : ℕ) : Type 0 where
-  pub within : k ≤ length chunks
-  pub stands : k < length chunks → i < length (chunk_at chunks k)
-  pub ended : length chunks ≤ k → i ≡ 0
-  pub counted : place ≡ length (flat (take k chunks)) + i

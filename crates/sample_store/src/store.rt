@@ -241,6 +241,7 @@ impl Store {
     }
 }
 
+/// The labels of the series at a place, counted from 0.
 pub fn key_at(series: &IndexMap<Labels, Timeline>, i: usize) -> &Labels
     requires { i < length series.now.entries }
     ensures { option_map (λ (one : Names × Samples). one.0) (slice_get series.now.entries i) ≡ Some result.now }

@@ -1,4 +1,4 @@
-use Rattle.std.proofs.Common.{◌≡◌, ◌+◌, ℕ, List, length, ap, sym, ◌∙◌, drop, rules, arith}
+use Rattle.std.proofs.Common.{◌≡◌, ◌+◌, length, ap, sym, ◌∙◌, drop, rules, arith}
 use Rattle.std.specs.Ordering.{nat_cmp, ord_min, ordering_then}
 use Rattle.label_set.specs.Labels.{labels_cmp}
 use Rattle.label_set.proofs.PairSteps.{cmp_end, cmp_step, then_decided, then_tied}

@@ -1,4 +1,4 @@
-use Rattle.std.proofs.Common.{◌≡◌, drop, length}
+use Rattle.std.proofs.Common.{◌≡◌, drop}
 use Rattle.label_set.specs.LabelEquality.{labels_eq}
 use Rattle.label_set.proofs.pairs.Pairs.is_equal.Given as goal
 

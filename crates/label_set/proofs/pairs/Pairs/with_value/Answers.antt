@@ -1,4 +1,4 @@
-use Rattle.std.proofs.Common.{◌≡◌, ◌+◌, ◌++◌, ◌≤◌, ◌∷◌, [], ℕ, List, length, ap, sym, ◌∙◌, rules, arith}
+use Rattle.std.proofs.Common.{◌+◌, ◌++◌, ◌≤◌, ◌∷◌, [], ℕ, List, length, ap, sym, ◌∙◌, rules}
 use Rattle.std.specs.Prelude.{slice_range, slice_set}
 use Rattle.std.proofs.lemmas.Option.{same_Some}
 use Rattle.label_set.proofs.PairSteps.{changed_part}

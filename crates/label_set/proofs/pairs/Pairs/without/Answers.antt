@@ -1,4 +1,4 @@
-use Rattle.std.proofs.Common.{◌≡◌, ◌+◌, ◌++◌, ◌≤◌, [], length, ap, ◌∙◌, rules, arith}
+use Rattle.std.proofs.Common.{◌+◌, ◌++◌, ◌≤◌, length, ap, ◌∙◌, rules}
 use Rattle.std.specs.Prelude.{slice_range}
 use Rattle.label_set.proofs.PairSteps.{without_part}
 use Rattle.label_set.proofs.pairs.Pairs.without.Goals as goal
