@@ -1,0 +1,10 @@
+pub mod Labels
+pub mod Lexemes
+pub mod Operators
+pub mod Patterned
+pub mod Productions
+pub mod Reads
+pub mod Selectors
+pub mod Signs
+pub mod Spans
+pub mod Turns

@@ -1,0 +1,20 @@
+//! The parts of a query's grammar in which nothing nests: lexemes, labels, groupings, rules of selectors, durations,
+//! modifiers, operators and how their sides are matched.
+#![tactic(auto)]
+
+mod cut;
+mod labels;
+mod lexeme;
+mod operator;
+mod pattern;
+mod reads;
+mod selector;
+mod span;
+
+pub use labels::{grouping_at, grouping_begun, grouping_behind, labels_at};
+pub use lexeme::{Lexeme, LexemeKind, Sign, Word};
+pub use operator::{BinaryOp, Matching, matching_at, op_at};
+pub use pattern::lexemes_of;
+pub use reads::{Read, after, begins, is_sign, item_behind, refused, refused_at};
+pub use selector::{braces_at, named_rules};
+pub use span::{Brackets, brackets_at, offset_at, when_at};
