@@ -1,5 +1,4 @@
 pub mod Build
 pub mod Grammar
-pub mod Laws
 pub mod Parsing
 pub mod Reading
