@@ -1,0 +1,20 @@
+-- How the reader and the grammar are tied: what is read is in the grammar, what is in the grammar is read, unless its tree is
+-- too deep, and there is one tree at most.
+use Rattle.std.specs.Prelude.{◌≡◌, ◌≤◌, ◌<◌, ℕ, List, Ok, Err}
+use Rattle.promql_ast.specs.declared.refusal.QueryRefusal.TheVariants.{TooDeep}
+use Rattle.promql_ast.specs.declared.tree.Expr.{Expr}
+use Rattle.promql_parse.specs.Grammar.{IsQuery}
+use Rattle.promql_parse.specs.Reading.{reading}
+use Rattle.promql_parts.specs.declared.lexeme.Lexeme.{Lexeme}
+
+abbrev pub ReadIsInGrammar : Type 0
+ReadIsInGrammar = (end : ℕ) (ls : List Lexeme) (e : Expr) → reading end ls ≡ Ok e → (depth : ℕ) × (depth ≤ 128) × IsQuery ls e depth
+
+abbrev pub InGrammarIsRead : Type 0
+InGrammarIsRead = (end : ℕ) (ls : List Lexeme) (e : Expr) (depth : ℕ) → IsQuery ls e depth → depth ≤ 128 → reading end ls ≡ Ok e
+
+abbrev pub DeepIsRefused : Type 0
+DeepIsRefused = (end : ℕ) (ls : List Lexeme) (e : Expr) (depth : ℕ) → IsQuery ls e depth → 128 < depth → reading end ls ≡ Err (TooDeep 0)
+
+abbrev pub OneTree : Type 0
+OneTree = (ls : List Lexeme) (e f : Expr) (m n : ℕ) → IsQuery ls e m → IsQuery ls f n → m ≤ 128 → n ≤ 128 → e ≡ f

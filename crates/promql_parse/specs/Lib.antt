@@ -1,0 +1,5 @@
+pub mod Build
+pub mod Grammar
+pub mod Laws
+pub mod Parsing
+pub mod Reading

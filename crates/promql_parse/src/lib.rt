@@ -1,0 +1,14 @@
+//! The trees of queries, by the grammar of the Prometheus querying documentation.
+#![tactic(auto)]
+
+mod build;
+mod laws;
+mod number;
+mod query;
+mod reader;
+
+pub use laws::{each_query_is_read, what_is_read_is_a_query};
+pub use query::parse;
+
+#[cfg(test)]
+mod tests;

@@ -1,0 +1,20 @@
+use Rattle.std.proofs.Common.{◌∙◌, ap, []}
+use Rattle.match_rule.specs.Patterns.{passes_by}
+use Rattle.promql_parts.specs.Patterned.IsPattern.{kept, refused, too_many}
+use Rattle.promql_parts.proofs.pattern.pattern_of.Goals as goal
+
+pub returns-in_ok-passes_empty-in-Ok : goal.returns-in_ok-passes_empty-in-Ok
+returns-in_ok-passes_empty-in-Ok c =
+    rw (← c.as_str.ensures)
+    (kept _ c.in-Ok.id _ c.in-Ok.ensures.readable (c.matches.ensures.same ∙ c.in-Ok.ensures.ok) c.in-Ok.ensures.number
+    (c.in_ok-passes_empty-in-Ok.ensures.answer ∙ ap (λ o. passes_by o []) c.in-Ok.ensures.there))
+
+pub returns-in-Err-BadPattern : goal.returns-in-Err-BadPattern
+returns-in-Err-BadPattern c =
+    let why = rw c.in-Err-BadPattern.field-0-is at c.in-Err-BadPattern.ensures.refused in
+    rw (← c.as_str.ensures) (refused _ why.0 why.1 c.in-Err-BadPattern.ensures.err)
+
+pub returns-in-Err-TooManyPatterns : goal.returns-in-Err-TooManyPatterns
+returns-in-Err-TooManyPatterns c =
+    let why = rw c.in-Err-TooManyPatterns.field-0-is at c.in-Err-TooManyPatterns.ensures.refused in
+    rw (← c.as_str.ensures) (too_many _ why.0 why.1 why.2 c.in-Err-TooManyPatterns.ensures.err)

@@ -1,0 +1,12 @@
+pub mod Labels
+pub mod Laws
+pub mod Lexemes
+pub mod Operators
+pub mod Patterned
+pub mod Productions
+pub mod Reads
+pub mod Selectors
+pub mod Signs
+pub mod Spans
+pub mod Steps
+pub mod Turns
