@@ -4,7 +4,7 @@
 mod fault;
 mod fetch;
 mod item;
-mod law;
+mod laws;
 mod line;
 mod load;
 mod print;
@@ -18,7 +18,7 @@ mod token;
 mod tool;
 mod verdict;
 
-pub use law::{loads_put_their_samples, passes_exactly_where_rows_agree};
+pub use laws::{loads_put_their_samples, passes_exactly_where_rows_agree};
 pub use print::Status;
 pub use script::{Command, Row, Script, ScriptRefusal, SeriesItem, SeriesLine, What};
 pub use tool::run_tool;

@@ -79,7 +79,7 @@ fn read_items(alloc: Global, words: &[&[u8]]) -> Result<Said<Items<SeriesItem>>,
     if words.is_empty() {
         return Ok(Err(WordRefusal::NoForm));
     }
-    let mut items = Items::new(alloc);
+    let mut items = Items::with_capacity(alloc, words.len())?;
     match add_items(words, &mut items)? {
         Ok(()) => Ok(Ok(items)),
         Err(refusal) => Ok(Err(refusal)),
