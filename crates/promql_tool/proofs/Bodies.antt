@@ -1,6 +1,10 @@
 -- How the lines of a body, and the commands of a script, are read one after another.
-use Rattle.std.proofs.Common.{◌≡◌, ℕ, ◌+◌, ◌<◌, true, false, List, [], ◌∷◌, ◌++◌, map, drop, length, get_or, Result, Ok, Err, refl, sym, ap, ◌∙◌, append_assoc, Bor}
+use Rattle.std.proofs.Common.{◌≡◌, ℕ, ◌+◌, ◌<◌, true, false, List, [], ◌∷◌, ◌++◌, map, drop, length, get_or, Result, Ok, Err, refl, sym, ap, ◌∙◌, append_assoc, Bor, Bool, not, ◌||◌, if◌then◌else◌}
 use Rattle.std.proofs.lemmas.List.{drop_more, map-append}
+use Rattle.std.proofs.lemmas.List.Folds.{list_any-append}
+use Rattle.std.specs.Ordering.{is_eq}
+use Rattle.label_set.specs.Labels.{labels_cmp}
+use Rattle.promql_tool.specs.Views.{numbered}
 use Rattle.promql_tool.specs.Lines.{Numbered}
 use Rattle.promql_tool.specs.Outcomes.{in_front, joined, onto}
 use Rattle.promql_tool.specs.Grammar.{commands_in, commands_of, row_of, rows_after, stands_in}
@@ -52,3 +56,33 @@ module _ (rows : List Row) (line : Numbered) (lines : List Numbered) where
     rows_more fresh =
         rw (is, fresh) (in_front-onto rows row (rows_after (labels rows ++ row.labels ∷ []) lines)
         ∙ ap (λ seen. in_front (rows ++ row ∷ []) (rows_after seen lines)) (sym (map-append (λ (r : Row). r.labels) rows (row ∷ []))))
+
+-- the labels of rows
+abbrev pub labels_in : List Row → List (List (List ℕ × List ℕ))
+labels_in all = map (λ (row : Row). row.labels) all
+
+-- one row more
+pub read_more : (body : List Line) (i : ℕ) (d : Line) → i < length body → (old : List Row) (row : Row) → row_of (numbered (get_or body i d)) ≡ Ok row → stands_in (labels_in old) row.labels ≡ false
+    → in_front old (rows_after (labels_in old) (map numbered (drop i body))) ≡ in_front (old ++ row ∷ []) (rows_after (labels_in (old ++ row ∷ [])) (map numbered (drop (i + 1) body)))
+read_more body i d lt old row is fresh =
+    ap (λ lines. in_front old (rows_after (labels_in old) lines)) (map_drop numbered body i d lt) ∙ rows_more old (numbered (get_or body i d)) (map numbered (drop (i + 1) body)) row is fresh
+
+one_more : (b s : Bool) → (if b then true else s) ≡ (s || (b || false))
+one_more true true = refl
+one_more true false = refl
+one_more false true = refl
+one_more false false = refl
+
+pub not_there : (added there : Bool) → added ≡ not there → added ≡ true → there ≡ false
+not_there added true e f = absurd (let no : false ≡ true = sym e ∙ f in cc)
+not_there added false e f = refl
+
+-- the labels of one row more stand
+pub stands_more : (old : List Row) (row : Row) (now : List Row) → now ≡ old ++ row ∷ [] → (q : List (List ℕ × List ℕ)) (before after : Bool) → before ≡ stands_in (labels_in old) q
+    → after ≡ (if is_eq (labels_cmp row.labels q) then true else before) → after ≡ stands_in (labels_in now) q
+stands_more old row now e q before after s t =
+    t ∙ ap (λ (b : Bool). if is_eq (labels_cmp row.labels q) then true else b) s
+    ∙ one_more (is_eq (labels_cmp row.labels q)) (stands_in (labels_in old) q)
+    ∙ sym (list_any-append (λ other. is_eq (labels_cmp other q)) (labels_in old) (row.labels ∷ []))
+    ∙ ap (λ all. stands_in all q) (sym (map-append (λ (r : Row). r.labels) old (row ∷ [])))
+    ∙ ap (λ all. stands_in (labels_in all) q) (sym e)

@@ -1,4 +1,4 @@
-use Rattle.std.proofs.Common.{◌≡◌, ◌+◌, ◌++◌, ◌∷◌, ◌<◌, ◌∙◌, ℕ, Bool, List, Option, [], length, map, drop, get_or, ap, subst, sym, refl, append_assoc, rules}
+use Rattle.std.proofs.Common.{◌≡◌, ◌+◌, ◌++◌, ◌∷◌, ◌<◌, ◌∙◌, ℕ, Bool, List, Option, [], length, map, drop, get_or, ap, subst, sym, refl, append_assoc}
 use Rattle.std.proofs.lemmas.List.{at_drop_more}
 use Rattle.label_set.specs.declared.rules.Rule.{Rule}
 use Rattle.match_rule.specs.Patterns.{HaveTheirPatterns, pattern_named}
