@@ -67,31 +67,75 @@ fn names_of(alloc: Global, words: Option<&str>) -> Result<Items<Text>, Memory> {
     Ok(names)
 }
 
+fn printed(alloc: Global, pairs: Option<&str>) -> Result<Vec<u8>, LabelRefusal> {
+    let labels = labels_of(alloc, pairs)?;
+    let mut out = Vec::new(alloc);
+    labels.write(&mut out)?;
+    Ok(out)
+}
+
 #[test]
-fn labels_are_printed_and_chosen(rt: HostRuntime) -> Result<(), Fail> {
+fn labels_are_printed(rt: HostRuntime) -> Result<(), Fail> {
     for line in PRINTED.split('\n') {
         let mut parts = line.split('>');
-        let labels = labels_of(rt.alloc(), parts.next())?;
-        let mut out = Vec::new(rt.alloc());
-        labels.write(&mut out)?;
-        assert_eq!(rt;
-            out.as_slice(),
-            parts.next().unwrap_or("").as_bytes(),
-            "{line}"
-        );
+        let out = printed(rt.alloc(), parts.next())?;
+        let wanted = parts.next().unwrap_or("");
+        assert_eq!(rt; out.as_slice(), wanted.as_bytes(), "{line}");
     }
+    Ok(())
+}
+
+/// Which labels are chosen.
+#[derive(Clone, Copy)]
+enum Choice {
+    Kept,
+    Others,
+    OnThem,
+    IgnoringThem,
+}
+
+fn chosen(labels: &Labels, choice: Choice, names: &Items<Text>) -> Result<Labels, Memory> {
+    match choice {
+        Choice::Kept => labels.keep(names),
+        Choice::Others => labels.without(names),
+        Choice::OnThem => labels.signature(true, names),
+        Choice::IgnoringThem => labels.signature(false, names),
+    }
+}
+
+fn chooses(
+    alloc: Global,
+    pairs: Option<&str>,
+    choice: Choice,
+    names: Option<&str>,
+    wanted: Option<&str>,
+) -> Result<bool, LabelRefusal> {
+    let names = names_of(alloc, names)?;
+    let chosen = chosen(&labels_of(alloc, pairs)?, choice, &names)?;
+    Ok(chosen == labels_of(alloc, wanted)?)
+}
+
+fn is_copied(alloc: Global, pairs: Option<&str>) -> Result<bool, LabelRefusal> {
+    let labels = labels_of(alloc, pairs)?;
+    Ok(labels.copy()?.is_same(&labels))
+}
+
+#[test]
+fn labels_are_chosen(rt: HostRuntime) -> Result<(), Fail> {
+    let alloc = rt.alloc();
     for line in CHOSEN.split('\n') {
         let mut parts = line.split('>');
-        let labels = labels_of(rt.alloc(), parts.next())?;
-        let names = names_of(rt.alloc(), parts.next())?;
-        let kept = labels_of(rt.alloc(), parts.next())?;
-        assert!(rt; labels.keep(&names)?.is_same(&kept), "{line}");
-        assert!(rt; labels.signature(true, &names)? == kept, "{line}");
-        let others = labels_of(rt.alloc(), parts.next())?;
-        assert!(rt; labels.without(&names)? == others, "{line}");
-        let signature = labels_of(rt.alloc(), parts.next())?;
-        assert!(rt; labels.signature(false, &names)? == signature, "{line}");
-        assert!(rt; labels.copy()? == labels, "{line}");
+        let (pairs, names, kept) = (parts.next(), parts.next(), parts.next());
+        let (others, signature) = (parts.next(), parts.next());
+        let is_kept = chooses(alloc, pairs, Choice::Kept, names, kept)?;
+        let is_on = chooses(alloc, pairs, Choice::OnThem, names, kept)?;
+        let are_others = chooses(alloc, pairs, Choice::Others, names, others)?;
+        let is_ignoring = chooses(alloc, pairs, Choice::IgnoringThem, names, signature)?;
+        let is_copied = is_copied(alloc, pairs)?;
+        assert!(rt;
+            is_kept && is_on && are_others && is_ignoring && is_copied,
+            "{line}"
+        );
     }
     Ok(())
 }
@@ -120,110 +164,199 @@ fn answer_of(answer: Result<(), LabelRefusal>) -> &'static str {
     }
 }
 
-#[test]
-fn pairs_are_refused_in_order(rt: HostRuntime) -> Result<(), Fail> {
-    let mut labels = Labels::empty(rt.alloc());
+fn put(labels: &mut Labels, name: &str, value: &str) -> &'static str {
+    answer_of(labels.put(name, value))
+}
+
+fn set(labels: &mut Labels, name: &str, value: &str) -> &'static str {
+    answer_of(labels.set(name, value))
+}
+
+fn is_answered(labels: &mut Labels, alloc: Global, line: &str) -> Result<bool, Memory> {
+    let mut parts = line.split('>');
+    let is_put = parts.next() == Some("put");
+    let name = letters(alloc, parts.next().unwrap_or(""))?;
+    let value = letters(alloc, parts.next().unwrap_or(""))?;
+    let answer = if is_put {
+        put(labels, name.as_str(), value.as_str())
+    } else {
+        set(labels, name.as_str(), value.as_str())
+    };
+    Ok(parts.next() == Some(answer))
+}
+
+/// The first line with another answer than the one that it says, if there is one.
+fn first_wrong(labels: &mut Labels, alloc: Global) -> Result<Option<&'static str>, Memory> {
     for line in CALLS.split('\n') {
-        let mut parts = line.split('>');
-        let is_put = parts.next() == Some("put");
-        let name = letters(rt.alloc(), parts.next().unwrap_or(""))?;
-        let value = letters(rt.alloc(), parts.next().unwrap_or(""))?;
-        let answer = if is_put {
-            labels.put(name.as_str(), value.as_str())
-        } else {
-            labels.set(name.as_str(), value.as_str())
-        };
-        assert_eq!(rt; Some(answer_of(answer)), parts.next(), "{line}");
+        if !is_answered(labels, alloc, line)? {
+            return Ok(Some(line));
+        }
     }
-    assert_eq!(rt; labels.len(), 2);
-    assert_eq!(rt; labels.get("job"), "web");
-    assert_eq!(rt; labels.get("env"), "");
-    assert_eq!(rt;
-        labels.get(letters(rt.alloc(), "4096")?.as_str()).len(),
-        4096
-    );
-    Ok(())
+    Ok(None)
+}
+
+fn told(labels: &Labels, alloc: Global) -> Result<String, Memory> {
+    let long = letters(alloc, "4096")?;
+    let (count, job, env) = (labels.len(), labels.get("job"), labels.get("env"));
+    let length = labels.get(long.as_str()).len();
+    format!(in alloc; "{count} {job} {env} {length}")
 }
 
 #[test]
-fn there_are_64_pairs_in_order(rt: HostRuntime) -> Result<(), Fail> {
+fn pairs_are_refused_in_order(rt: HostRuntime) -> Result<(), Fail> {
     let mut labels = Labels::empty(rt.alloc());
+    let wrong = first_wrong(&mut labels, rt.alloc())?;
+    assert_eq!(rt; wrong, None);
+    let told = told(&labels, rt.alloc())?;
+    assert_eq!(rt; told.as_str(), "2 web  4096");
+    Ok(())
+}
+
+/// 64 labels, of two lines each.
+fn full(alloc: Global) -> Result<Labels, LabelRefusal> {
+    let mut labels = Labels::empty(alloc);
     for i in 0..64u32 {
-        labels.put(format!(in rt.alloc(); "l{i}")?.as_str(), "1\n2")?;
+        let name = format!(in alloc; "l{i}")?;
+        labels.put(name.as_str(), "1\n2")?;
     }
-    assert_eq!(rt; labels.put("a", "x"), Err(LabelRefusal::TooMany));
-    assert_eq!(rt; labels.set("a", "x"), Err(LabelRefusal::TooMany));
-    assert_eq!(rt; labels.set("a", ""), Ok(()));
-    assert_eq!(rt; labels.set("l9", "y"), Ok(()));
-    assert_eq!(rt; labels.set("l10", ""), Ok(()));
-    assert_eq!(rt; labels.put("a", "x"), Ok(()));
-    let mut names = String::new(rt.alloc());
+    Ok(labels)
+}
+
+/// The answers to further pairs, while there are 64 labels and then one less.
+fn answers(labels: &mut Labels, alloc: Global) -> Result<String, Memory> {
+    let refused = put(labels, "a", "x");
+    let also_refused = set(labels, "a", "x");
+    let nothing_set = set(labels, "a", "");
+    let replaced = set(labels, "l9", "y");
+    let removed = set(labels, "l10", "");
+    let put = put(labels, "a", "x");
+    format!(in alloc; "{refused} {also_refused} {nothing_set} {replaced} {removed} {put}")
+}
+
+fn names_in(labels: &Labels, alloc: Global) -> Result<String, Memory> {
+    let mut names = String::new(alloc);
     for place in 0..labels.len() {
         names.push_str(labels.pair(place).0)?;
         names.push(' ')?;
     }
+    Ok(names)
+}
+
+#[test]
+fn there_are_64_pairs_in_order(rt: HostRuntime) -> Result<(), Fail> {
+    let mut labels = full(rt.alloc())?;
+    let answers = answers(&mut labels, rt.alloc())?;
+    assert_eq!(rt; answers.as_str(), "TooMany TooMany taken taken taken taken");
+    let names = names_in(&labels, rt.alloc())?;
     assert!(rt; names.as_str().starts_with("a l0 l1 l11 l12 "));
     assert!(rt; names.as_str().ends_with(" l7 l8 l9 "));
     assert_eq!(rt; labels.get("l9"), "y");
+    Ok(())
+}
+
+fn are_ordered(
+    alloc: Global,
+    left: &str,
+    right: &str,
+    wanted: Ordering,
+) -> Result<bool, LabelRefusal> {
+    let left = labels_of(alloc, Some(left))?;
+    let right = labels_of(alloc, Some(right))?;
+    let order = left.cmp(&right);
+    Ok(order == wanted && left.is_same(&right) == order.is_eq())
+}
+
+#[test]
+fn labels_are_ordered(rt: HostRuntime) -> Result<(), Fail> {
     for (i, left) in RISING.split('\n').enumerate() {
-        let x = labels_of(rt.alloc(), Some(left))?;
         for (j, right) in RISING.split('\n').enumerate() {
-            let y = labels_of(rt.alloc(), Some(right))?;
-            assert_eq!(rt; x.cmp(&y), i.cmp(&j), "{left} {right}");
-            assert_eq!(rt; x.is_same(&y), x.cmp(&y) == Ordering::Equal);
+            let is_ordered = are_ordered(rt.alloc(), left, right, i.cmp(&j))?;
+            assert!(rt; is_ordered, "{left} {right}");
         }
     }
     Ok(())
 }
 
-fn second_rule(alloc: Global) -> Result<Rule, Memory> {
-    Ok(Rule {
-        label: Text::of(alloc, "job")?,
-        kind: RuleKind::Ne(Text::of(alloc, "")?),
-    })
+fn rule(alloc: Global, kind: RuleKind) -> Result<Rule, Memory> {
+    let label = Text::of(alloc, "job")?;
+    Ok(Rule { label, kind })
+}
+
+fn rule_is_copied(alloc: Global) -> Result<bool, Memory> {
+    let rule = rule(alloc, RuleKind::Re(PatternId(0)))?;
+    Ok(rule.copy()?.is_same(&rule) && !rule.kind.is_same(&RuleKind::Nre(PatternId(0))))
+}
+
+fn grouping_is_copied(alloc: Global) -> Result<bool, Memory> {
+    let names = names_of(alloc, Some("env;zone"))?;
+    let without = true;
+    let grouping = Grouping { without, names };
+    Ok(grouping.copy()?.is_same(&grouping))
+}
+
+fn pairing_is_copied(alloc: Global) -> Result<bool, Memory> {
+    let names = names_of(alloc, Some("env;zone"))?;
+    let extra = names_of(alloc, None)?;
+    let (on, card) = (true, Card::GroupLeft);
+    let pairing = Pairing {
+        on,
+        names,
+        card,
+        extra,
+    };
+    Ok(pairing.copy()?.is_same(&pairing))
 }
 
 #[test]
 fn rules_are_copied(rt: HostRuntime) -> Result<(), Fail> {
-    let rule = Rule {
-        label: Text::of(rt.alloc(), "job")?,
-        kind: RuleKind::Re(PatternId(0)),
-    };
-    assert!(rt; rule.copy()?.is_same(&rule));
-    assert!(rt; !rule.kind.is_same(&RuleKind::Nre(PatternId(0))));
-    let grouping = Grouping {
-        without: true,
-        names: names_of(rt.alloc(), Some("env;zone"))?,
-    };
-    assert!(rt; grouping.copy()?.is_same(&grouping));
-    let pairing = Pairing {
-        on: true,
-        names: grouping.names.copy()?,
-        card: Card::GroupLeft,
-        extra: names_of(rt.alloc(), None)?,
-    };
-    assert!(rt; pairing.copy()?.is_same(&pairing));
-    let change = Relabel::Join {
-        target: rule.label,
-        separator: Text::of(rt.alloc(), "-")?,
-        sources: pairing.extra,
-    };
-    assert!(rt; change.copy()? == change);
+    let rule = rule_is_copied(rt.alloc())?;
+    let grouping = grouping_is_copied(rt.alloc())?;
+    let pairing = pairing_is_copied(rt.alloc())?;
+    assert!(rt; rule && grouping && pairing);
     Ok(())
+}
+
+fn join(alloc: Global) -> Result<Relabel, Memory> {
+    let target = Text::of(alloc, "job")?;
+    let separator = Text::of(alloc, "-")?;
+    let sources = names_of(alloc, None)?;
+    Ok(Relabel::Join {
+        target,
+        separator,
+        sources,
+    })
+}
+
+fn replacement(alloc: Global) -> Result<Relabel, Memory> {
+    let target = Text::of(alloc, "a")?;
+    let template = Text::of(alloc, "$1")?;
+    let source = Text::of(alloc, "b")?;
+    let pattern = PatternId(2);
+    Ok(Relabel::Replace {
+        target,
+        template,
+        source,
+        pattern,
+    })
+}
+
+fn filter(alloc: Global) -> Result<Relabel, Memory> {
+    let mut rules = Items::new(alloc);
+    rules.push(rule(alloc, RuleKind::Ne(Text::of(alloc, "")?))?)?;
+    Ok(Relabel::Filter(rules))
+}
+
+fn relabel_is_copied(change: &Relabel) -> Result<bool, Memory> {
+    Ok(change.copy()? == *change)
 }
 
 #[test]
 fn relabels_are_copied(rt: HostRuntime) -> Result<(), Fail> {
-    let replacement = Relabel::Replace {
-        target: Text::of(rt.alloc(), "a")?,
-        template: Text::of(rt.alloc(), "$1")?,
-        source: Text::of(rt.alloc(), "b")?,
-        pattern: PatternId(2),
-    };
-    assert!(rt; replacement.copy()? == replacement);
-    let mut rules = Items::new(rt.alloc());
-    rules.push(second_rule(rt.alloc())?)?;
-    let filter = Relabel::Filter(rules);
-    assert!(rt; filter.copy()? == filter && filter != replacement);
+    let join = relabel_is_copied(&join(rt.alloc())?)?;
+    let replacement = replacement(rt.alloc())?;
+    let filter = filter(rt.alloc())?;
+    let replaced = relabel_is_copied(&replacement)?;
+    let filtered = relabel_is_copied(&filter)?;
+    assert!(rt; join && replaced && filtered && filter != replacement);
     Ok(())
 }
