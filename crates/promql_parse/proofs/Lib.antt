@@ -1,2 +1,10 @@
+pub mod ArgumentsFound
+pub mod Begins
+pub mod Cuts
+pub mod Found
 pub mod Levels
+pub mod Operands
+pub mod PhrasesRead
+pub mod Quiet
+pub mod Whole
 pub mod Wholes

@@ -16,7 +16,7 @@ use Rattle.promql_parse.specs.Build.{moment_of, node_of, selector_of, tree}
 use Rattle.promql_parse.specs.Reading.{seconds_of}
 use Rattle.promql_parts.specs.Labels.{no_grouping}
 use Rattle.promql_parts.specs.Operators.{op_of}
-use Rattle.promql_parts.specs.Productions.{BinModifier, Grouped, IsSign, IsWord, OffsetBehind, RangeBrackets, Selected, StepBrackets, TimeBehind}
+use Rattle.promql_parts.specs.Productions.{BinModifier, begins_labels, Grouped, IsSign, IsWord, OffsetBehind, RangeBrackets, Selected, StepBrackets, TimeBehind}
 use Rattle.promql_parts.specs.declared.lexeme.Lexeme.{Lexeme}
 use Rattle.promql_parts.specs.declared.lexeme.LexemeKind.TheVariants as kinds
 use Rattle.promql_parts.specs.declared.lexeme.Sign.TheVariants.{LeftParen, RightParen, Comma, Plus, Minus, Caret}
@@ -96,14 +96,15 @@ mutual
   pub data Phrase : ℕ → ℕ → List Lexeme → Expr → ℕ → Type 0 where
     operand : {b at d : ℕ} {term : Term} {offset : Option Ms} {fixed : Option Fixed} {xs : List Lexeme} → Operand b term offset fixed xs at d
         → Phrase b zero xs (term_tree at term (moment_of offset fixed)) d
-    power : {b at m n : ℕ} {term : Term} {offset : Option Ms} {fixed : Option Fixed} {us xs ys zs : List Lexeme} {r : Expr} {matching : Matching} (caret : Lexeme)
-        → Operand (suc b) term offset fixed xs at m → IsSign Caret caret → BinModifier (Arith Pow) ys matching → Phrase b zero zs r n → us ≡ xs ++ caret ∷ ys ++ zs
+    power : {b at m n : ℕ} {term : Term} {offset : Option Ms} {fixed : Option Fixed} {us xs ys zs : List Lexeme} {r : Expr} {matching : Matching} {bare : Bool} (caret : Lexeme)
+        → Operand (suc b) term offset fixed xs at m → IsSign Caret caret → BinModifier (Arith Pow) ys matching bare → Phrase b zero zs r n → begins_labels bare zs ≡ false
+        → us ≡ xs ++ caret ∷ (ys ++ zs)
         → Phrase (suc b) zero us (tree at (node_of (Arith Pow) matching (term_tree at term (moment_of offset fixed)) r)) (max m n + 1)
     minus : {b d : ℕ} {xs : List Lexeme} {e : Expr} (sign : Lexeme) → IsSign Minus sign → Phrase b zero xs e d → Phrase (suc b) zero (sign ∷ xs) (tree sign.at (Negate e)) (d + 1)
     plus : {b d : ℕ} {xs : List Lexeme} {e : Expr} (sign : Lexeme) → IsSign Plus sign → Phrase b zero xs e d → Phrase (suc b) zero (sign ∷ xs) (tree sign.at (Paren e)) (d + 1)
     tighter : {b level d : ℕ} {xs : List Lexeme} {e : Expr} → Phrase b level xs e d → Phrase b (suc level) xs e d
-    binary : {b level m n : ℕ} {us xs ys zs : List Lexeme} {op : BinaryOp} {l r : Expr} {matching : Matching} (sign : Lexeme) → Phrase b (suc level) xs l m
-        → op_of (suc level) sign.kind ≡ Some op → BinModifier op ys matching → Phrase b level zs r n → us ≡ xs ++ sign ∷ ys ++ zs
+    binary : {b level m n : ℕ} {us xs ys zs : List Lexeme} {op : BinaryOp} {l r : Expr} {matching : Matching} {bare : Bool} (sign : Lexeme) → Phrase b (suc level) xs l m
+        → op_of (suc level) sign.kind ≡ Some op → BinModifier op ys matching bare → Phrase b level zs r n → begins_labels bare zs ≡ false → us ≡ xs ++ sign ∷ (ys ++ zs)
         → Phrase b (suc level) us (tree l.at (node_of op matching l r)) (max m n + 1)
 
 -- the lexemes of a query, and its tree with the number of nodes on its longest path

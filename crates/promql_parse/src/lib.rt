@@ -2,10 +2,12 @@
 #![tactic(auto)]
 
 mod build;
+mod laws;
 mod number;
 mod query;
 mod reader;
 
+pub use laws::{each_query_is_read, what_is_read_is_a_query};
 pub use query::parse;
 
 #[cfg(test)]

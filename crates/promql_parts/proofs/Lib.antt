@@ -1,1 +1,9 @@
+pub mod LabelsFound
+pub mod Lists
+pub mod ListsRead
+pub mod MatchersFound
+pub mod ModifiersFound
+pub mod ModifiersRead
+pub mod PartsRead
 pub mod Patterning
+pub mod SpansFound

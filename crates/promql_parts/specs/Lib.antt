@@ -1,4 +1,5 @@
 pub mod Labels
+pub mod Laws
 pub mod Lexemes
 pub mod Operators
 pub mod Patterned
@@ -7,4 +8,5 @@ pub mod Reads
 pub mod Selectors
 pub mod Signs
 pub mod Spans
+pub mod Steps
 pub mod Turns

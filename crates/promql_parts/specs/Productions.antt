@@ -14,6 +14,7 @@ use Rattle.promql_ast.specs.declared.tree.Fixed.{Fixed}
 use Rattle.promql_ast.specs.declared.tree.Fixed.TheVariants as fixed
 use Rattle.promql_parts.specs.Labels.{grouping_of, is_among, label_of}
 use Rattle.promql_parts.specs.Operators.{group_word, is_comparison, is_set_operator, matching_word, no_pairing, pairing_of}
+use Rattle.promql_parts.specs.Reads.{begins}
 use Rattle.promql_parts.specs.Selectors.{is_empty_text, matcher_of, name_matcher, named_rules, names_twice, refuses_nothing}
 use Rattle.promql_parts.specs.Spans.{amount_kind, minute, ms}
 use Rattle.promql_parts.specs.declared.lexeme.Lexeme.{Lexeme}
@@ -158,18 +159,23 @@ pub data BoolModifier (op : BinaryOp) : List Lexeme → Bool → Type 0 where
   none : BoolModifier op [] false
   flag : (word : Lexeme) → IsWord Flag word → is_comparison op ≡ true → BoolModifier op (word ∷ []) true
 
--- `on_or_ignoring` and `group_modifiers` behind it; a group word behind no set operator, and none of its labels among those of `on`
-pub data GroupModifiers (op : BinaryOp) : List Lexeme → Pairing → Type 0 where
-  none : GroupModifiers op [] no_pairing
+-- `on_or_ignoring` and `group_modifiers` behind it; a group word behind no set operator, and none of its labels among those of
+-- `on`. `bare`: it ends in a group word without labels, so that a parenthesis behind it would begin them.
+pub data GroupModifiers (op : BinaryOp) : List Lexeme → Pairing → Bool → Type 0 where
+  none : GroupModifiers op [] no_pairing false
   listed : {xs : List Lexeme} {names : List (List ℕ)} (word : Lexeme) (on : Bool) → matching_word word.kind ≡ Some on → Labels [] xs names
-      → GroupModifiers op (word ∷ xs) (pairing_of on names OneToOne [])
+      → GroupModifiers op (word ∷ xs) (pairing_of on names OneToOne []) false
   grouped : {us xs : List Lexeme} {names : List (List ℕ)} (word group : Lexeme) (on : Bool) (card : Card) → matching_word word.kind ≡ Some on → Labels [] xs names
-      → group_word group.kind ≡ Some card → is_set_operator op ≡ false → us ≡ word ∷ xs ++ group ∷ [] → GroupModifiers op us (pairing_of on names card [])
+      → group_word group.kind ≡ Some card → is_set_operator op ≡ false → us ≡ word ∷ xs ++ group ∷ [] → GroupModifiers op us (pairing_of on names card []) true
   grouped_with : {us xs ys : List Lexeme} {names extra : List (List ℕ)} (word group : Lexeme) (on : Bool) (card : Card) → matching_word word.kind ≡ Some on → Labels [] xs names
       → group_word group.kind ≡ Some card → is_set_operator op ≡ false → Labels (if on then names else []) ys extra → us ≡ word ∷ xs ++ group ∷ ys
-      → GroupModifiers op us (pairing_of on names card extra)
+      → GroupModifiers op us (pairing_of on names card extra) false
+
+-- a parenthesis right behind a group word begins its labels, and no operand
+abbrev pub begins_labels : Bool → List Lexeme → Bool
+begins_labels bare ls = bare && begins LeftParen ls
 
 -- `bin_modifier`
-pub data BinModifier (op : BinaryOp) : List Lexeme → Matched → Type 0 where
-  modifier : {us xs ys : List Lexeme} {flag : Bool} {pairing : Pairing} → BoolModifier op xs flag → GroupModifiers op ys pairing → us ≡ xs ++ ys
-      → BinModifier op us (record { flag = flag; pairing = pairing })
+pub data BinModifier (op : BinaryOp) : List Lexeme → Matched → Bool → Type 0 where
+  modifier : {us xs ys : List Lexeme} {flag bare : Bool} {pairing : Pairing} → BoolModifier op xs flag → GroupModifiers op ys pairing bare → us ≡ xs ++ ys
+      → BinModifier op us (record { flag = flag; pairing = pairing }) bare

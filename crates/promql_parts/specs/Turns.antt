@@ -1,6 +1,7 @@
 -- A loop of turns, for proofs: the turns that are left lead to what all of them give.
 use Rattle.std.proofs.Common.{◌≡◌, ℕ, zero, suc, ◌-◌, ◌<◌, refl, ap, ◌∙◌, sym, Bool, true, false, cond, List, length, arith}
-use Rattle.std.specs.Prelude.{Ok}
+use Rattle.std.specs.Prelude.{Result, Ok, Err}
+use Rattle.promql_ast.specs.declared.refusal.QueryRefusal.{QueryRefusal}
 use Rattle.promql_parts.specs.declared.lexeme.Lexeme.{Lexeme}
 use Rattle.promql_parts.specs.Reads.{Read, Turn, ◌>>=◌, turns, all_turns, Fails}
 use Rattle.promql_lex.specs.declared.fault.LexFault.{LexFault}
@@ -39,3 +40,30 @@ module _ {A : Type 0} (turn : Turn A) where
     pub stops : (e : LexFault) → Fails e (turn a ts) → Fails e whole
     stops faults.Memory is = tt
     stops (faults.Refused r) is = sym stepped ∙ ap (λ q. q >>= λ next. cond next.0 (turns turn (going.room - 1) next.1 next.2) (Ok (next.1, next.2))) is
+
+-- turns that read a lexeme each, but the last: one turn, and then all of them again
+module _ {A : Type 0} (turn : Turn A) (shrinks : (a : A) (ls : List Lexeme) (b : A) (rest : List Lexeme) → turn a ls ≡ Ok (true, b, rest) → length rest < length ls) where
+  abbrev next_turns : ℕ → Result (Bool × A × List Lexeme) QueryRefusal → Read A
+  next_turns n r = r >>= λ next. cond next.0 (turns turn n next.1 next.2) (Ok (next.1, next.2))
+
+  abbrev Enough : ℕ → Type 0
+  Enough n = (m : ℕ) (a : A) (ls : List Lexeme) → length ls < n → length ls < m → turns turn n a ls ≡ turns turn m a ls
+
+  same_next : (n m : ℕ) → Enough n → (a : A) (ls : List Lexeme) → length ls < suc n → length ls < suc m → (r : Result (Bool × A × List Lexeme) QueryRefusal) → turn a ls ≡ r → next_turns n r ≡ next_turns m r
+  same_next n m more a ls lt less (Err e) is = refl
+  same_next n m more a ls lt less (Ok (true, b, rest)) is = let s = shrinks a ls b rest is in more m b rest (omega (arith, s, lt)) (omega (arith, s, less))
+  same_next n m more a ls lt less (Ok (false, b, rest)) is = refl
+
+  enough : (n : ℕ) → Enough n
+  unfolding turns
+  enough zero m a ls lt less = absurd (omega (arith, lt))
+  enough (suc n) zero a ls lt less = absurd (omega (arith, less))
+  enough (suc n) (suc m) a ls lt less = same_next n m (enough n) a ls lt less (turn a ls) refl
+
+  pub all_on : (a : A) (ls : List Lexeme) (b : A) (rest : List Lexeme) → turn a ls ≡ Ok (true, b, rest) → all_turns turn a ls ≡ all_turns turn b rest
+  unfolding turns
+  all_on a ls b rest is = let s = shrinks a ls b rest is in ap (next_turns (length ls)) is ∙ enough (length ls) (suc (length rest)) b rest s (omega arith)
+
+  pub all_end : (a : A) (ls : List Lexeme) (b : A) (rest : List Lexeme) → turn a ls ≡ Ok (false, b, rest) → all_turns turn a ls ≡ Ok (b, rest)
+  unfolding turns
+  all_end a ls b rest is = ap (next_turns (length ls)) is

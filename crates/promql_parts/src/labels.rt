@@ -1,10 +1,11 @@
 //! Labels, lists of them, and groupings.
-ghost use Rattle.promql_parts.specs.Labels.{grouping_at, grouping_begun, grouping_behind, grouping_word, has_colon, is_among, judged, label_at, label_of, labels_at, labels_turn};
+ghost use Rattle.promql_parts.specs.Labels.{grouping_at, grouping_begun, grouping_behind, grouping_word, has_colon, judged, label_at, label_of, labels_at, labels_turn};
 ghost use Rattle.promql_parts.specs.Reads.{Gives, all_turns};
 ghost use Rattle.std.specs.Prelude.{◌≡◌, ◌<◌, ◌≤◌, [], None, Some, length, IfOk, IsTrue, MatchOption, OnSome};
 
 use crate::lexeme::{Lexeme, LexemeKind, Sign, Word};
 use crate::reads::{Read, after, begins, item_behind, refused, refused_at};
+use crate::taken::Taken;
 use holders::{Items, Text};
 use label_set::Grouping;
 use promql_ast::QueryRefusal;
@@ -35,26 +36,20 @@ pub fn label_of(kind: &LexemeKind) -> Option<&Text>
     }
 }
 
-fn is_among(labels: &[Text], label: &Text) -> bool
-    ensures { result ≡ is_among labels.now label.now }
-{
-    labels.iter().any(|other| *other == *label)
-}
-
 /// A label that isn't empty and isn't among those that are taken, on its allocator.
-fn judged(taken: &[Text], at: u32, label: &Text) -> Result<Text, LexFault>
+fn judged(taken: &Taken, at: u32, label: &Text) -> Result<Text, LexFault>
     ensures { Gives (λ label. label) result (judged taken.now at label.now) }
 {
     if label.as_str().is_empty() {
         return Err(LexFault::Refused(QueryRefusal::BadLabelName(at)));
     }
-    if is_among(taken, label) {
+    if taken.has(label) {
         return Err(LexFault::Refused(QueryRefusal::LabelTwice(at)));
     }
     Ok(label.copy()?)
 }
 
-fn label_at<'a>(taken: &[Text], end: u32, lexemes: &'a [Lexeme]) -> Read<'a, Text>
+fn label_at<'a>(taken: &Taken, end: u32, lexemes: &'a [Lexeme]) -> Read<'a, Text>
     ensures is { Gives (λ read. (read.0, read.1.now)) result (label_at taken.now end lexemes.now) }
     ensures shorter { IfOk result (λ read. length read.1.now < length lexemes.now) }
 {
@@ -69,7 +64,7 @@ fn label_at<'a>(taken: &[Text], end: u32, lexemes: &'a [Lexeme]) -> Read<'a, Tex
 
 #[tactic(auto, unfolding(crate::specs::Labels::labels_turn))]
 fn labels_turn<'a>(
-    taken: &[Text],
+    taken: &Taken,
     end: u32,
     sofar: Items<Text>,
     lexemes: &'a [Lexeme],
@@ -90,7 +85,7 @@ fn labels_turn<'a>(
 /// The labels up to the closing parenthesis.
 fn listed_labels<'a>(
     alloc: Global,
-    taken: &[Text],
+    taken: &Taken,
     end: u32,
     lexemes: &'a [Lexeme],
 ) -> Read<'a, Items<Text>>
@@ -113,7 +108,7 @@ fn listed_labels<'a>(
 #[tactic(auto, unfolding(crate::specs::Labels::labels_at))]
 pub fn labels_at<'a>(
     alloc: Global,
-    taken: &[Text],
+    taken: &Taken,
     end: u32,
     lexemes: &'a [Lexeme],
 ) -> Read<'a, Items<Text>>
@@ -159,7 +154,7 @@ pub fn grouping_at<'a>(
     ensures is { Gives (λ read. (read.0, read.1.now)) result (grouping_at without end lexemes.now) }
     ensures shorter { IfOk result (λ read. length read.1.now < length lexemes.now) }
 {
-    let (names, rest) = labels_at(alloc, &[], end, lexemes.split_at(1).1)?;
+    let (names, rest) = labels_at(alloc, &Taken::none(alloc), end, lexemes.split_at(1).1)?;
     Ok((Grouping { without, names }, rest))
 }
 

@@ -6,6 +6,7 @@ ghost use Rattle.std.specs.Prelude.{◌≡◌, ◌<◌, ◌≤◌, length, IfOk,
 use crate::labels::labels_at;
 use crate::lexeme::{Lexeme, LexemeKind, Sign, Word};
 use crate::reads::{Read, begins, refused, refused_at};
+use crate::taken::Taken;
 use func_table::SetOp;
 use holders::{Items, Text};
 use label_set::{Card, Pairing};
@@ -161,7 +162,7 @@ fn group_begun(lexemes: &[Lexeme]) -> Option<Card>
 #[tactic(auto, unfolding(crate::specs::Operators::extra_at))]
 fn extra_at<'a>(
     alloc: Global,
-    taken: &[Text],
+    taken: &Taken,
     end: u32,
     lexemes: &'a [Lexeme],
 ) -> Read<'a, Items<Text>>
@@ -189,7 +190,7 @@ fn group_at<'a>(
     ensures shorter { IfOk result (λ read. length read.1.now ≤ length lexemes.now) }
 {
     let taken = if on { names.as_slice() } else { &[] };
-    let (extra, rest) = extra_at(alloc, taken, end, lexemes)?;
+    let (extra, rest) = extra_at(alloc, &Taken::of(alloc, taken)?, end, lexemes)?;
     Ok((
         Pairing {
             on,
@@ -245,7 +246,7 @@ fn listed_at<'a>(
     ensures is { Gives (λ read. (read.0, read.1.now)) result (listed_at op on end lexemes.now) }
     ensures shorter { IfOk result (λ read. length read.1.now ≤ length lexemes.now) }
 {
-    let (names, rest) = labels_at(alloc, &[], end, lexemes)?;
+    let (names, rest) = labels_at(alloc, &Taken::none(alloc), end, lexemes)?;
     group_behind(alloc, op, on, names, end, rest)
 }
 

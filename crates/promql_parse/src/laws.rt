@@ -1,0 +1,21 @@
+//! Laws of the reader and the grammar.
+ghost use Rattle.promql_parse.specs.Laws.{DeepIsRefused, InGrammarIsRead, OneTree, ReadIsInGrammar};
+
+use promql_parts::{each_part_is_read, what_is_read_is_a_part};
+
+/// A tree that is read is a query's by the grammar, with at most 128 nodes on its longest path.
+pub fn what_is_read_is_a_query()
+    ensures { ReadIsInGrammar }
+{
+    what_is_read_is_a_part();
+}
+
+/// Each query of the grammar is read, unless its tree has more than 128 nodes on its longest path; and it has one tree.
+pub fn each_query_is_read()
+    ensures read { InGrammarIsRead }
+    ensures deep { DeepIsRefused }
+    ensures one { OneTree }
+{
+    what_is_read_is_a_part();
+    each_part_is_read();
+}

@@ -1,0 +1,22 @@
+//! Laws of the readers of parts and their grammar.
+ghost use Rattle.promql_parts.specs.Laws.{BracedIsRead, BracesAreMatchers, BracketsAreRead, BracketsAreSpans, GroupedIsRead, GroupingsAreGrouped, MatchingsAreModifiers, ModifierIsRead, OffsetIsRead, OffsetsAreSigned, TimeIsRead, TimesStandBehind};
+
+/// Each part that is read is that part by its productions.
+pub fn what_is_read_is_a_part()
+    ensures groupings { GroupingsAreGrouped }
+    ensures braces { BracesAreMatchers }
+    ensures brackets { BracketsAreSpans }
+    ensures offsets { OffsetsAreSigned }
+    ensures times { TimesStandBehind }
+    ensures matchings { MatchingsAreModifiers }
+{}
+
+/// Each part is read, where nothing stands behind it that goes on with it.
+pub fn each_part_is_read()
+    ensures groupings { GroupedIsRead }
+    ensures braces { BracedIsRead }
+    ensures brackets { BracketsAreRead }
+    ensures offsets { OffsetIsRead }
+    ensures times { TimeIsRead }
+    ensures modifiers { ModifierIsRead }
+{}
