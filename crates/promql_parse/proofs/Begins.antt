@@ -27,8 +27,8 @@ pub record Begins (xs : List Lexeme) : Type 0 where
 begins_with : (l : Lexeme) (k : LexemeKind) (xs : List Lexeme) → l.kind ≡ k → is_modifier k ≡ false → is_sign RightParen k ≡ false → Begins (l ∷ xs)
 begins_with l k xs is plain no_close = record { first = l; behind = xs; split = refl; plain = ap is_modifier is ∙ plain; no_close = ap (is_sign RightParen) is ∙ no_close }
 
-begins_more : {us xs ys : List Lexeme} → Begins xs → us ≡ xs ++ ys → Begins us
-begins_more {us} {xs} {ys} b split = record { first = b.first; behind = b.behind ++ ys; split = split ∙ ap (λ z. z ++ ys) b.split; plain = b.plain; no_close = b.no_close }
+begins_more : {us xs : List Lexeme} (ys : List Lexeme) → Begins xs → us ≡ xs ++ ys → Begins us
+begins_more {us} {xs} ys b split = record { first = b.first; behind = b.behind ++ ys; split = split ∙ ap (λ z. z ++ ys) b.split; plain = b.plain; no_close = b.no_close }
 
 begins_so : {us : List Lexeme} (l : Lexeme) (k : LexemeKind) (xs : List Lexeme) → us ≡ l ∷ xs → l.kind ≡ k → is_modifier k ≡ false → is_sign RightParen k ≡ false → Begins us
 begins_so l k xs split is plain no_close = record { first = l; behind = xs; split = split; plain = ap is_modifier is ∙ plain; no_close = ap (is_sign RightParen) is ∙ no_close }
@@ -80,22 +80,22 @@ begins_selected (Selected.braces {xs = xs} {matchers = matchers} l is selector) 
 begins_operand : {b at d : ℕ} {term : Term} {offset : Option Ms} {fixed : Option Fixed} {xs : List Lexeme} → Operand b term offset fixed xs at d → Begins xs
 begins_operand (Operand.selector is) = begins_selected is
 begins_operand (Operand.primary is) = begins_primary is
-begins_operand (Operand.range p range split) = begins_more (begins_operand p) split
-begins_operand (Operand.subquery p steps split) = begins_more (begins_operand p) split
-begins_operand (Operand.offset p takes behind split) = begins_more (begins_operand p) split
-begins_operand (Operand.time p takes behind split) = begins_more (begins_operand p) split
+begins_operand (Operand.range p range split) = begins_more _ (begins_operand p) split
+begins_operand (Operand.subquery p steps split) = begins_more _ (begins_operand p) split
+begins_operand (Operand.offset p takes behind split) = begins_more _ (begins_operand p) split
+begins_operand (Operand.time p takes behind split) = begins_more _ (begins_operand p) split
 
 pub begins_phrase : {b level d : ℕ} {xs : List Lexeme} {e : Expr} → Phrase b level xs e d → Begins xs
 begins_phrase (Phrase.operand p) = begins_operand p
-begins_phrase (Phrase.power caret p is between q apart split) = begins_more (begins_operand p) split
+begins_phrase (Phrase.power caret p is between q apart split) = begins_more _ (begins_operand p) split
 begins_phrase (Phrase.minus {xs = xs} sign is p) = begins_with sign _ xs is refl refl
 begins_phrase (Phrase.plus {xs = xs} sign is p) = begins_with sign _ xs is refl refl
 begins_phrase (Phrase.tighter p) = begins_phrase p
-begins_phrase (Phrase.binary sign p is between q apart split) = begins_more (begins_phrase p) split
+begins_phrase (Phrase.binary sign p is between q apart split) = begins_more _ (begins_phrase p) split
 
 pub begins_arguments : {b d : ℕ} {xs : List Lexeme} {es : List Expr} → ArgumentList b xs es d → Begins xs
 begins_arguments (ArgumentList.one p) = begins_phrase p
-begins_arguments (ArgumentList.more comma list is p split) = begins_more (begins_arguments list) split
+begins_arguments (ArgumentList.more comma list is p split) = begins_more _ (begins_arguments list) split
 
 -- matchers begin with a brace
 pub record Opened (us : List Lexeme) : Type 0 where

@@ -26,7 +26,7 @@ use Rattle.promql_parts.specs.Productions.{BinModifier, begins_labels, Grouped, 
 use Rattle.promql_parts.specs.Reads.{Read, Turn, ◌>>=◌, after, all_turns, begins}
 use Rattle.promql_parts.specs.Selectors.{braces_at, named_rules}
 use Rattle.promql_parts.specs.Signs.{is_sign}
-use Rattle.promql_parts.specs.Spans.{brackets_at, offset_at, when_at}
+use Rattle.promql_parts.specs.Spans.{brackets_at, minute, offset_at, when_at}
 use Rattle.promql_parts.specs.Steps.{after_read, bind_ok, chosen, close_read, comma_read, item_found, no_some, same_ok, same_some, sign_is, true_false}
 use Rattle.promql_parts.specs.Turns.{all_end, all_on}
 use Rattle.promql_parts.specs.declared.lexeme.Lexeme.{Lexeme}
@@ -136,9 +136,9 @@ module _ (sound : Parts) (known : Known) (end b : ℕ) where
 
   steps_go : {us : List Lexeme} {length step : Ms} → StepBrackets us length step → (o : Made) (rest : List Lexeme) → behind o (us ++ rest) ≡ behind (bracketed o (brackets.Steps length step)) rest
   steps_go (StepBrackets.without_step begin l colon close length opening is is_colon closes) o rest =
-      bracket_goes o begin (l ∷ colon ∷ close ∷ []) _ rest opening (StepBrackets.without_step begin l colon close length opening is is_colon closes)
+      bracket_goes o begin (l ∷ colon ∷ close ∷ []) (brackets.Steps length minute) rest opening (StepBrackets.without_step begin l colon close length opening is is_colon closes)
   steps_go (StepBrackets.with_step begin l colon s close length step opening is is_colon is_step closes) o rest =
-      bracket_goes o begin (l ∷ colon ∷ s ∷ close ∷ []) _ rest opening (StepBrackets.with_step begin l colon s close length step opening is is_colon is_step closes)
+      bracket_goes o begin (l ∷ colon ∷ s ∷ close ∷ []) (brackets.Steps length step) rest opening (StepBrackets.with_step begin l colon s close length step opening is is_colon is_step closes)
 
   -- what stands behind an operand is apart from it
   range_apart : {us : List Lexeme} {length : Ms} → RangeBrackets us length → (rest : List Lexeme) → Apart (us ++ rest)
@@ -305,12 +305,12 @@ module _ (sound : Parts) (known : Known) (end : ℕ) where
       ⊎_elim (λ q. let less : length r.0.1 ≡ suc (length i.0.1) = ap length q.1.1 in omega (arith, sizes, less, last))
       (λ q. true_false (sym (ap (λ x. x.0) ends) ∙ q.0)) (item_found end RightParen r.0.1 i.0.0 i.0.1 i.1)
 
-  arg_read : (b : ℕ) (es : List Expr) (m : ℕ) (ls : List Lexeme) (e : Expr) (d : ℕ) (mid : List Lexeme) (another : Bool) (rest : List Lexeme) → reader b ls ≡ Ok (cut e d, mid)
-      → item_behind end RightParen mid ≡ Ok (another, rest) → arg_turn b (cut_arguments es m) ls ≡ Ok (another, cut_arguments (es ++ e ∷ []) (max m d), rest)
+  arg_read : (b : ℕ) (es : List Expr) (m : ℕ) (ls : List Lexeme) (e : Expr) (d : ℕ) (mid : List Lexeme) (again : Bool) (rest : List Lexeme) → reader b ls ≡ Ok (cut e d, mid)
+      → item_behind end RightParen mid ≡ Ok (again, rest) → arg_turn b (cut_arguments es m) ls ≡ Ok (again, cut_arguments (es ++ e ∷ []) (max m d), rest)
   unfolding arguments_turn
-  arg_read b es m ls e d mid another rest arg item =
+  arg_read b es m ls e d mid again rest arg item =
       ap (λ (q : Read Built). q >>= λ argument. item_behind end RightParen argument.1 >>= λ next. Ok (next.0, add (cut_arguments es m) argument.0, next.1)) arg
-      ∙ ap (λ (q : Read Bool). q >>= λ next. Ok (next.0, add (cut_arguments es m) (cut e d), next.1)) item ∙ ap (λ (z : Arguments). Ok (another, z, rest)) (cut_add es e m d)
+      ∙ ap (λ (q : Read Bool). q >>= λ next. Ok (next.0, add (cut_arguments es m) (cut e d), next.1)) item ∙ ap (λ (z : Arguments). Ok (again, z, rest)) (cut_add es e m d)
 
   record ArgumentsRead (b : ℕ) (xs : List Lexeme) (es : List Expr) (d : ℕ) : Type 0 where
     pub goes : (c : Lexeme) (us : List Lexeme) → IsSign Comma c → all_turns (arg_turn b) no_arguments (xs ++ c ∷ us) ≡ all_turns (arg_turn b) (cut_arguments es d) us

@@ -1,6 +1,7 @@
 mod texts;
 
 use crate::parse;
+use crate::tests::texts::{BUILT, TEXTS};
 use frac_text::write_number;
 use holders::Text;
 use label_set::{Card, Grouping, METRIC_NAME, Pairing, Rule, RuleKind};
@@ -10,7 +11,6 @@ use promql_lex::LexFault;
 use std::alloc::Global;
 use std::str;
 use std::test::Fail;
-use texts::{BUILT, TEXTS};
 
 fn push_number(out: &mut String, alloc: Global, value: &xfrac::XFrac) -> Result<(), Fail> {
     let mut number = Vec::new(alloc);
