@@ -1,6 +1,7 @@
 -- How the reader and the grammar are tied: what is read is in the grammar, what is in the grammar is read, unless its tree is
--- too deep, and there is one tree at most.
-use Rattle.std.specs.Prelude.{◌≡◌, ◌≤◌, ◌<◌, ℕ, List, Ok, Err}
+-- too deep, there is one tree at most, and a refusal that doesn't depend on where the text ends stands whatever follows.
+use Rattle.std.specs.Prelude.{◌≡◌, ◌≤◌, ◌<◌, ℕ, List, ◌++◌, Ok, Err}
+use Rattle.promql_ast.specs.declared.refusal.QueryRefusal.{QueryRefusal}
 use Rattle.promql_ast.specs.declared.refusal.QueryRefusal.TheVariants.{TooDeep}
 use Rattle.promql_ast.specs.declared.tree.Expr.{Expr}
 use Rattle.promql_parse.specs.Grammar.{IsQuery}
@@ -18,3 +19,7 @@ DeepIsRefused = (end : ℕ) (ls : List Lexeme) (e : Expr) (depth : ℕ) → IsQu
 
 abbrev pub OneTree : Type 0
 OneTree = (ls : List Lexeme) (e f : Expr) (m n : ℕ) → IsQuery ls e m → IsQuery ls f n → m ≤ 128 → n ≤ 128 → e ≡ f
+
+abbrev pub RefusalStands : Type 0
+RefusalStands =
+    (ls more : List Lexeme) (refusal : QueryRefusal) → ((end : ℕ) → reading end ls ≡ Err refusal) → (refusal ≡ TooDeep 0 → ⊥) → (end : ℕ) → reading end (ls ++ more) ≡ Err refusal
