@@ -1,5 +1,6 @@
 -- A refusal of a query stands whatever follows its lexeme.
 use Rattle.std.proofs.Common.{◌≡◌, ◌⊎◌, ◌<◌, ℕ, zero, suc, ◌+◌, refl, ap, ◌∙◌, sym, subst, ⊎_elim, inl, inr, Bool, true, false, cond, List, [], ◌∷◌, ◌++◌, drop, length, length-append, arith}
+use Rattle.std.proofs.lemmas.Bool.{cases_lt}
 use Rattle.std.specs.Prelude.{◌&&◌, ◌||◌, Option, Some, None, is_some, Result, Ok, Err}
 use Rattle.func_table.specs.declared.table.Aggregate.{Aggregate}
 use Rattle.promql_ast.specs.declared.refusal.QueryRefusal.{QueryRefusal}
@@ -7,7 +8,7 @@ use Rattle.promql_ast.specs.declared.refusal.QueryRefusal.TheVariants.{Expected,
 use Rattle.promql_ast.specs.declared.tree.Expr.{Expr}
 use Rattle.promql_ast.specs.declared.tree.Node.TheVariants.{Number}
 use Rattle.promql_parse.specs.Build.{add, aggregate, binary, bracketed, call, is_plain, leaf, may_fix, may_offset, negate, no_arguments, operand_built, other, paren, selected, with_offset, with_time}
-use Rattle.promql_parse.specs.Laws.{RefusalStands}
+use Rattle.promql_parse.specs.Laws.{IsFinal, NoQueryBeginsSo, RefusalStands}
 use Rattle.promql_parse.specs.Reading.{Levels, Opens, aggregate_at, aggregation_at, arguments_at, arguments_turn, begins_grouping, body_at, bracket_turn, braced_at, call_arguments, call_at, chain_from, chain_turn, duration_at, exponent_at, finished, function_at, grouped, grouped_before, grouped_behind, is_refused_aggregation, level_at, metric_at, minus_at, named_at, offset_turn, operand_at, paren_at, plus_at, postfix_kind, postfix_turn, power_at, power_behind, power_kind, primary_at, primary_kind, reading, refused_at_name, seconds_of, side_at, time_turn, unary_at, unary_kind, within, word_at}
 use Rattle.promql_parse.specs.declared.build.Arguments.{Arguments}
 use Rattle.promql_parse.specs.declared.build.Built.{Built}
@@ -21,7 +22,7 @@ use Rattle.promql_parts.specs.Signs.{is_sign}
 use Rattle.promql_parts.specs.Spans.{brackets_at, offset_at, when_at}
 use Rattle.promql_parts.specs.Standing.{Ended, after_stands, all_turns_ended, all_turns_stand, bind_ended, bind_stands, choice_stands, close_stands, ended_stands, here, item_ended, item_stands, left, map_ended, map_stands, pure_stands, turned}
 use Rattle.promql_parts.specs.Stands.{BracesStand, BracketsStand, GroupingBehindStands, GroupingStands, MatchingStands, OffsetStands, Stands, TimeStands, pair}
-use Rattle.promql_parts.specs.Steps.{true_false}
+use Rattle.promql_parts.specs.Steps.{no_ok}
 use Rattle.promql_parts.specs.declared.lexeme.Lexeme.{Lexeme}
 use Rattle.promql_parts.specs.declared.lexeme.LexemeKind.{LexemeKind}
 use Rattle.promql_parts.specs.declared.lexeme.LexemeKind.TheVariants as kinds
@@ -35,6 +36,7 @@ use Rattle.ticks.specs.declared.moment.Ms.{Ms}
 use Rattle.xfrac.specs.declared.value.ArithOp.TheVariants.{Pow}
 use Rattle.promql_parse.proofs.Found.{Parts}
 use Rattle.promql_parse.proofs.PhrasesRead.{Known, arg_shrinks, chain_shrinks, postfix_shrinks}
+use Rattle.promql_parse.proofs.Whole.{deep_is_refused, in_grammar_is_read}
 
 -- what is known of the refusals of parts
 pub record Standing : Type 0 where
@@ -330,46 +332,31 @@ module _ (sound : Parts) (known : Known) (standing : Standing) (end last : ℕ) 
   all_levels zero level ls = levels_stand zero (λ c is. absurd (omega (arith, is))) level ls
   all_levels (suc b) level ls = levels_stand (suc b) (λ c is. subst (λ k. (level : ℕ) → SameReaders (level_at end (within end k) level) (level_at last (within last k) level)) (ap suc_of is) (all_levels b)) level ls
 
-  -- ---- the whole text
-  same_err : (r s : QueryRefusal) → ◌≡◌ {A = Result Expr QueryRefusal} (Err r) (Err s) → r ≡ s
-  same_err r s is = ap err_or is
-    where
-      err_or : Result Expr QueryRefusal → QueryRefusal
-      err_or (Ok x) = r
-      err_or (Err e) = e
+-- ---- the whole text
+abbrev err_or : QueryRefusal → Result Expr QueryRefusal → QueryRefusal
+err_or r (Ok e) = r
+err_or r (Err s) = s
 
-  whole_stands : (r s : Read Built) (refusal : QueryRefusal) → Same r s → (r >>= finished end) ≡ Err refusal → (refusal ≡ TooDeep 0 → ⊥) → (refusal ≡ Expected end → ⊥) → (s >>= finished last) ≡ Err refusal
-  whole_stands r s refusal (Stands.goes built.Deep l ls) is shallow inner = is
-  whole_stands r s refusal (Stands.goes (built.Whole e d) l ls) is shallow inner = is
-  whole_stands r s refusal (Stands.all built.Deep q) is shallow inner = absurd (shallow (sym (same_err _ _ is)))
-  whole_stands r s refusal (Stands.all (built.Whole e d) q) is shallow inner = absurd (subst no_ok_here is tt)
-    where
-      no_ok_here : Result Expr QueryRefusal → Type 0
-      no_ok_here (Ok x) = Unit {0}
-      no_ok_here (Err e) = ⊥
-  whole_stands r s refusal (Stands.stops found) is shallow inner = is
-  whole_stands r s refusal (Stands.wants q) is shallow inner = absurd (inner (sym (same_err _ _ is)))
+same_err : (r s : QueryRefusal) → ◌≡◌ {A = Result Expr QueryRefusal} (Err r) (Err s) → r ≡ s
+same_err r s is = ap (err_or r) is
 
--- a place at which this refusal expects nothing
-abbrev another_end : QueryRefusal → ℕ
-another_end (Expected at) = suc at
-another_end _ = 0
+whole_stands : (end last : ℕ) (more : List Lexeme) (r s : Read Built) (refusal : QueryRefusal) → Stands (pair {X = Built}) end more r s → (r >>= finished end) ≡ Err refusal → IsFinal end refusal
+    → (s >>= finished last) ≡ Err refusal
+whole_stands end last more r s refusal (Stands.goes built.Deep l ls) is final = is
+whole_stands end last more r s refusal (Stands.goes (built.Whole e d) l ls) is final = is
+whole_stands end last more r s refusal (Stands.all built.Deep q) is final = absurd (final.1 (sym (same_err _ _ is)))
+whole_stands end last more r s refusal (Stands.all (built.Whole e d) q) is final = no_ok refusal e (sym is)
+whole_stands end last more r s refusal (Stands.stops found) is final = is
+whole_stands end last more r s refusal (Stands.wants q) is final = absurd (final.0 (sym (same_err _ _ is)))
 
-abbrev place_or : QueryRefusal → ℕ
-place_or (Expected at) = at
-place_or _ = 0
+module _ (sound : Parts) (known : Known) (standing : Standing) where
+  pub refusal_stands : RefusalStands
+  unfolding reading
+  refusal_stands end last ls more refusal refused final =
+      whole_stands end last more (level_at end (within end 128) 5 ls) (level_at last (within last 128) 5 (ls ++ more)) refusal (all_levels sound known standing end last more 128 5 ls) refused final
 
-abbrev is_expected : QueryRefusal → Bool
-is_expected (Expected at) = true
-is_expected _ = false
-
-apart : (refusal : QueryRefusal) → refusal ≡ Expected (another_end refusal) → ⊥
-apart (Expected at) is = omega (arith, ap place_or is)
-apart _ is = true_false (sym (ap is_expected is))
-
-pub refusal_stands : Parts → Known → Standing → RefusalStands
-unfolding reading
-refusal_stands sound known standing ls more refusal refused shallow end =
-    let before = another_end refusal in
-    whole_stands sound known standing before end more (level_at before (within before 128) 5 ls) (level_at end (within end 128) 5 (ls ++ more)) refusal (all_levels sound known standing before end more 128 5 ls)
-    (refused before) shallow (apart refusal)
+  pub no_query_begins_so : NoQueryBeginsSo
+  no_query_begins_so end ls more refusal refused final e depth is =
+      let stands = refusal_stands end end ls more refusal refused final in
+      ⊎_elim (λ deep. final.1 (same_err _ _ (sym stands ∙ deep_is_refused sound known end (ls ++ more) e depth is deep)))
+      (λ shallow. no_ok refusal e (sym stands ∙ in_grammar_is_read sound known end (ls ++ more) e depth is shallow)) (cases_lt 128 depth)

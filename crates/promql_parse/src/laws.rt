@@ -1,5 +1,5 @@
 //! Laws of the reader and the grammar.
-ghost use Rattle.promql_parse.specs.Laws.{DeepIsRefused, InGrammarIsRead, OneTree, ReadIsInGrammar, RefusalStands};
+ghost use Rattle.promql_parse.specs.Laws.{DeepIsRefused, InGrammarIsRead, NoQueryBeginsSo, OneTree, ReadIsInGrammar, RefusalStands};
 
 use promql_parts::{each_part_is_read, refusals_of_parts_stand, what_is_read_is_a_part};
 
@@ -20,9 +20,11 @@ pub fn each_query_is_read()
     each_part_is_read();
 }
 
-/// A refusal stands whatever follows its lexeme, unless more was expected at the text's end or the tree is too deep.
+/// A refusal stands whatever follows the lexemes that are refused, and no query begins so; unless more was expected where the
+/// text ends, or the tree of all of it is too deep.
 pub fn refusals_stand()
-    ensures { RefusalStands }
+    ensures stands { RefusalStands }
+    ensures out { NoQueryBeginsSo }
 {
     what_is_read_is_a_part();
     each_part_is_read();

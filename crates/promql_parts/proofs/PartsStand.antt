@@ -1,33 +1,30 @@
 -- A refusal of a part stands whatever follows its lexeme.
-use Rattle.std.proofs.Common.{◌≡◌, ◌⊎◌, ◌<◌, ℕ, suc, ◌+◌, refl, ap, ◌∙◌, sym, ⊎_elim, inl, inr, Bool, true, false, cond, List, [], ◌∷◌, ◌++◌, drop, length, length-append, arith}
-use Rattle.std.specs.Prelude.{◌&&◌, Option, Some, None, Result, Ok, Err}
+use Rattle.std.proofs.Common.{◌≡◌, ◌⊎◌, ℕ, refl, ap, inr, Bool, true, false, cond, List, [], ◌∷◌, ◌++◌}
+use Rattle.std.specs.Prelude.{◌&&◌, Option, Some, None, Ok, Err}
 use Rattle.frac_text.specs.Times.{time_limit}
 use Rattle.label_set.specs.declared.rules.Card.{Card}
 use Rattle.label_set.specs.declared.rules.Pairing.{Pairing}
-use Rattle.promql_ast.specs.declared.refusal.QueryRefusal.{QueryRefusal}
 use Rattle.promql_ast.specs.declared.refusal.QueryRefusal.TheVariants.{Expected}
 use Rattle.promql_ast.specs.declared.tree.Fixed.{Fixed}
 use Rattle.promql_ast.specs.declared.tree.Fixed.TheVariants as fixed
-use Rattle.promql_parts.specs.Labels.{grouping_at, grouping_begun, grouping_behind, grouping_of, grouping_word, item_behind, label_at, label_kind, label_of, labels_at, labels_turn, optional_grouping}
+use Rattle.promql_parts.specs.Labels.{grouping_at, grouping_behind, grouping_of, grouping_word, item_behind, label_at, label_kind, label_of, labels_at, labels_turn, optional_grouping}
 use Rattle.promql_parts.specs.Laws.{Sound}
-use Rattle.promql_parts.specs.Operators.{extra_at, flag_at, group_at, group_begun, group_kind, group_word, is_comparison, is_flag, is_set_operator, listed_at, matching_at, matching_begun, matching_word, pairing_at, pairing_kind, pairing_of}
+use Rattle.promql_parts.specs.Operators.{extra_at, flag_at, group_at, group_begun, group_kind, group_word, is_comparison, is_flag, is_set_operator, listed_at, matching_at, matching_word, pairing_at, pairing_kind, pairing_of}
 use Rattle.promql_parts.specs.Productions.{OneMatcher}
-use Rattle.promql_parts.specs.Reads.{Read, Turn, ◌>>=◌, after, all_turns, begins}
-use Rattle.promql_parts.specs.Selectors.{alone_at, braces_at, closed_at, compared_at, is_empty_text, labelled_at, match_op, match_op_at, matcher_at, matcher_kind, matcher_or, matchers_turn, rule_behind, rules_of, value_at}
+use Rattle.promql_parts.specs.Reads.{Read, ◌>>=◌, after, all_turns}
+use Rattle.promql_parts.specs.Selectors.{alone_at, braces_at, closed_at, is_empty_text, labelled_at, match_op, match_op_at, matcher_at, matcher_kind, matcher_or, matchers_turn, rule_behind, rules_of, value_at}
 use Rattle.promql_parts.specs.Signs.{is_sign}
-use Rattle.promql_parts.specs.Spans.{amount_at, amount_kind, brackets_at, called_at, instant_at, length_at, minute, ms, offset_at, positive, preprocessor, preprocessor_at, range_behind, signed_at, step_at, unsigned, when_at, when_kind}
+use Rattle.promql_parts.specs.Spans.{amount_at, amount_kind, brackets_at, called_at, instant_at, length_at, minute, ms, positive, preprocessor, range_behind, signed_at, step_at, when_at, when_kind}
 use Rattle.promql_parts.specs.Standing.{Ended, after_stands, all_turns_ended, all_turns_stand, bind_ended, bind_stands, choice_stands, close_stands, ended_stands, here, item_ended, item_stands, left, map_ended, map_stands, pure_stands, refuses, turned}
 use Rattle.promql_parts.specs.Stands.{BracesStand, BracketsStand, GroupingBehindStands, GroupingStands, MatchingStands, OffsetStands, Stands, TimeStands, pair}
 use Rattle.promql_parts.specs.declared.lexeme.Lexeme.{Lexeme}
 use Rattle.promql_parts.specs.declared.lexeme.LexemeKind.{LexemeKind}
 use Rattle.promql_parts.specs.declared.lexeme.LexemeKind.TheVariants as kinds
 use Rattle.promql_parts.specs.declared.lexeme.Sign.{Sign}
-use Rattle.promql_parts.specs.declared.lexeme.Sign.TheVariants.{LeftParen, RightParen, RightBrace, RightBracket, Comma, Colon, Plus, Minus}
+use Rattle.promql_parts.specs.declared.lexeme.Sign.TheVariants.{LeftParen, RightParen, RightBrace, RightBracket, Colon, Plus, Minus}
 use Rattle.promql_parts.specs.declared.operator.BinaryOp.{BinaryOp}
-use Rattle.promql_parts.specs.declared.operator.Matching.{Matching}
 use Rattle.promql_parts.specs.declared.selector.MatchOp.{MatchOp}
 use Rattle.promql_parts.specs.declared.selector.Matcher.{Matcher}
-use Rattle.promql_parts.specs.declared.span.Brackets.{Brackets}
 use Rattle.promql_parts.specs.declared.span.Brackets.TheVariants as brackets
 use Rattle.ticks.specs.declared.moment.Ms.{Ms}
 use Rattle.ticks.specs.Durations.{hundred_years}

@@ -1,9 +1,9 @@
 -- A turn of a list in brackets that another follows reads a lexeme at least.
-use Rattle.std.proofs.Common.{◌≡◌, ◌<◌, ℕ, suc, ◌+◌, ap, ◌∙◌, sym, ⊎_elim, Bool, true, false, List, [], ◌∷◌, ◌++◌, length, length-append, arith}
+use Rattle.std.proofs.Common.{◌≡◌, ◌<◌, ℕ, suc, ◌+◌, ap, ◌∙◌, sym, ⊎_elim, true, List, length, length-append, arith}
 use Rattle.std.specs.Prelude.{Ok}
 use Rattle.promql_parts.specs.Labels.{item_behind}
 use Rattle.promql_parts.specs.Laws.{Sound}
-use Rattle.promql_parts.specs.Reads.{Read, ◌>>=◌, begins}
+use Rattle.promql_parts.specs.Reads.{Read, begins}
 use Rattle.promql_parts.specs.Steps.{bind_ok, chosen, item_found, same_ok, true_false}
 use Rattle.promql_parts.specs.declared.lexeme.Lexeme.{Lexeme}
 use Rattle.promql_parts.specs.declared.lexeme.Sign.{Sign}

@@ -1,5 +1,5 @@
 -- Steps of refusals that stand, for proofs.
-use Rattle.std.proofs.Common.{◌≡◌, ◌⊎◌, ◌<◌, ℕ, zero, suc, ◌+◌, refl, ap, ◌∙◌, sym, subst, ⊎_elim, Bool, true, false, cond, List, [], ◌∷◌, ◌++◌, length, length-append, arith}
+use Rattle.std.proofs.Common.{◌≡◌, ◌⊎◌, ◌<◌, ℕ, zero, suc, refl, ap, sym, subst, ⊎_elim, Bool, true, false, cond, List, [], ◌∷◌, ◌++◌, length, length-append, arith}
 use Rattle.std.specs.Prelude.{Result, Ok, Err}
 use Rattle.promql_ast.specs.declared.refusal.QueryRefusal.{QueryRefusal}
 use Rattle.promql_ast.specs.declared.refusal.QueryRefusal.TheVariants.{Expected}
@@ -38,8 +38,8 @@ module _ {X B : Type 0} (Put : X → List Lexeme → B) (end : ℕ) (more : List
   refuses other (l ∷ ls) = Stands.stops _
 
   pub choice_stands : (b : Bool) (r s q t : Result B QueryRefusal) → Stands Put end more r s → Stands Put end more q t → Stands Put end more (cond b r q) (cond b s t)
-  choice_stands true r s q t yes no = yes
-  choice_stands false r s q t yes no = no
+  choice_stands true r s q t first second = first
+  choice_stands false r s q t first second = second
 
   pub pure_stands : {A : Type 0} (r : Result A QueryRefusal) (f g : A → Result B QueryRefusal) → ((a : A) → Stands Put end more (f a) (g a)) → Stands Put end more (r >>= f) (r >>= g)
   pure_stands (Ok a) f g steps = steps a
@@ -81,7 +81,7 @@ module _ (end other : ℕ) (more : List Lexeme) where
   item_ended close = Ended.wanted
 
   -- what is closed by a sign
-  pub close_stands : {X Y : Type 0} (s : Sign) (y : Y) (ls : List Lexeme) → Stands pair end more (after end s ls >>= λ rest. Ok (y, rest)) (after other s (ls ++ more) >>= λ rest. Ok (y, rest))
+  pub close_stands : {Y : Type 0} (s : Sign) (y : Y) (ls : List Lexeme) → Stands pair end more (after end s ls >>= λ rest. Ok (y, rest)) (after other s (ls ++ more) >>= λ rest. Ok (y, rest))
   close_stands s y ls = bind_stands left pair end more (λ rest. Ok (y, rest)) (λ rest. Ok (y, rest)) (λ x. Ended.there y) (λ x l ls. Stands.goes y l ls) (after_stands s ls)
 
 -- ---- turns

@@ -1,11 +1,8 @@
 -- A refusal stands whatever follows its lexeme: what a reader gives of some lexemes, beside what it gives where others follow
 -- them. Where lexemes are left, nothing behind the first of them was looked at.
 use Rattle.std.specs.Prelude.{ℕ, Bool, List, [], ◌∷◌, ◌++◌, Option, Result, Ok, Err}
-use Rattle.label_set.specs.declared.rules.Grouping.{Grouping}
-use Rattle.label_set.specs.declared.rules.Rule.{Rule}
 use Rattle.promql_ast.specs.declared.refusal.QueryRefusal.{QueryRefusal}
 use Rattle.promql_ast.specs.declared.refusal.QueryRefusal.TheVariants.{Expected}
-use Rattle.promql_ast.specs.declared.tree.Fixed.{Fixed}
 use Rattle.promql_parts.specs.Labels.{grouping_at, grouping_behind}
 use Rattle.promql_parts.specs.Operators.{matching_at}
 use Rattle.promql_parts.specs.Selectors.{braces_at}

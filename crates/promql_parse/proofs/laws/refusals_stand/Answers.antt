@@ -1,6 +1,6 @@
 use Rattle.promql_parse.proofs.Found.{Parts}
 use Rattle.promql_parse.proofs.PhrasesRead.{Known}
-use Rattle.promql_parse.proofs.Stand.{Standing, refusal_stands}
+use Rattle.promql_parse.proofs.Stand.{Standing, no_query_begins_so, refusal_stands}
 use Rattle.promql_parse.proofs.laws.refusals_stand.Goals as goal
 
 pub returns : goal.returns
@@ -29,4 +29,4 @@ returns c =
       offset = c.refusals_of_parts_stand.ensures.offset;
       time = c.refusals_of_parts_stand.ensures.time;
       matching = c.refusals_of_parts_stand.ensures.matching;
-    } in refusal_stands sound known standing
+    } in record { stands = refusal_stands sound known standing; out = no_query_begins_so sound known standing }
