@@ -6,5 +6,6 @@ pub mod Levels
 pub mod Operands
 pub mod PhrasesRead
 pub mod Quiet
+pub mod Stand
 pub mod Whole
 pub mod Wholes

@@ -89,7 +89,7 @@ module _ (sound : Parts) (known : Known) (end b : ℕ) where
       (λ p. true_false (sym (ap (λ x. x.0) (same_ok _ _ p.1)))) (chosen (may_fix o) _ _ _ got)
   postfix_less o l _ is ls next rest got = true_false (sym (ap (λ x. x.0) (same_ok _ _ got)))
 
-  postfix_shrinks : (o : Made) (ls : List Lexeme) (next : Made) (rest : List Lexeme) → postfix_turn end o ls ≡ Ok (true, next, rest) → length rest < length ls
+  pub postfix_shrinks : (o : Made) (ls : List Lexeme) (next : Made) (rest : List Lexeme) → postfix_turn end o ls ≡ Ok (true, next, rest) → length rest < length ls
   postfix_shrinks o [] next rest got = true_false (sym (ap (λ x. x.0) (same_ok _ _ got)))
   postfix_shrinks o (l ∷ ls) next rest got = postfix_less o l l.kind refl ls next rest got
 
@@ -256,7 +256,7 @@ module _ (sound : Parts) (known : Known) (end : ℕ) where
       let less = some_op level ls op is in
       omega (arith, sizes, others, ends, less)
 
-  chain_shrinks : (b level : ℕ) (a : Built) (ls : List Lexeme) (next : Built) (rest : List Lexeme) → chain b level a ls ≡ Ok (true, next, rest) → length rest < length ls
+  pub chain_shrinks : (b level : ℕ) (a : Built) (ls : List Lexeme) (next : Built) (rest : List Lexeme) → chain b level a ls ≡ Ok (true, next, rest) → length rest < length ls
   chain_shrinks b level a ls next rest got = chain_less b level a ls (op_at (suc level) ls) refl next rest got
 
   chain_ends : (b level : ℕ) (a : Built) (rest : List Lexeme) → op_at (suc level) rest ≡ None → all_turns (chain b level) a rest ≡ Ok (a, rest)
@@ -293,7 +293,7 @@ module _ (sound : Parts) (known : Known) (end : ℕ) where
   abbrev arg_turn : ℕ → Turn Arguments
   arg_turn b = arguments_turn end (reader b)
 
-  arg_shrinks : (b : ℕ) (a : Arguments) (ls : List Lexeme) (next : Arguments) (rest : List Lexeme) → arg_turn b a ls ≡ Ok (true, next, rest) → length rest < length ls
+  pub arg_shrinks : (b : ℕ) (a : Arguments) (ls : List Lexeme) (next : Arguments) (rest : List Lexeme) → arg_turn b a ls ≡ Ok (true, next, rest) → length rest < length ls
   unfolding arguments_turn
   arg_shrinks b a ls next rest got =
       let r = bind_ok (reader b ls) _ _ got in

@@ -1,7 +1,8 @@
 -- How the reader and the grammar are tied: what is read is in the grammar, what is in the grammar is read, unless its tree is
--- too deep, and there is one tree at most.
-use Rattle.std.specs.Prelude.{◌≡◌, ◌≤◌, ◌<◌, ℕ, List, Ok, Err}
-use Rattle.promql_ast.specs.declared.refusal.QueryRefusal.TheVariants.{TooDeep}
+-- too deep, there is one tree at most, and a refusal stands whatever follows the lexemes that are refused.
+use Rattle.std.specs.Prelude.{◌≡◌, ◌≤◌, ◌<◌, ℕ, List, ◌++◌, Ok, Err}
+use Rattle.promql_ast.specs.declared.refusal.QueryRefusal.{QueryRefusal}
+use Rattle.promql_ast.specs.declared.refusal.QueryRefusal.TheVariants.{Expected, TooDeep}
 use Rattle.promql_ast.specs.declared.tree.Expr.{Expr}
 use Rattle.promql_parse.specs.Grammar.{IsQuery}
 use Rattle.promql_parse.specs.Reading.{reading}
@@ -18,3 +19,15 @@ DeepIsRefused = (end : ℕ) (ls : List Lexeme) (e : Expr) (depth : ℕ) → IsQu
 
 abbrev pub OneTree : Type 0
 OneTree = (ls : List Lexeme) (e f : Expr) (m n : ℕ) → IsQuery ls e m → IsQuery ls f n → m ≤ 128 → n ≤ 128 → e ≡ f
+
+-- A refusal is final, unless more was expected where the text ends, or the tree of all of it is too deep, which is refused at 0.
+abbrev pub IsFinal : ℕ → QueryRefusal → Type 0
+IsFinal end refusal = (refusal ≡ Expected end → ⊥) × (refusal ≡ TooDeep 0 → ⊥)
+
+-- a final refusal of some lexemes is that of each text that begins with them
+abbrev pub RefusalStands : Type 0
+RefusalStands = (end last : ℕ) (ls more : List Lexeme) (refusal : QueryRefusal) → reading end ls ≡ Err refusal → IsFinal end refusal → reading last (ls ++ more) ≡ Err refusal
+
+-- no query begins with lexemes that are refused so
+abbrev pub NoQueryBeginsSo : Type 0
+NoQueryBeginsSo = (end : ℕ) (ls more : List Lexeme) (refusal : QueryRefusal) → reading end ls ≡ Err refusal → IsFinal end refusal → (e : Expr) (depth : ℕ) → IsQuery (ls ++ more) e depth → ⊥

@@ -1,7 +1,7 @@
 //! Laws of the reader and the grammar.
-ghost use Rattle.promql_parse.specs.Laws.{DeepIsRefused, InGrammarIsRead, OneTree, ReadIsInGrammar};
+ghost use Rattle.promql_parse.specs.Laws.{DeepIsRefused, InGrammarIsRead, NoQueryBeginsSo, OneTree, ReadIsInGrammar, RefusalStands};
 
-use promql_parts::{each_part_is_read, what_is_read_is_a_part};
+use promql_parts::{each_part_is_read, refusals_of_parts_stand, what_is_read_is_a_part};
 
 /// A tree that is read is a query's by the grammar, with at most 128 nodes on its longest path.
 pub fn what_is_read_is_a_query()
@@ -18,4 +18,15 @@ pub fn each_query_is_read()
 {
     what_is_read_is_a_part();
     each_part_is_read();
+}
+
+/// A refusal stands whatever follows the lexemes that are refused, and no query begins so; unless more was expected where the
+/// text ends, or the tree of all of it is too deep.
+pub fn refusals_stand()
+    ensures stands { RefusalStands }
+    ensures out { NoQueryBeginsSo }
+{
+    what_is_read_is_a_part();
+    each_part_is_read();
+    refusals_of_parts_stand();
 }

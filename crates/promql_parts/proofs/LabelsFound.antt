@@ -1,11 +1,9 @@
 -- Labels and groupings that are read are in the grammar.
-use Rattle.std.proofs.Common.{◌≡◌, ℕ, suc, refl, ap, ◌∙◌, sym, subst, ⊎_elim, Bool, true, false, List, [], ◌∷◌, ◌++◌, append_assoc, drop, length, arith}
+use Rattle.std.proofs.Common.{◌≡◌, ℕ, suc, refl, ap, ◌∙◌, sym, subst, ⊎_elim, Bool, false, List, [], ◌∷◌, ◌++◌, append_assoc, length, arith}
 use Rattle.std.specs.Prelude.{Option, Some, None, Ok}
-use Rattle.label_set.specs.declared.rules.Grouping.{Grouping}
-use Rattle.promql_parts.specs.Labels.{grouping_at, grouping_begun, grouping_of, grouping_word, is_among, judged, label_at, label_kind, label_of, labels_at, labels_turn}
-use Rattle.promql_parts.specs.Laws.{Found, GroupingsAreGrouped, Sound}
-use Rattle.promql_parts.specs.Productions.{Grouped, IsLabel, IsSign, IsWord, LabelList, Labels}
-use Rattle.promql_parts.specs.Reads.{◌>>=◌}
+use Rattle.promql_parts.specs.Labels.{grouping_at, grouping_of, grouping_word, is_among, judged, label_at, label_kind, label_of, labels_at, labels_turn}
+use Rattle.promql_parts.specs.Laws.{GroupingsAreGrouped, Sound}
+use Rattle.promql_parts.specs.Productions.{Grouped, IsLabel, IsSign, LabelList, Labels}
 use Rattle.promql_parts.specs.Selectors.{is_empty_text}
 use Rattle.promql_parts.specs.Steps.{after_found, bind_ok, chosen, no_ok, no_some, same_ok, same_some}
 use Rattle.promql_parts.specs.declared.lexeme.Lexeme.{Lexeme}

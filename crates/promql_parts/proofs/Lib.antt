@@ -5,5 +5,7 @@ pub mod MatchersFound
 pub mod ModifiersFound
 pub mod ModifiersRead
 pub mod PartsRead
+pub mod PartsStand
 pub mod Patterning
+pub mod Shrinks
 pub mod SpansFound

@@ -1,5 +1,5 @@
 -- Lists in brackets: what is such a list is read.
-use Rattle.std.proofs.Common.{◌≡◌, ◌<◌, ℕ, suc, ◌+◌, refl, ap, ◌∙◌, sym, ⊎_elim, Bool, true, false, cond, List, [], ◌∷◌, ◌++◌, append_assoc, length, length-append, arith}
+use Rattle.std.proofs.Common.{◌≡◌, ◌<◌, ℕ, suc, ◌+◌, ap, ◌∙◌, sym, ⊎_elim, Bool, true, false, List, [], ◌∷◌, ◌++◌, append_assoc, length, length-append, arith}
 use Rattle.std.proofs.lemmas.Bool.{cond-true, cond-false}
 use Rattle.std.specs.Prelude.{Result, Ok}
 use Rattle.promql_ast.specs.declared.refusal.QueryRefusal.{QueryRefusal}

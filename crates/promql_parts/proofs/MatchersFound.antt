@@ -1,14 +1,13 @@
 -- Matchers in braces that are read are in the grammar.
-use Rattle.std.proofs.Common.{◌≡◌, ◌⊎◌, ℕ, suc, refl, ap, ◌∙◌, sym, subst, ⊎_elim, Bool, true, false, List, [], ◌∷◌, ◌++◌, append_assoc, drop, length, arith}
-use Rattle.std.specs.Prelude.{◌&&◌, Option, Some, None, is_some, map, Result, Ok}
+use Rattle.std.proofs.Common.{◌≡◌, ℕ, suc, refl, ap, ◌∙◌, sym, subst, ⊎_elim, true, List, [], ◌∷◌, ◌++◌, append_assoc, drop, length, arith}
+use Rattle.std.specs.Prelude.{◌&&◌, Option, Some, None, is_some, Ok}
 use Rattle.std.specs.List.{list_all}
 use Rattle.label_set.specs.declared.rules.Rule.{Rule}
-use Rattle.label_set.specs.declared.rules.RuleKind.TheVariants.{Eq, Ne, Re as Matching, Nre}
 use Rattle.promql_parts.specs.Labels.{label_of}
-use Rattle.promql_parts.specs.Laws.{BracesAreMatchers, Found, IsBraced, Sound}
+use Rattle.promql_parts.specs.Laws.{BracesAreMatchers, Found, Sound}
 use Rattle.promql_parts.specs.Productions.{IsLabel, IsSelector, IsSign, MatcherList, Matchers, OneMatcher}
-use Rattle.promql_parts.specs.Reads.{◌>>=◌, begins}
-use Rattle.promql_parts.specs.Selectors.{alone_at, braces_at, closed_at, compared_at, is_empty_text, labelled_at, match_op, match_op_at, matcher_at, matcher_kind, matcher_or, matchers_turn, named_rules, names_twice, refuses_nothing, rule_behind, rules_of, value_at}
+use Rattle.promql_parts.specs.Reads.{begins}
+use Rattle.promql_parts.specs.Selectors.{alone_at, braces_at, closed_at, is_empty_text, labelled_at, match_op, match_op_at, matcher_at, matcher_kind, matcher_or, matchers_turn, names_twice, refuses_nothing, rule_behind, rules_of, value_at}
 use Rattle.promql_parts.specs.Steps.{begins_found, bind_ok, chosen, no_ok, no_some, same_ok, same_some}
 use Rattle.promql_parts.specs.declared.lexeme.Lexeme.{Lexeme}
 use Rattle.promql_parts.specs.declared.lexeme.LexemeKind.{LexemeKind}

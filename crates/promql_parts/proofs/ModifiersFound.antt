@@ -1,14 +1,13 @@
 -- What is read between an operator and its right side is in the grammar.
 use Rattle.std.proofs.Common.{◌≡◌, ℕ, refl, ap, ◌∙◌, sym, subst, ⊎_elim, Bool, true, false, cond, List, [], ◌∷◌, ◌++◌, append_assoc, drop}
-use Rattle.std.specs.Prelude.{◌&&◌, Option, Some, None, Ok, if◌then◌else◌}
+use Rattle.std.specs.Prelude.{Option, Some, None, Ok}
 use Rattle.label_set.specs.declared.rules.Card.{Card}
-use Rattle.label_set.specs.declared.rules.Card.TheVariants.{OneToOne}
 use Rattle.label_set.specs.declared.rules.Pairing.{Pairing}
 use Rattle.promql_parts.specs.Labels.{labels_at}
-use Rattle.promql_parts.specs.Laws.{Found, MatchingsAreModifiers, Modified, Sound}
-use Rattle.promql_parts.specs.Operators.{extra_at, flag_at, group_at, group_begun, group_kind, group_word, is_comparison, is_flag, is_set_operator, listed_at, matching_at, matching_begun, matching_word, pairing_at, pairing_kind, pairing_of}
-use Rattle.promql_parts.specs.Productions.{BinModifier, BoolModifier, begins_labels, GroupModifiers, IsWord, Labels}
-use Rattle.promql_parts.specs.Reads.{◌>>=◌, begins}
+use Rattle.promql_parts.specs.Laws.{Found, MatchingsAreModifiers, Sound}
+use Rattle.promql_parts.specs.Operators.{extra_at, flag_at, group_at, group_begun, group_kind, group_word, is_comparison, is_flag, is_set_operator, listed_at, matching_at, matching_begun, matching_word, pairing_kind, pairing_of}
+use Rattle.promql_parts.specs.Productions.{BinModifier, BoolModifier, begins_labels, GroupModifiers, Labels}
+use Rattle.promql_parts.specs.Reads.{begins}
 use Rattle.promql_parts.specs.Steps.{bind_ok, chosen, no_ok, no_some, same_ok, true_false}
 use Rattle.promql_parts.specs.declared.lexeme.Lexeme.{Lexeme}
 use Rattle.promql_parts.specs.declared.lexeme.LexemeKind.{LexemeKind}
@@ -16,7 +15,6 @@ use Rattle.promql_parts.specs.declared.lexeme.LexemeKind.TheVariants as kinds
 use Rattle.promql_parts.specs.declared.lexeme.Sign.TheVariants.{LeftParen}
 use Rattle.promql_parts.specs.declared.lexeme.Word.TheVariants.{Bool as Flag}
 use Rattle.promql_parts.specs.declared.operator.BinaryOp.{BinaryOp}
-use Rattle.promql_parts.specs.declared.operator.Matching.{Matching}
 use Rattle.promql_parts.proofs.LabelsFound.{labels_found}
 
 flag_word : (k : LexemeKind) → is_flag k ≡ true → (spelling : List ℕ) × (k ≡ kinds.Word Flag spelling)

@@ -1,12 +1,11 @@
 -- What stands between an operator and its right side is read.
 use Rattle.std.proofs.Common.{◌≡◌, ℕ, refl, ap, ◌∙◌, sym, Bool, true, false, cond, List, [], ◌∷◌, ◌++◌, append_assoc}
 use Rattle.std.proofs.lemmas.Bool.{cond-true, cond-false}
-use Rattle.std.specs.Prelude.{◌&&◌, Option, Some, None, Ok}
+use Rattle.std.specs.Prelude.{Some, None, Ok}
 use Rattle.label_set.specs.declared.rules.Card.{Card}
 use Rattle.label_set.specs.declared.rules.Pairing.{Pairing}
-use Rattle.promql_parts.specs.Labels.{labels_at}
 use Rattle.promql_parts.specs.Laws.{ModifierIsRead, is_modifier}
-use Rattle.promql_parts.specs.Operators.{extra_at, flag_at, group_at, group_begun, group_kind, group_word, is_comparison, is_flag, is_set_operator, listed_at, matching_at, matching_begun, matching_word, no_pairing, pairing_at, pairing_kind, pairing_of}
+use Rattle.promql_parts.specs.Operators.{extra_at, flag_at, group_at, group_begun, group_kind, group_word, is_comparison, is_flag, is_set_operator, listed_at, matching_at, matching_word, pairing_at, pairing_kind, pairing_of}
 use Rattle.promql_parts.specs.Productions.{BinModifier, BoolModifier, begins_labels, GroupModifiers, Labels}
 use Rattle.promql_parts.specs.Reads.{Read, ◌>>=◌, begins}
 use Rattle.promql_parts.specs.Signs.{is_sign}

@@ -1,27 +1,26 @@
 -- Parts of the grammar are read: labels and groupings, matchers, ranges, offsets and times.
-use Rattle.std.proofs.Common.{◌≡◌, ◌<◌, ℕ, zero, suc, refl, ap, ◌∙◌, sym, subst, ⊎_elim, Bool, true, false, cond, List, [], ◌∷◌, ◌++◌, append_assoc, drop, length, arith}
+use Rattle.std.proofs.Common.{◌≡◌, ◌<◌, ℕ, zero, suc, refl, ap, ◌∙◌, sym, Bool, true, false, cond, List, [], ◌∷◌, ◌++◌, append_assoc, drop, length, arith}
 use Rattle.std.proofs.lemmas.Bool.{cond-true, cond-false}
-use Rattle.std.specs.Prelude.{◌&&◌, Option, Some, None, is_some, map, Result, Ok, Err}
+use Rattle.std.specs.Prelude.{◌&&◌, Option, Some, None, is_some, Result, Ok}
 use Rattle.std.specs.List.{list_all}
 use Rattle.frac_text.specs.Times.{time_limit}
-use Rattle.label_set.specs.declared.rules.Grouping.{Grouping}
 use Rattle.label_set.specs.declared.rules.Rule.{Rule}
 use Rattle.promql_ast.specs.declared.refusal.QueryRefusal.{QueryRefusal}
 use Rattle.promql_ast.specs.declared.tree.Fixed.{Fixed}
 use Rattle.promql_ast.specs.declared.tree.Fixed.TheVariants as fixed
-use Rattle.promql_parts.specs.Labels.{grouping_at, grouping_begun, grouping_of, grouping_word, is_among, judged, label_at, label_kind, label_of, labels_at, labels_turn}
-use Rattle.promql_parts.specs.Laws.{BracedIsRead, BracketsAreRead, GroupedIsRead, IsBraced, IsBrackets, OffsetIsRead, TimeIsRead}
+use Rattle.promql_parts.specs.Labels.{grouping_at, grouping_of, grouping_word, is_among, judged, label_at, label_kind, label_of, labels_at, labels_turn}
+use Rattle.promql_parts.specs.Laws.{BracedIsRead, BracketsAreRead, GroupedIsRead, OffsetIsRead, TimeIsRead}
 use Rattle.promql_parts.specs.Productions.{Grouped, IsAmount, IsLabel, IsLength, IsSelector, IsSign, LabelList, Labels, MatcherList, Matchers, OneMatcher, RangeBrackets, Signed, StepBrackets, TimeBehind}
 use Rattle.promql_parts.specs.Reads.{Read, ◌>>=◌, after, all_turns, begins}
-use Rattle.promql_parts.specs.Selectors.{alone_at, braces_at, closed_at, compared_at, is_empty_text, labelled_at, match_op, match_op_at, matcher_at, matcher_kind, matcher_or, matchers_turn, name_matcher, named_rules, names_twice, refuses_nothing, rule_behind, rules_of, value_at}
+use Rattle.promql_parts.specs.Selectors.{alone_at, braces_at, closed_at, is_empty_text, labelled_at, match_op, match_op_at, matcher_at, matcher_kind, matcher_or, matchers_turn, name_matcher, names_twice, refuses_nothing, rule_behind, rules_of}
 use Rattle.promql_parts.specs.Signs.{is_sign}
-use Rattle.promql_parts.specs.Spans.{amount_at, amount_kind, brackets_at, called_at, instant_at, length_at, minute, ms, positive, preprocessor, preprocessor_at, range_behind, signed_at, step_at, unsigned, when_at, when_kind}
-use Rattle.promql_parts.specs.Steps.{after_read, no_ok, no_some, same_some, sign_is, true_false}
+use Rattle.promql_parts.specs.Spans.{amount_at, amount_kind, brackets_at, called_at, instant_at, length_at, minute, ms, positive, preprocessor, preprocessor_at, range_behind, signed_at, step_at, when_at, when_kind}
+use Rattle.promql_parts.specs.Steps.{after_read, no_ok, no_some, true_false}
 use Rattle.promql_parts.specs.declared.lexeme.Lexeme.{Lexeme}
 use Rattle.promql_parts.specs.declared.lexeme.LexemeKind.{LexemeKind}
 use Rattle.promql_parts.specs.declared.lexeme.LexemeKind.TheVariants as kinds
 use Rattle.promql_parts.specs.declared.lexeme.Sign.{Sign}
-use Rattle.promql_parts.specs.declared.lexeme.Sign.TheVariants.{LeftParen, RightParen, LeftBrace, RightBrace, RightBracket, Comma, Colon, Plus, Minus}
+use Rattle.promql_parts.specs.declared.lexeme.Sign.TheVariants.{LeftParen, RightParen, RightBrace, RightBracket, Comma, Colon, Plus, Minus}
 use Rattle.promql_parts.specs.declared.selector.MatchOp.{MatchOp}
 use Rattle.promql_parts.specs.declared.selector.MatchOp.TheVariants as ops
 use Rattle.promql_parts.specs.declared.selector.Matcher.{Matcher}

@@ -1,13 +1,12 @@
 -- Ranges, offsets and times that are read are in the grammar.
-use Rattle.std.proofs.Common.{◌≡◌, ◌⊎◌, ◌<◌, ℕ, zero, suc, refl, ap, ◌∙◌, sym, subst, ⊎_elim, inl, inr, Bool, true, false, cond, List, [], ◌∷◌, ◌++◌, drop, arith}
+use Rattle.std.proofs.Common.{◌≡◌, ◌<◌, ℕ, zero, suc, refl, ap, ◌∙◌, sym, subst, ⊎_elim, Bool, true, false, cond, List, [], ◌∷◌, ◌++◌, drop, arith}
 use Rattle.std.specs.Prelude.{◌&&◌, Option, Some, None, Ok}
 use Rattle.frac_text.specs.Times.{time_limit}
 use Rattle.promql_ast.specs.declared.tree.Fixed.{Fixed}
-use Rattle.promql_ast.specs.declared.tree.Fixed.TheVariants as fixed
 use Rattle.promql_parts.specs.Laws.{BracketsAreSpans, Found, IsBrackets, OffsetsAreSigned, Sound, TimesStandBehind}
-use Rattle.promql_parts.specs.Productions.{IsAmount, IsLength, IsSign, IsWord, RangeBrackets, Signed, StepBrackets, TimeBehind}
+use Rattle.promql_parts.specs.Productions.{IsAmount, IsLength, IsSign, RangeBrackets, Signed, StepBrackets, TimeBehind}
 use Rattle.promql_parts.specs.Reads.{Read, ◌>>=◌, begins}
-use Rattle.promql_parts.specs.Spans.{amount_at, amount_kind, brackets_at, called_at, instant_at, length_at, minute, ms, offset_at, positive, preprocessor, preprocessor_at, range_behind, signed_at, step_at, unsigned, when_at, when_kind}
+use Rattle.promql_parts.specs.Spans.{amount_at, amount_kind, brackets_at, called_at, instant_at, length_at, ms, positive, preprocessor, preprocessor_at, range_behind, signed_at, step_at, when_kind}
 use Rattle.promql_parts.specs.Steps.{after_found, begins_found, bind_ok, chosen, no_ok, no_some, same_ok, same_some, true_false}
 use Rattle.promql_parts.specs.declared.lexeme.Lexeme.{Lexeme}
 use Rattle.promql_parts.specs.declared.lexeme.LexemeKind.{LexemeKind}
@@ -15,7 +14,6 @@ use Rattle.promql_parts.specs.declared.lexeme.LexemeKind.TheVariants as kinds
 use Rattle.promql_parts.specs.declared.lexeme.Sign.TheVariants.{LeftParen, RightParen, LeftBracket, RightBracket, Colon, Plus, Minus, AtSign}
 use Rattle.promql_parts.specs.declared.lexeme.Word.TheVariants.{Start, End}
 use Rattle.promql_parts.specs.declared.span.Brackets.{Brackets}
-use Rattle.promql_parts.specs.declared.span.Brackets.TheVariants as brackets
 use Rattle.ticks.specs.declared.moment.Ms.{Ms}
 use Rattle.ticks.specs.Durations.{hundred_years}
 

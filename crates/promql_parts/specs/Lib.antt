@@ -8,5 +8,7 @@ pub mod Reads
 pub mod Selectors
 pub mod Signs
 pub mod Spans
+pub mod Standing
+pub mod Stands
 pub mod Steps
 pub mod Turns

@@ -1,5 +1,6 @@
 //! Laws of the readers of parts and their grammar.
 ghost use Rattle.promql_parts.specs.Laws.{BracedIsRead, BracesAreMatchers, BracketsAreRead, BracketsAreSpans, GroupedIsRead, GroupingsAreGrouped, MatchingsAreModifiers, ModifierIsRead, OffsetIsRead, OffsetsAreSigned, TimeIsRead, TimesStandBehind};
+ghost use Rattle.promql_parts.specs.Stands.{BracesStand, BracketsStand, GroupingBehindStands, GroupingStands, MatchingStands, OffsetStands, TimeStands};
 
 /// Each part that is read is that part by its productions.
 pub fn what_is_read_is_a_part()
@@ -19,4 +20,15 @@ pub fn each_part_is_read()
     ensures offsets { OffsetIsRead }
     ensures times { TimeIsRead }
     ensures modifiers { ModifierIsRead }
+{}
+
+/// A refusal of a part stands whatever follows its lexeme.
+pub fn refusals_of_parts_stand()
+    ensures grouping { GroupingStands }
+    ensures grouping_behind { GroupingBehindStands }
+    ensures braces { BracesStand }
+    ensures brackets { BracketsStand }
+    ensures offset { OffsetStands }
+    ensures time { TimeStands }
+    ensures matching { MatchingStands }
 {}
