@@ -1,16 +1,15 @@
 -- Arguments that are read are in the grammar.
-use Rattle.std.proofs.Common.{◌≡◌, ◌<◌, ℕ, zero, suc, ◌+◌, max, refl, ap, ◌∙◌, sym, subst, ⊎_elim, Bool, true, false, cond, List, [], ◌∷◌, ◌++◌, append_assoc, length, length-append, arith}
-use Rattle.std.specs.Prelude.{Result, Ok, if◌then◌else◌}
-use Rattle.promql_ast.specs.declared.refusal.QueryRefusal.{QueryRefusal}
+use Rattle.std.proofs.Common.{◌≡◌, ◌<◌, ℕ, zero, suc, ◌+◌, max, refl, ap, ◌∙◌, sym, subst, ⊎_elim, Bool, cond, List, [], ◌∷◌, ◌++◌, append_assoc, length, length-append, arith}
+use Rattle.std.specs.Prelude.{Ok}
 use Rattle.promql_ast.specs.declared.tree.Expr.{Expr}
-use Rattle.promql_parse.specs.Build.{add, no_arguments}
+use Rattle.promql_parse.specs.Build.{add}
 use Rattle.promql_parse.specs.Grammar.{ArgumentList, Body, Phrase}
 use Rattle.promql_parse.specs.Reading.{arguments_at, arguments_turn, body_at}
 use Rattle.promql_parse.specs.declared.build.Arguments.{Arguments}
 use Rattle.promql_parse.specs.declared.build.Built.{Built}
 use Rattle.promql_parts.specs.Labels.{item_behind}
 use Rattle.promql_parts.specs.Productions.{IsSign}
-use Rattle.promql_parts.specs.Reads.{Read, ◌>>=◌, after, begins, turns}
+use Rattle.promql_parts.specs.Reads.{Read, after, turns}
 use Rattle.promql_parts.specs.Steps.{after_found, bind_ok, item_found, same_ok}
 use Rattle.promql_parts.specs.declared.lexeme.Lexeme.{Lexeme}
 use Rattle.promql_parts.specs.declared.lexeme.Sign.TheVariants.{LeftParen, RightParen, Comma}

@@ -1,12 +1,12 @@
 -- What an operand or a phrase begins with: no word that stands behind an operator, and no closing parenthesis.
-use Rattle.std.proofs.Common.{◌≡◌, ℕ, refl, ap, ◌∙◌, sym, subst, Bool, true, false, List, [], ◌∷◌, ◌++◌}
-use Rattle.std.specs.Prelude.{Option, Some, None}
+use Rattle.std.proofs.Common.{◌≡◌, ℕ, refl, ap, ◌∙◌, sym, subst, false, List, [], ◌∷◌, ◌++◌}
+use Rattle.std.specs.Prelude.{Option, Some}
 use Rattle.label_set.specs.declared.rules.Rule.{Rule}
 use Rattle.promql_ast.specs.declared.tree.Expr.{Expr}
 use Rattle.promql_ast.specs.declared.tree.Fixed.{Fixed}
-use Rattle.promql_parse.specs.Grammar.{ArgumentList, Body, Operand, Phrase, Primary, Term}
+use Rattle.promql_parse.specs.Grammar.{ArgumentList, Operand, Phrase, Primary, Term}
 use Rattle.promql_parts.specs.Laws.{is_modifier}
-use Rattle.promql_parts.specs.Productions.{IsSign, IsWord, Matchers, Selected, metric_name}
+use Rattle.promql_parts.specs.Productions.{IsSign, Matchers, Selected, metric_name}
 use Rattle.promql_parts.specs.Signs.{is_sign}
 use Rattle.promql_parts.specs.Steps.{no_some}
 use Rattle.promql_parts.specs.declared.lexeme.Lexeme.{Lexeme}

@@ -1,5 +1,5 @@
 -- Trees as they are made: one of more than 128 nodes on its longest path is cut.
-use Rattle.std.proofs.Common.{◌≡◌, ◌<◌, ◌≤◌, ℕ, ◌+◌, ◌-◌, max, refl, ap, ap₂, ◌∙◌, sym, ⊎_elim, List, [], ◌∷◌, ◌++◌, arith}
+use Rattle.std.proofs.Common.{◌≡◌, ◌<◌, ◌≤◌, ℕ, ◌+◌, max, refl, ap, ap₂, ◌∙◌, sym, ⊎_elim, List, [], ◌∷◌, ◌++◌, arith}
 use Rattle.std.specs.Prelude.{nat_lt, if◌then◌else◌}
 use Rattle.std.proofs.lemmas.Bool.{cases_lt, lt-ltb, le-ltb}
 use Rattle.func_table.specs.declared.table.Aggregate.{Aggregate}

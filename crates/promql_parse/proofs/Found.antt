@@ -1,6 +1,6 @@
 -- What is read is in the grammar.
-use Rattle.std.proofs.Common.{◌≡◌, ◌⊎◌, ◌<◌, ℕ, zero, suc, ◌+◌, ◌-◌, max, refl, ap, ◌∙◌, sym, subst, ⊎_elim, Bool, true, false, cond, List, [], ◌∷◌, ◌++◌, append_assoc, drop, length, arith}
-use Rattle.std.specs.Prelude.{◌&&◌, ◌||◌, Option, Some, None, Result, Ok, Err}
+use Rattle.std.proofs.Common.{◌≡◌, ℕ, zero, suc, ◌+◌, ◌-◌, max, refl, ap, ◌∙◌, sym, subst, ⊎_elim, Bool, true, false, cond, List, [], ◌∷◌, ◌++◌, append_assoc, drop, length, arith}
+use Rattle.std.specs.Prelude.{◌&&◌, ◌||◌, Option, Some, None, Result, Ok}
 use Rattle.func_table.specs.Names.{found_of}
 use Rattle.func_table.specs.declared.table.Aggregate.{Aggregate}
 use Rattle.func_table.specs.declared.table.Found.{Found as Looked}
@@ -12,18 +12,17 @@ use Rattle.promql_ast.specs.declared.refusal.QueryRefusal.{QueryRefusal}
 use Rattle.promql_ast.specs.declared.tree.Expr.{Expr}
 use Rattle.promql_ast.specs.declared.tree.Fixed.{Fixed}
 use Rattle.promql_ast.specs.declared.tree.Node.TheVariants.{Number, Words, Paren, Negate, Call, Aggregate as Aggregated}
-use Rattle.promql_parse.specs.Build.{aggregate, binary, bracketed, call, is_plain, leaf, may_fix, may_offset, moment_of, negate, no_arguments, node_of, operand_built, other, paren, plain, selected, tree, with_offset, with_time}
+use Rattle.promql_parse.specs.Build.{aggregate, binary, bracketed, call, is_plain, leaf, may_fix, may_offset, moment_of, negate, node_of, operand_built, other, paren, plain, selected, tree}
 use Rattle.promql_parse.specs.Grammar.{Body, Operand, Phrase, Primary, Term, another, a_range, a_selector, a_subquery, term_tree}
-use Rattle.promql_parse.specs.Reading.{Levels, Opens, aggregate_at, aggregation_at, arguments_at, begins_grouping, body_at, bracket_turn, braced_at, call_arguments, call_at, chain_from, chain_turn, duration_at, exponent_at, function_at, function_found, grouped, grouped_before, grouped_behind, is_refused_aggregation, level_at, metric_at, minus_at, named_at, offset_turn, operand_at, paren_at, plus_at, postfix_kind, postfix_turn, power_at, power_behind, power_kind, primary_at, primary_kind, refused_at_name, seconds_of, side_at, time_turn, unary_at, unary_kind, within, word_at}
-use Rattle.promql_parse.specs.declared.build.Arguments.{Arguments}
+use Rattle.promql_parse.specs.Reading.{Levels, Opens, aggregate_at, begins_grouping, body_at, bracket_turn, braced_at, call_at, chain_from, chain_turn, duration_at, exponent_at, function_at, function_found, grouped, grouped_before, grouped_behind, is_refused_aggregation, level_at, metric_at, minus_at, named_at, offset_turn, operand_at, paren_at, plus_at, postfix_kind, postfix_turn, power_at, power_behind, power_kind, primary_at, primary_kind, refused_at_name, seconds_of, side_at, time_turn, unary_at, unary_kind, within, word_at}
 use Rattle.promql_parse.specs.declared.build.Built.{Built}
 use Rattle.promql_parse.specs.declared.build.Operand.{Operand as Made}
 use Rattle.promql_parse.specs.declared.build.Part.TheVariants as parts
-use Rattle.promql_parts.specs.Labels.{grouping_at, grouping_begun, no_grouping, optional_grouping}
-use Rattle.promql_parts.specs.Laws.{BracesAreMatchers, BracketsAreSpans, Found, GroupingsAreGrouped, IsBraced, IsBrackets, MatchingsAreModifiers, Modified, OffsetsAreSigned, TimesStandBehind}
+use Rattle.promql_parts.specs.Labels.{grouping_at, grouping_begun, optional_grouping}
+use Rattle.promql_parts.specs.Laws.{BracesAreMatchers, BracketsAreSpans, Found, GroupingsAreGrouped, IsBraced, IsBrackets, MatchingsAreModifiers, OffsetsAreSigned, TimesStandBehind}
 use Rattle.promql_parts.specs.Operators.{matching_at, op_at, op_of}
-use Rattle.promql_parts.specs.Productions.{begins_labels, Grouped, IsSign, IsWord, OffsetBehind, RangeBrackets, Selected, StepBrackets, metric_name}
-use Rattle.promql_parts.specs.Reads.{Read, ◌>>=◌, after, all_turns, begins, turns}
+use Rattle.promql_parts.specs.Productions.{begins_labels, IsSign, IsWord, OffsetBehind, RangeBrackets, Selected, StepBrackets, metric_name}
+use Rattle.promql_parts.specs.Reads.{Read, ◌>>=◌, all_turns, begins, turns}
 use Rattle.promql_parts.specs.Selectors.{braces_at, named_rules}
 use Rattle.promql_parts.specs.Spans.{brackets_at, offset_at, when_at}
 use Rattle.promql_parts.specs.Steps.{after_found, begins_found, bind_ok, chosen, no_ok, no_some, same_ok}
@@ -32,7 +31,7 @@ use Rattle.promql_parts.specs.declared.lexeme.LexemeKind.{LexemeKind}
 use Rattle.promql_parts.specs.declared.lexeme.LexemeKind.TheVariants as kinds
 use Rattle.promql_parts.specs.declared.lexeme.Sign.TheVariants.{LeftParen, RightParen, LeftBrace, LeftBracket, AtSign, Plus, Minus, Caret}
 use Rattle.promql_parts.specs.declared.lexeme.Word.{Word}
-use Rattle.promql_parts.specs.declared.lexeme.Word.TheVariants.{And, Or, Unless, By, Without, On, Ignoring, GroupLeft, GroupRight, Bool as Flag, Offset, Start, End, Atan2, Over}
+use Rattle.promql_parts.specs.declared.lexeme.Word.TheVariants.{On, Ignoring, GroupLeft, GroupRight, Bool as Flag, Offset, Atan2, Over}
 use Rattle.promql_parts.specs.declared.operator.BinaryOp.{BinaryOp}
 use Rattle.promql_parts.specs.declared.operator.BinaryOp.TheVariants.{Arith}
 use Rattle.promql_parts.specs.declared.span.Brackets.{Brackets}
@@ -40,7 +39,7 @@ use Rattle.promql_parts.specs.declared.span.Brackets.TheVariants as brackets
 use Rattle.ticks.specs.declared.moment.Ms.{Ms}
 use Rattle.xfrac.specs.declared.value.ArithOp.TheVariants.{Pow}
 use Rattle.promql_parse.proofs.ArgumentsFound.{Parsed, arguments_found, body_found}
-use Rattle.promql_parse.proofs.Cuts.{cut, cut_aggregate, cut_arguments, cut_binary, cut_call, cut_negate, cut_paren}
+use Rattle.promql_parse.proofs.Cuts.{cut, cut_aggregate, cut_binary, cut_call, cut_negate, cut_paren}
 use Rattle.promql_parse.proofs.Operands.{IsPlain, built_so, offset_found, operand_of, placed, plain_found, sized, time_found}
 
 -- what is known of the readers of parts

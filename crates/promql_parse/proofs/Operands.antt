@@ -1,8 +1,7 @@
 -- Operands of the grammar as the reader makes them.
-use Rattle.std.proofs.Common.{◌≡◌, ◌<◌, ℕ, zero, suc, ◌+◌, ◌-◌, refl, ap, ◌∙◌, sym, Bool, true, false, List, arith}
-use Rattle.std.specs.Prelude.{◌&&◌, Option, Some, None, is_none}
+use Rattle.std.proofs.Common.{◌≡◌, ◌<◌, ℕ, ◌+◌, ◌-◌, refl, ap, ◌∙◌, sym, true, List, arith}
+use Rattle.std.specs.Prelude.{Option, Some, None}
 use Rattle.label_set.specs.declared.rules.Rule.{Rule}
-use Rattle.promql_ast.specs.declared.tree.Expr.{Expr}
 use Rattle.promql_ast.specs.declared.tree.Fixed.{Fixed}
 use Rattle.promql_ast.specs.declared.tree.Moment.{Moment}
 use Rattle.promql_ast.specs.declared.tree.Node.TheVariants.{Select, Range, Subquery}

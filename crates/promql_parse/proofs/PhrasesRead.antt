@@ -1,7 +1,7 @@
 -- What is in the grammar is read.
-use Rattle.std.proofs.Common.{◌≡◌, ◌⊎◌, ◌<◌, ℕ, zero, suc, ◌+◌, ◌-◌, max, refl, ap, ◌∙◌, sym, subst, ⊎_elim, Bool, true, false, cond, List, [], ◌∷◌, ◌++◌, append_assoc, drop, length, length-append, arith}
+use Rattle.std.proofs.Common.{◌≡◌, ◌<◌, ℕ, zero, suc, ◌+◌, ◌-◌, max, refl, ap, ◌∙◌, sym, subst, ⊎_elim, Bool, true, false, cond, List, [], ◌∷◌, ◌++◌, append_assoc, drop, length, length-append, arith}
 use Rattle.std.proofs.lemmas.Bool.{cond-true, cond-false}
-use Rattle.std.specs.Prelude.{◌&&◌, ◌||◌, Option, Some, None, is_some, Result, Ok, Err}
+use Rattle.std.specs.Prelude.{◌&&◌, ◌||◌, Option, Some, None, is_some, Result, Ok}
 use Rattle.func_table.specs.Names.{found_of}
 use Rattle.func_table.specs.declared.table.Aggregate.{Aggregate}
 use Rattle.func_table.specs.declared.table.Found.TheVariants as looked
@@ -14,7 +14,7 @@ use Rattle.promql_ast.specs.declared.tree.Fixed.{Fixed}
 use Rattle.promql_ast.specs.declared.tree.Node.TheVariants.{Number, Words, Paren, Negate, Call, Aggregate as Aggregated}
 use Rattle.promql_parse.specs.Build.{add, aggregate, binary, bracketed, call, is_plain, leaf, may_fix, may_offset, moment_of, negate, no_arguments, node_of, operand_built, other, paren, plain, selected, tree, with_offset, with_time}
 use Rattle.promql_parse.specs.Grammar.{ArgumentList, Body, Operand, Phrase, Primary, Term, another, a_range, a_selector, a_subquery, takes_modifiers, term_tree}
-use Rattle.promql_parse.specs.Reading.{Levels, Opens, aggregate_at, aggregation_at, arguments_at, arguments_turn, begins_grouping, body_at, bracket_turn, braced_at, call_arguments, call_at, chain_from, chain_turn, duration_at, exponent_at, function_at, function_found, grouped, grouped_before, grouped_behind, is_refused_aggregation, level_at, metric_at, minus_at, named_at, offset_turn, operand_at, paren_at, plus_at, postfix_kind, postfix_turn, power_at, power_behind, power_kind, primary_at, primary_kind, refused_at_name, seconds_of, side_at, time_turn, unary_at, unary_kind, within, word_at}
+use Rattle.promql_parse.specs.Reading.{Opens, aggregate_at, arguments_at, arguments_turn, begins_grouping, body_at, bracket_turn, braced_at, call_arguments, call_at, chain_from, chain_turn, duration_at, exponent_at, function_found, grouped, grouped_before, grouped_behind, is_refused_aggregation, level_at, metric_at, minus_at, named_at, offset_turn, operand_at, paren_at, plus_at, postfix_kind, postfix_turn, power_at, power_behind, power_kind, primary_kind, refused_at_name, seconds_of, side_at, time_turn, unary_at, unary_kind, within}
 use Rattle.promql_parse.specs.declared.build.Arguments.{Arguments}
 use Rattle.promql_parse.specs.declared.build.Built.{Built}
 use Rattle.promql_parse.specs.declared.build.Operand.{Operand as Made}
@@ -22,18 +22,17 @@ use Rattle.promql_parse.specs.declared.build.Part.TheVariants as parts
 use Rattle.promql_parts.specs.Labels.{grouping_at, grouping_begun, grouping_behind, grouping_word, item_behind, no_grouping, optional_grouping}
 use Rattle.promql_parts.specs.Laws.{BracedIsRead, BracketsAreRead, GroupedIsRead, IsBraced, IsBrackets, ModifierIsRead, OffsetIsRead, TimeIsRead}
 use Rattle.promql_parts.specs.Operators.{matching_at, op_at, op_of}
-use Rattle.promql_parts.specs.Productions.{BinModifier, begins_labels, Grouped, IsSelector, IsSign, IsWord, Matchers, OffsetBehind, RangeBrackets, Selected, Signed, StepBrackets, TimeBehind, metric_name}
+use Rattle.promql_parts.specs.Productions.{BinModifier, begins_labels, Grouped, IsSelector, IsSign, IsWord, Matchers, OffsetBehind, RangeBrackets, Selected, StepBrackets, TimeBehind, metric_name}
 use Rattle.promql_parts.specs.Reads.{Read, Turn, ◌>>=◌, after, all_turns, begins}
-use Rattle.promql_parts.specs.Selectors.{braces_at, named_rules}
+use Rattle.promql_parts.specs.Selectors.{named_rules}
 use Rattle.promql_parts.specs.Signs.{is_sign}
 use Rattle.promql_parts.specs.Spans.{brackets_at, minute, offset_at, when_at}
-use Rattle.promql_parts.specs.Steps.{after_read, bind_ok, chosen, close_read, comma_read, item_found, no_some, same_ok, same_some, sign_is, true_false}
+use Rattle.promql_parts.specs.Steps.{after_read, bind_ok, chosen, close_read, comma_read, item_found, no_some, same_ok, same_some, true_false}
 use Rattle.promql_parts.specs.Turns.{all_end, all_on}
 use Rattle.promql_parts.specs.declared.lexeme.Lexeme.{Lexeme}
 use Rattle.promql_parts.specs.declared.lexeme.LexemeKind.{LexemeKind}
 use Rattle.promql_parts.specs.declared.lexeme.LexemeKind.TheVariants as kinds
 use Rattle.promql_parts.specs.declared.lexeme.Sign.TheVariants.{LeftParen, RightParen, LeftBrace, LeftBracket, Comma, AtSign, Plus, Minus, Caret}
-use Rattle.promql_parts.specs.declared.lexeme.Word.{Word}
 use Rattle.promql_parts.specs.declared.lexeme.Word.TheVariants.{On, Ignoring, GroupLeft, GroupRight, Bool as Flag, Offset, Atan2, Over}
 use Rattle.promql_parts.specs.declared.operator.BinaryOp.{BinaryOp}
 use Rattle.promql_parts.specs.declared.operator.BinaryOp.TheVariants.{Arith}
@@ -44,12 +43,11 @@ use Rattle.promql_parts.specs.declared.span.Brackets.TheVariants as brackets
 use Rattle.ticks.specs.declared.moment.Ms.{Ms}
 use Rattle.xfrac.specs.declared.value.ArithOp.TheVariants.{Pow}
 use Rattle.xfrac.specs.declared.value.XFrac.{XFrac}
-use Rattle.promql_parse.proofs.ArgumentsFound.{Parsed}
 use Rattle.promql_parse.proofs.Begins.{Begins, begins_arguments, begins_phrase, braces_open, matchers_begin}
 use Rattle.promql_parse.proofs.Cuts.{cut, cut_add, cut_aggregate, cut_arguments, cut_binary, cut_call, cut_negate, cut_paren}
 use Rattle.promql_parse.proofs.Found.{Parts, found}
 use Rattle.promql_parse.proofs.Operands.{IsSized, built_so, operand_of, placed, sized}
-use Rattle.promql_parse.proofs.Quiet.{Apart, Calm, Quiet, calm_close, calm_comma, calm_op, calm_quiet}
+use Rattle.promql_parse.proofs.Quiet.{Apart, Calm, Quiet, calm_close, calm_comma, calm_op}
 
 -- what is known of the productions of parts
 pub record Known : Type 0 where

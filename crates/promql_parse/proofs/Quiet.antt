@@ -1,9 +1,8 @@
 -- What may stand behind an operand or a phrase without going on with it: nothing, a closing parenthesis, a comma, or an
 -- operator of a looser level.
-use Rattle.std.proofs.Common.{◌≡◌, ◌⊎◌, ◌<◌, ℕ, zero, suc, refl, ap, ◌∙◌, sym, subst, ⊎_elim, Bool, true, false, cond, List, [], ◌∷◌, drop, arith, ne_eqb}
+use Rattle.std.proofs.Common.{◌≡◌, ◌<◌, ℕ, zero, suc, refl, ap, ◌∙◌, sym, ⊎_elim, false, List, [], ◌∷◌, arith, ne_eqb}
 use Rattle.std.proofs.lemmas.Bool.{cond-false, eqb-true}
-use Rattle.std.specs.Prelude.{◌==◌, Option, Some, None, Result, Ok}
-use Rattle.promql_ast.specs.declared.refusal.QueryRefusal.{QueryRefusal}
+use Rattle.std.specs.Prelude.{◌==◌, Option, Some, None, Ok}
 use Rattle.promql_parse.specs.Reading.{Opens, postfix_kind, postfix_turn, power_behind, power_kind}
 use Rattle.promql_parse.specs.declared.build.Built.{Built}
 use Rattle.promql_parse.specs.declared.build.Operand.{Operand as Made}

@@ -1,5 +1,5 @@
 -- A refusal of a query stands whatever follows its lexeme.
-use Rattle.std.proofs.Common.{◌≡◌, ◌⊎◌, ◌<◌, ℕ, zero, suc, ◌+◌, refl, ap, ◌∙◌, sym, subst, ⊎_elim, inl, inr, Bool, true, false, cond, List, [], ◌∷◌, ◌++◌, drop, length, length-append, arith}
+use Rattle.std.proofs.Common.{◌≡◌, ◌⊎◌, ℕ, zero, suc, refl, ap, ◌∙◌, sym, subst, ⊎_elim, inl, inr, Bool, true, false, List, [], ◌∷◌, ◌++◌, arith}
 use Rattle.std.proofs.lemmas.Bool.{cases_lt}
 use Rattle.std.specs.Prelude.{◌&&◌, ◌||◌, Option, Some, None, is_some, Result, Ok, Err}
 use Rattle.func_table.specs.declared.table.Aggregate.{Aggregate}
@@ -9,17 +9,15 @@ use Rattle.promql_ast.specs.declared.tree.Expr.{Expr}
 use Rattle.promql_ast.specs.declared.tree.Node.TheVariants.{Number}
 use Rattle.promql_parse.specs.Build.{add, aggregate, binary, bracketed, call, is_plain, leaf, may_fix, may_offset, negate, no_arguments, operand_built, other, paren, selected, with_offset, with_time}
 use Rattle.promql_parse.specs.Laws.{IsFinal, NoQueryBeginsSo, RefusalStands}
-use Rattle.promql_parse.specs.Reading.{Levels, Opens, aggregate_at, aggregation_at, arguments_at, arguments_turn, begins_grouping, body_at, bracket_turn, braced_at, call_arguments, call_at, chain_from, chain_turn, duration_at, exponent_at, finished, function_at, grouped, grouped_before, grouped_behind, is_refused_aggregation, level_at, metric_at, minus_at, named_at, offset_turn, operand_at, paren_at, plus_at, postfix_kind, postfix_turn, power_at, power_behind, power_kind, primary_at, primary_kind, reading, refused_at_name, seconds_of, side_at, time_turn, unary_at, unary_kind, within, word_at}
+use Rattle.promql_parse.specs.Reading.{Levels, Opens, aggregate_at, aggregation_at, arguments_at, arguments_turn, body_at, bracket_turn, braced_at, call_arguments, call_at, chain_from, chain_turn, duration_at, exponent_at, finished, function_at, grouped, grouped_before, grouped_behind, is_refused_aggregation, level_at, metric_at, minus_at, named_at, offset_turn, operand_at, paren_at, plus_at, postfix_kind, postfix_turn, power_at, power_behind, power_kind, primary_kind, reading, refused_at_name, seconds_of, side_at, time_turn, unary_at, unary_kind, within, word_at}
 use Rattle.promql_parse.specs.declared.build.Arguments.{Arguments}
 use Rattle.promql_parse.specs.declared.build.Built.{Built}
 use Rattle.promql_parse.specs.declared.build.Built.TheVariants as built
 use Rattle.promql_parse.specs.declared.build.Operand.{Operand as Made}
-use Rattle.promql_parts.specs.Labels.{grouping_at, grouping_begun, grouping_behind, grouping_word, item_behind}
-use Rattle.promql_parts.specs.Operators.{matching_at, op_at, op_of}
-use Rattle.promql_parts.specs.Reads.{Read, Turn, ◌>>=◌, after, all_turns, begins}
-use Rattle.promql_parts.specs.Selectors.{braces_at}
+use Rattle.promql_parts.specs.Labels.{grouping_behind, grouping_word, item_behind}
+use Rattle.promql_parts.specs.Operators.{matching_at, op_of}
+use Rattle.promql_parts.specs.Reads.{Read, ◌>>=◌, after, all_turns}
 use Rattle.promql_parts.specs.Signs.{is_sign}
-use Rattle.promql_parts.specs.Spans.{brackets_at, offset_at, when_at}
 use Rattle.promql_parts.specs.Standing.{Ended, after_stands, all_turns_ended, all_turns_stand, bind_ended, bind_stands, choice_stands, close_stands, ended_stands, here, item_ended, item_stands, left, map_ended, map_stands, pure_stands, turned}
 use Rattle.promql_parts.specs.Stands.{BracesStand, BracketsStand, GroupingBehindStands, GroupingStands, MatchingStands, OffsetStands, Stands, TimeStands, pair}
 use Rattle.promql_parts.specs.Steps.{no_ok}
@@ -31,7 +29,6 @@ use Rattle.promql_parts.specs.declared.lexeme.Word.{Word}
 use Rattle.promql_parts.specs.declared.lexeme.Word.TheVariants.{On, Ignoring, GroupLeft, GroupRight, Bool as Flag, Offset, Atan2, Over}
 use Rattle.promql_parts.specs.declared.operator.BinaryOp.{BinaryOp}
 use Rattle.promql_parts.specs.declared.operator.BinaryOp.TheVariants.{Arith}
-use Rattle.promql_parts.specs.declared.operator.Matching.{Matching}
 use Rattle.ticks.specs.declared.moment.Ms.{Ms}
 use Rattle.xfrac.specs.declared.value.ArithOp.TheVariants.{Pow}
 use Rattle.promql_parse.proofs.Found.{Parts}

@@ -1,8 +1,7 @@
 -- The tree that is read is that of a query.
-use Rattle.std.proofs.Common.{◌≡◌, ◌≤◌, ◌<◌, ℕ, refl, ap, ◌∙◌, sym, subst, ⊎_elim, List, [], ◌∷◌, ◌++◌, append-nil}
+use Rattle.std.proofs.Common.{◌≡◌, ◌≤◌, ℕ, refl, ap, ◌∙◌, sym, subst, ⊎_elim, List, [], ◌∷◌, ◌++◌, append-nil}
 use Rattle.std.proofs.lemmas.Bool.{cases_lt}
-use Rattle.std.specs.Prelude.{Ok, Err}
-use Rattle.promql_ast.specs.declared.refusal.QueryRefusal.TheVariants.{TooDeep}
+use Rattle.std.specs.Prelude.{Ok}
 use Rattle.promql_ast.specs.declared.tree.Expr.{Expr}
 use Rattle.promql_parse.specs.Grammar.{Phrase}
 use Rattle.promql_parse.specs.Laws.{DeepIsRefused, InGrammarIsRead, OneTree, ReadIsInGrammar}
