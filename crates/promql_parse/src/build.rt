@@ -58,12 +58,14 @@ fn over(depth: u32, at: u32, node: Node) -> Built
     }
 }
 
+/// The tree of one node at a place. It takes no memory.
 pub fn leaf(at: u32, node: Node) -> Built
     ensures { result ≡ leaf at node }
 {
     Built::Whole(Expr { at, node }, 1)
 }
 
+/// A tree in parentheses that open at a place. The only error is want of memory.
 pub fn paren(alloc: Global, at: u32, inner: Built) -> Result<Built, AllocError>
     ensures { IfOk result (λ built. built ≡ paren at inner) }
 {
@@ -73,6 +75,7 @@ pub fn paren(alloc: Global, at: u32, inner: Built) -> Result<Built, AllocError>
     }
 }
 
+/// The negative of a tree, of a sign at a place. The only error is want of memory.
 pub fn negate(alloc: Global, at: u32, inner: Built) -> Result<Built, AllocError>
     ensures { IfOk result (λ built. built ≡ negate at inner) }
 {
@@ -101,6 +104,7 @@ fn node_of(op: BinaryOp, matching: Matching, left: Boxed<Expr>, right: Boxed<Exp
     }
 }
 
+/// An operator between two trees, which begins where the left one does. The only error is want of memory.
 pub fn binary(
     alloc: Global,
     op: BinaryOp,
@@ -122,12 +126,14 @@ pub fn binary(
     Ok(over(a.max(b), at, node_of(op, matching, l, r)))
 }
 
+/// No arguments. It takes no memory.
 pub fn no_arguments(alloc: Global) -> Arguments
     ensures { result ≡ no_arguments }
 {
     Arguments::Whole(Items::new(alloc), 0)
 }
 
+/// Arguments with one more. The only error is want of memory.
 pub fn add(arguments: Arguments, argument: Built) -> Result<Arguments, AllocError>
     ensures { IfOk result (λ more. more ≡ add arguments argument) }
 {
@@ -140,6 +146,7 @@ pub fn add(arguments: Arguments, argument: Built) -> Result<Arguments, AllocErro
     }
 }
 
+/// A call of a function at a place. It takes no memory.
 pub fn call(at: u32, function: Func, arguments: Arguments) -> Built
     ensures { result ≡ call at function arguments }
 {
@@ -149,6 +156,7 @@ pub fn call(at: u32, function: Func, arguments: Arguments) -> Built
     }
 }
 
+/// An aggregation at a place, by a grouping. It takes no memory.
 pub fn aggregate(at: u32, function: Aggregate, grouping: Grouping, arguments: Arguments) -> Built
     ensures { result ≡ aggregate at function grouping arguments }
 {
