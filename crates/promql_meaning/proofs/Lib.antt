@@ -1,0 +1,11 @@
+pub mod EachRow
+pub mod Filled
+pub mod Moments
+pub mod Parts
+pub mod Points
+pub mod Ranked
+pub mod Replaced
+pub mod Spelled
+pub mod Summed
+pub mod Twice
+pub mod Weak
