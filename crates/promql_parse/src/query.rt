@@ -1,4 +1,5 @@
 //! The tree of a query's text.
+ghost use Rattle.match_rule.specs.Gains.{Gains};
 ghost use Rattle.promql_parse.specs.Parsing.{Parses, Refuses};
 ghost use Rattle.promql_parse.specs.Reading.{reading};
 ghost use Rattle.promql_parts.specs.Reads.{Gives};
@@ -33,11 +34,13 @@ fn read(source: Source, lexemes: &[Lexeme]) -> Result<Expr, LexFault>
     }
 }
 
-/// The tree of a query's text, or its one refusal with its place. The patterns of its rules are kept in `patterns`, where
-/// they stay after a refusal. The only other error is want of memory.
+/// The tree of a query's text, or its one refusal with its place. The only other error is want of memory. The patterns of
+/// its rules are kept in `patterns`: those that were there, and those that are kept before the end, stay under their numbers,
+/// after each error too.
 pub fn parse(alloc: Global, text: &str, patterns: &mut Patterns) -> Result<Expr, LexFault>
     ensures tree { IfOk result (λ e. Parses text.now patterns.old patterns.new (Ok e)) }
     ensures refusal { IfErr result (Refuses text.now patterns.old patterns.new) }
+    ensures gains { Gains patterns.old patterns.new }
 {
     if text.len() > MOST_BYTES {
         return Err(LexFault::Refused(QueryRefusal::TooLong(0)));

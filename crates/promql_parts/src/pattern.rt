@@ -1,4 +1,5 @@
 //! Patterns in place of the strings behind `=~` and `!~`.
+ghost use Rattle.match_rule.specs.Gains.{Gains};
 ghost use Rattle.promql_parts.specs.Lexemes.{lexemes_of};
 ghost use Rattle.promql_parts.specs.Patterned.{Becomes, IsPattern, Patterned, is_bad, takes_pattern};
 ghost use Rattle.std.specs.Prelude.{◌≡◌, false, IfOk};
@@ -21,9 +22,11 @@ fn takes_pattern(kind: &LexemeKind) -> bool
     }
 }
 
-/// What a string at this place is as a pattern. It is kept where it isn't refused.
+/// What a string at this place is as a pattern. It is kept where it isn't refused. The only error is want of memory; the
+/// patterns that were there keep their numbers.
 fn pattern_of(at: u32, text: &Text, patterns: &mut Patterns) -> Result<LexemeKind, AllocError>
-    ensures { IfOk result (λ kind. IsPattern at text.now patterns.old patterns.new kind) }
+    ensures pattern { IfOk result (λ kind. IsPattern at text.now patterns.old patterns.new kind) }
+    ensures gains { Gains patterns.old patterns.new }
 {
     match patterns.whole(text.as_str()) {
         Ok(id) => {
@@ -47,9 +50,11 @@ fn is_bad(kind: &LexemeKind) -> bool
     }
 }
 
-/// A lexeme with its pattern, where it is a string behind `=~` or `!~`.
+/// A lexeme with its pattern, where it is a string behind `=~` or `!~`. The only error is want of memory; the patterns
+/// that were there keep their numbers.
 fn with_pattern(behind: bool, lexeme: Lexeme, patterns: &mut Patterns) -> Result<Lexeme, AllocError>
-    ensures { IfOk result (λ l. Becomes behind patterns.old lexeme patterns.new l) }
+    ensures becomes { IfOk result (λ l. Becomes behind patterns.old lexeme patterns.new l) }
+    ensures gains { Gains patterns.old patterns.new }
 {
     if !behind {
         return Ok(lexeme);
@@ -65,14 +70,16 @@ fn with_pattern(behind: bool, lexeme: Lexeme, patterns: &mut Patterns) -> Result
 }
 
 /// The lexemes of a text's tokens, with the patterns of the strings right behind `=~` and `!~`, which are kept, up to the
-/// first that is refused. The only error is want of memory; the patterns that were kept before it stay.
+/// first that is refused. The only error is want of memory. The patterns that were there and those that were kept before
+/// the end stay under their numbers, after an error too.
 pub fn lexemes_of(
     alloc: Global,
     text: &[u8],
     tokens: &[Token],
     patterns: &mut Patterns,
 ) -> Result<Items<Lexeme>, AllocError>
-    ensures { IfOk result (λ found. Patterned false patterns.old (lexemes_of text.now tokens.now) patterns.new found) }
+    ensures lexemes { IfOk result (λ found. Patterned false patterns.old (lexemes_of text.now tokens.now) patterns.new found) }
+    ensures gains { Gains patterns.old patterns.new }
 {
     let mut found = Items::new(alloc);
     let mut behind = false;

@@ -9,9 +9,9 @@ returns-then-text-gt-MOST_BYTES-clause-refusal c = too_long (omega (arith, c.if-
 pub returns-clause-tree : goal.returns-clause-tree
 returns-clause-tree c =
     tree c.args.text.now c.as_bytes.result.now c.in_ok-tokens.tokens c.as_slice.result.now _ _ c.in_ok-lexemes.lexemes c.as_slice-2.result.now c.as_bytes.ensures.value c.in_ok-tokens.ensures c.as_slice.ensures
-    c.in_ok-lexemes.ensures c.as_slice-2.ensures (omega (arith, c.if-text-gt-MOST_BYTES.false)) c.read.result c.read.ensures
+    c.in_ok-lexemes.ensures.lexemes c.as_slice-2.ensures (omega (arith, c.if-text-gt-MOST_BYTES.false)) c.read.result c.read.ensures
 
 pub returns-clause-refusal : goal.returns-clause-refusal
 returns-clause-refusal c =
     refusal c.args.text.now c.as_bytes.result.now c.in_ok-tokens.tokens c.as_slice.result.now _ _ c.in_ok-lexemes.lexemes c.as_slice-2.result.now c.as_bytes.ensures.value c.in_ok-tokens.ensures c.as_slice.ensures
-    c.in_ok-lexemes.ensures c.as_slice-2.ensures (omega (arith, c.if-text-gt-MOST_BYTES.false)) c.read.result c.read.ensures
+    c.in_ok-lexemes.ensures.lexemes c.as_slice-2.ensures (omega (arith, c.if-text-gt-MOST_BYTES.false)) c.read.result c.read.ensures
