@@ -119,7 +119,7 @@ lowest_of a b m pm =
             positive = positive_quotient m (gcd w m) (is_shared w m pm).1 pm;
             lowest_terms = λ n d. reduced_parts w m (w / gcd w m) (m / gcd w m) pm refl refl n d;
             same = ap (λ z. a + z) t ∙ sym e ∙ added b (m / (m / gcd w m));
-            few = subst (λ z. z ≤ a + b) (sym t) (omega (arith, e));
+            few = subst (λ z. z ≤ a + b) (sym (plain_left (w / gcd w m) (m / (m / gcd w m)) ∙ t)) (omega (arith, e));
           }
       | inr more ↦
           let w : ℕ = a - b in
@@ -140,6 +140,9 @@ lowest_of a b m pm =
   where
     added : (x k : ℕ) → x ≡ x + 0 * k
     added x k = omega arith
+
+    plain_left : (x k : ℕ) → (0 + x) * k ≡ x * k
+    plain_left x k = omega arith
 
     plain : (x k : ℕ) → (x + 0) * k ≡ x * k
     plain x k = omega arith
@@ -313,8 +316,6 @@ module _ (multiple : LcmIsMultiple) (least : LcmIsLeast) where
       let r : IsLowest a b m = lowest_of a b m pm in
       subst (λ f. IsNumber (Fin f)) (sym r.is) (subst (λ z. IsReduced z r.denominator) (sym (unsigned_abs-with_sign r.negative r.numerator)) (r.lowest_terms (few_enough r) (le_limit r)))
     where
-      parts = and_parts _ _ fit
-
       le_limit : (r : IsLowest a b m) → r.denominator ≤ limit
       le_limit r = let k : r.denominator ≤ m = le_of_dvd pm r.divides in let w : m ≤ limit = leb-true _ _ (and_parts _ _ fit).0 in omega (arith, k, w)
 

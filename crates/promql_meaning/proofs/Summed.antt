@@ -182,7 +182,8 @@ module _ (ignores : SumIgnoresOrder) (both : JoinedStandsForBoth) (one : AloneSt
   sums_of : (arg : XFrac) (done : List XFrac) (groups : List (Names × List XFrac)) (s : XFrac) → AllByRecursion IsNumber done → AllByRecursion IsNumber (all_in groups)
       → sum_of (done ++ all_in groups) ≡ Some s → AreSummed done (outcomes arg groups) (has_some groups) s
   sums_of arg done [] s nd ng e = record { marks = refl; sum = e; rows = refl }
-  sums_of arg done (group ∷ groups) s nd ng e = by (sum_of group.1) refl
+  sums_of arg done (group ∷ groups) s nd ng e =
+      by (λ x number sum. sums_of arg (done ++ x ∷ []) groups s (all_append done (x ∷ []) nd (number, tt)) (all_right group.1 (all_in groups) ng) sum) (sum_of group.1) refl
     where
       front : sum_of (group.1 ++ (done ++ all_in groups)) ≡ Some s
       front = shuffled (done ++ (group.1 ++ all_in groups)) (group.1 ++ (done ++ all_in groups)) s (all_append done (group.1 ++ all_in groups) nd ng) (to_front done group.1 (all_in groups)) e
@@ -190,17 +191,16 @@ module _ (ignores : SumIgnoresOrder) (both : JoinedStandsForBoth) (one : AloneSt
       rest : AllByRecursion IsNumber (done ++ all_in groups)
       rest = all_append done (all_in groups) nd (all_right group.1 (all_in groups) ng)
 
-      by : (o : Option XFrac) → sum_of group.1 ≡ o → AreSummed done (outcome_of group.0 o ∷ outcomes arg groups) true s
-      by None f =
+      by : ((x : XFrac) → IsNumber x → sum_of ((done ++ x ∷ []) ++ all_in groups) ≡ Some s → AreSummed (done ++ x ∷ []) (outcomes arg groups) (has_some groups) s) → (o : Option XFrac) → sum_of group.1 ≡ o → AreSummed done (outcome_of group.0 o ∷ outcomes arg groups) true s
+      by goes None f =
           no_sum s (sum_of (group.1 ++ (done ++ all_in groups))) front
           (overflows group.1 (done ++ all_in groups) (All-from_recursion IsNumber group.1 (all_left group.1 (all_in groups) ng)) (All-from_recursion IsNumber (done ++ all_in groups) rest) f)
-      by (Some x) f =
+      by goes (Some x) f =
           let r = front_replaced multiple least both one group.1 (done ++ all_in groups) x s (all_left group.1 (all_in groups) ng) rest f front in
           let assoc : (done ++ x ∷ []) ++ all_in groups ≡ done ++ x ∷ all_in groups = append_assoc done (x ∷ []) (all_in groups) in
           let back : IsPermutation (x ∷ (done ++ all_in groups)) (done ++ x ∷ all_in groups) = IsPermutation-sym (done ++ x ∷ all_in groups) (x ∷ (done ++ all_in groups)) (IsPermutation-middle done x (all_in groups)) in
           let sum : sum_of ((done ++ x ∷ []) ++ all_in groups) ≡ Some s = ap sum_of assoc ∙ shuffled (x ∷ (done ++ all_in groups)) (done ++ x ∷ all_in groups) s (r.0, rest) back r.1 in
-          let more : AreSummed (done ++ x ∷ []) (outcomes arg groups) (has_some groups) s =
-          sums_of arg (done ++ x ∷ []) groups s (all_append done (x ∷ []) nd (r.0, tt)) (all_right group.1 (all_in groups) ng) sum in
+          let more : AreSummed (done ++ x ∷ []) (outcomes arg groups) (has_some groups) s = goes x r.0 sum in
           record {
             marks = more.marks;
             sum = ap sum_of (sym (append_assoc done (x ∷ []) (values (filter_map row_of (outcomes arg groups))))) ∙ more.sum;
