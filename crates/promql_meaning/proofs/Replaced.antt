@@ -317,10 +317,10 @@ module _ (multiple : LcmIsMultiple) (least : LcmIsLeast) where
       subst (λ f. IsNumber (Fin f)) (sym r.is) (subst (λ z. IsReduced z r.denominator) (sym (unsigned_abs-with_sign r.negative r.numerator)) (r.lowest_terms (few_enough r) (le_limit r)))
     where
       le_limit : (r : IsLowest a b m) → r.denominator ≤ limit
-      le_limit r = let k : r.denominator ≤ m = le_of_dvd pm r.divides in let w : m ≤ limit = leb-true _ _ (and_parts _ _ fit).0 in omega (arith, k, w)
+      le_limit r = let k : r.denominator ≤ m = le_of_dvd pm r.divides in let w : m ≤ limit = leb-true m limit (and_parts (nat_le m limit) (nat_le (a + b) limit) fit).0 in omega (arith, k, w)
 
       one_of : (s : Bool) (x : ℕ) → x ≡ upper s x + lower s x
-      one_of true x = refl
+      one_of true x = omega arith
       one_of false x = omega arith
 
       few_enough : (r : IsLowest a b m) → r.numerator ≤ limit
@@ -328,7 +328,7 @@ module _ (multiple : LcmIsMultiple) (least : LcmIsLeast) where
           let q : 0 < m / r.denominator = positive_quotient m r.denominator r.divides pm in
           let k : r.numerator ≤ r.numerator * (m / r.denominator) = le-mul_of_pos_right r.numerator q in
           let l : r.numerator * (m / r.denominator) ≤ a + b = subst (λ z. z * (m / r.denominator) ≤ a + b) (sym (one_of r.negative r.numerator)) r.few in
-          let w : a + b ≤ limit = leb-true _ _ (and_parts _ _ fit).1 in
+          let w : a + b ≤ limit = leb-true (a + b) limit (and_parts (nat_le m limit) (nat_le (a + b) limit) fit).1 in
           omega (arith, k, l, w)
 
   positive_denominator : (x : XFrac) → IsNumber x → 0 < denominator_of x
