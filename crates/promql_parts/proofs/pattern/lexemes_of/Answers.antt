@@ -12,12 +12,13 @@ returns-then-bad-clause-lexemes c =
     c.in_ok-lexeme-2.ensures.becomes c.in_ok-push.ensures.ok (sym c.if-bad.ensures)
 
 pub loop-token-preserved : goal.loop-token-preserved
-loop-token-preserved c =
-    (rw c.takes_pattern-next.ensures
-    (goes_on _ _ _ _ _ _ _ _ _ c.in_ok-lexeme.lexeme c.in_ok-lexeme-2.lexeme c.loop-token.invariant.0
-    (from_item (lexeme_of c.args.text.now) c.args.tokens.now c.loop-token.token-index _ c.token-item.result c.in_ok-lexeme.lexeme (omega (arith, c.loop-token-test.true)) c.token-item.is c.in_ok-lexeme.ensures)
-    c.in_ok-lexeme-2.ensures.becomes c.in_ok-push.ensures.ok (sym c.if-bad.ensures)),
-    gains_all _ _ _ c.loop-token.invariant.1 c.in_ok-lexeme-2.ensures.gains)
+loop-token-preserved c = (
+  rw c.takes_pattern-next.ensures
+      (goes_on _ _ _ _ _ _ _ _ _ c.in_ok-lexeme.lexeme c.in_ok-lexeme-2.lexeme c.loop-token.invariant.0
+      (from_item (lexeme_of c.args.text.now) c.args.tokens.now c.loop-token.token-index _ c.token-item.result c.in_ok-lexeme.lexeme (omega (arith, c.loop-token-test.true)) c.token-item.is c.in_ok-lexeme.ensures)
+      c.in_ok-lexeme-2.ensures.becomes c.in_ok-push.ensures.ok (sym c.if-bad.ensures)),
+  gains_all _ _ _ c.loop-token.invariant.1 c.in_ok-lexeme-2.ensures.gains,
+)
 
 pub returns-clause-lexemes : goal.returns-clause-lexemes
 returns-clause-lexemes c = ends _ _ _ _ _ _ c.loop-token.invariant.0 (ap (map (lexeme_of c.args.text.now)) (drop_all _ _ c.loop-token-test.false))
