@@ -4,6 +4,7 @@ pub mod Moments
 pub mod Parts
 pub mod Points
 pub mod Ranked
+pub mod Reached
 pub mod Replaced
 pub mod Spelled
 pub mod Summed

@@ -19,7 +19,7 @@ next_multiple (pos j) s = (pos (suc j), (let e : pos (j * s) +ℤ pos s ≡ pos 
 next_multiple (negsuc zero) s = (pos 0, omega (arith, ints))
 next_multiple (negsuc (suc j)) s = (negsuc j, omega (arith, ints))
 
-after_is_multiple : (edge : ℤ) (s : ℕ) → 0 < s → IsMultiple (pos s) (multiple_after (pos s) edge)
+pub after_is_multiple : (edge : ℤ) (s : ℕ) → 0 < s → IsMultiple (pos s) (multiple_after (pos s) edge)
 after_is_multiple (pos a) s some =
     let parts : a / s * s + a % s ≡ a = div-add-mod' a s in
     let less : a % s < s = mod-lt a some in
@@ -33,7 +33,7 @@ after_is_multiple (negsuc a) s some =
     by zero parts less = (pos 0, omega (arith, ints, parts, less))
     by (suc q) parts less = (negsuc q, omega (arith, ints, parts, less))
 
-rem_in : (z : ℤ) (s : ℕ) → 0 < s → (pos 0 ≤ℤ int_rem_euclid z (pos s)) × (int_rem_euclid z (pos s) <ℤ pos s)
+pub rem_in : (z : ℤ) (s : ℕ) → 0 < s → (pos 0 ≤ℤ int_rem_euclid z (pos s)) × (int_rem_euclid z (pos s) <ℤ pos s)
 rem_in (pos a) s some = let b : a % s < s = mod-lt a some in (omega (arith, ints), omega (arith, ints, b))
 rem_in (negsuc a) s some = let b : a % s < s = mod-lt a some in (omega (arith, ints, b), omega (arith, ints, b))
 

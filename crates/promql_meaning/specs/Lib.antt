@@ -9,9 +9,11 @@ pub mod Laws
 pub mod Meaning
 pub mod Orders
 pub mod Outcomes
+pub mod Parts
 pub mod Ranges
 pub mod RankedGroups
 pub mod Ranks
+pub mod Reaches
 pub mod Relabels
 pub mod Results
 pub mod Selecting

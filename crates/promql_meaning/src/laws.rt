@@ -1,5 +1,6 @@
 //! Laws of meanings that users rely on. The functions do nothing: each stands for what its contract says.
 ghost use Rattle.promql_meaning.specs.Laws.{FixedSelectorStays, MinusTwice, MultiplesAreAll, OffsetIsEarlier, RanksArePart, SumOfEachRow, SumsOfSums};
+ghost use Rattle.promql_meaning.specs.Reaches.{NeedsAreMet};
 
 use xfrac::laws::{
     joined_sums_stand_for_both, lcm_is_least, part_overflows_whole, sum_ignores_order,
@@ -45,4 +46,9 @@ pub fn offset_is_earlier()
 /// The points of a subquery are the multiples of its step in its range, whose left edge is left out.
 pub fn multiples_are_all()
     ensures { MultiplesAreAll }
+{}
+
+/// The evaluation of a tree whose lengths, offsets and fixed times lie within limits leads to times alone.
+pub fn needs_are_met()
+    ensures { NeedsAreMet }
 {}
