@@ -104,8 +104,7 @@ module _ (asked : Asked) (longest latest : ℕ) (far : 300000 ≤ longest) (ends
       → IsTime (moment_of asked moment t) × IsTime (moment_of asked moment t -ℤ range)
   selector_met n d t moment range some le top near is length =
       let m = moment_near n t moment le near is in
-      let r = reach_some longest d some in
-      (
+      let r = reach_some longest d some in (
         is_time (n + longest) _ m (omega (arith, top, r)),
         is_time (n + longest + longest) _ (near_less (n + longest) longest _ range m length) (omega (arith, top, r)),
       )
@@ -158,8 +157,8 @@ module _ (asked : Asked) (longest latest : ℕ) (far : 300000 ≤ longest) (ends
       let further : Near (n + longest + longest) (moment_of asked moment t) = nearer (n + longest) (n + longest + longest) _ (omega arith) m in
       let points = points_near (n + longest + longest) (moment_of asked moment t) range.0 step.0 by.0 edge further in
       let ends :
-        IsTime t
-        × (IsTime step.0 × (IsTime (multiple_after step.0 (moment_of asked moment t -ℤ range.0)) × (IsTime (moment_of asked moment t) × (IsTime (moment_of asked moment t -ℤ range.0) × Unit {0})))) = (
+      IsTime t
+      × (IsTime step.0 × (IsTime (multiple_after step.0 (moment_of asked moment t -ℤ range.0)) × (IsTime (moment_of asked moment t) × (IsTime (moment_of asked moment t -ℤ range.0) × Unit {0})))) = (
         is_time n t near (omega (arith, top)),
         (
           is_time longest step.0 (length_near longest step.0 by.0 by.1) (omega (arith, top)),
@@ -168,8 +167,7 @@ module _ (asked : Asked) (longest latest : ℕ) (far : 300000 ≤ longest) (ends
             (is_time (n + longest) _ m (omega (arith, top)), (is_time (n + longest + longest) _ edge (omega (arith, top)), tt)),
           ),
         ),
-      ) in
-      (
+      ) in (
         by.0,
         (
           ends,
