@@ -4,6 +4,7 @@
 
 mod aggregates;
 mod answer;
+mod buckets;
 mod countings;
 mod elements;
 mod given;
@@ -15,6 +16,7 @@ mod ranks;
 
 pub use aggregates::group;
 pub use answer::{Answer, Outcome, Point, ResultSeries};
+pub use buckets::Bucket;
 pub use elements::map_rows;
 pub use given::{Given, Selection, Stamped, WindowRow, Windows, barren, no_marks, step_of_rows};
 pub use limits::{labelled, labels_with, put_one, without_label};
