@@ -1,0 +1,9 @@
+pub mod Children
+pub mod Framed
+pub mod Instants
+pub mod Literals
+pub mod Newest
+pub mod Patterned
+pub mod Rests
+pub mod Taken
+pub mod Walking

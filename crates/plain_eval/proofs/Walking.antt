@@ -1,0 +1,51 @@
+-- A walk over instants, one instant further.
+use Rattle.std.proofs.Common.{◌≡◌, ◌∙◌, ℕ, ◌+◌, ◌<◌, ◌≤◌, List, [], ◌∷◌, ◌++◌, length, get_or, drop, map, ap, sym, refl, Option, None, Some, append_assoc, append-nil}
+use Rattle.std.specs.Prelude.{ℤ}
+use Rattle.std.specs.Option.{option_or}
+use Rattle.std.proofs.lemmas.List.{drop_all}
+use Rattle.step_table.specs.Groups.{Names}
+use Rattle.step_table.specs.Unions.{united}
+use Rattle.step_table.specs.declared.marks.Marks.{Marks}
+use Rattle.step_table.specs.declared.step.Step.{Step}
+use Rattle.ticks.specs.declared.moment.Ms.{Ms}
+use Rattle.promql_meaning.specs.declared.answer.Outcome.{Outcome}
+use Rattle.promql_meaning.specs.declared.answer.Point.{Point}
+use Rattle.promql_meaning.specs.Results.{StepAt, all_marks, all_points, first_stop, points_at, steps_over, stop_at}
+use Rattle.plain_eval.proofs.Rests.{drop_at}
+
+abbrev pub at_instant : Ms → Step → StepAt
+at_instant u step = record { at = u; step = step }
+
+module _ (meant : ℤ → Step) (us : List Ms) (i : ℕ) (d : Ms) (step : Step) (within : i < length us) (is : step ≡ meant (get_or us i d).0) where
+  abbrev u : Ms
+  u = get_or us i d
+
+  abbrev left : List StepAt
+  left = steps_over meant (drop (i + 1) us)
+
+  -- what is left, with the step that was found at its front
+  split : steps_over meant (drop i us) ≡ at_instant u step ∷ left
+  split = ap (steps_over meant) (drop_at us i d within) ∙ ap (λ s. at_instant u s ∷ left) (sym is)
+
+  pub goes_on : (earlier : ℕ) → stop_at earlier (at_instant u step) ≡ None → first_stop earlier (steps_over meant (drop i us)) ≡ first_stop (earlier + length step.table.rows) left
+  goes_on earlier none = ap (first_stop earlier) split ∙ ap (λ o. option_or o (first_stop (earlier + length step.table.rows) left)) none
+
+  pub stops_here : (earlier : ℕ) (outcome : Outcome) → stop_at earlier (at_instant u step) ≡ Some outcome → first_stop earlier (steps_over meant (drop i us)) ≡ Some outcome
+  stops_here earlier outcome some = ap (first_stop earlier) split ∙ ap (λ o. option_or o (first_stop (earlier + length step.table.rows) left)) some
+
+  pub points_more : (old new all : List (Names × Point)) → new ≡ old ++ points_at (at_instant u step) → old ++ all_points (steps_over meant (drop i us)) ≡ all → new ++ all_points left ≡ all
+  points_more old new all made told =
+      ap (λ ps. ps ++ all_points left) made ∙ append_assoc old (points_at (at_instant u step)) (all_points left) ∙ sym (ap (λ ss. old ++ all_points ss) split) ∙ told
+
+  pub marks_more : (old new all : Marks) → new ≡ united old step.marks → all_marks old (steps_over meant (drop i us)) ≡ all → all_marks new left ≡ all
+  marks_more old new all made told = ap (λ m. all_marks m left) made ∙ sym (ap (all_marks old) split) ∙ told
+
+-- where no instant is left
+pub no_stop : (meant : ℤ → Step) (us : List Ms) (i earlier : ℕ) → length us ≤ i → first_stop earlier (steps_over meant (drop i us)) ≡ None
+no_stop meant us i earlier w = ap (λ vs. first_stop earlier (steps_over meant vs)) (drop_all i us w)
+
+pub points_done : (meant : ℤ → Step) (us : List Ms) (i : ℕ) (old all : List (Names × Point)) → length us ≤ i → old ++ all_points (steps_over meant (drop i us)) ≡ all → old ≡ all
+points_done meant us i old all w told = sym (append-nil old) ∙ ap (λ vs. old ++ all_points (steps_over meant vs)) (sym (drop_all i us w)) ∙ told
+
+pub marks_done : (meant : ℤ → Step) (us : List Ms) (i : ℕ) (old all : Marks) → length us ≤ i → all_marks old (steps_over meant (drop i us)) ≡ all → old ≡ all
+marks_done meant us i old all w told = ap (λ vs. all_marks old (steps_over meant vs)) (sym (drop_all i us w)) ∙ told

@@ -1,0 +1,5 @@
+pub mod Frames
+pub mod Numbered
+pub mod Ranked
+pub mod Ready
+pub mod Walks

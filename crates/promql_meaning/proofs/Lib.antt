@@ -1,0 +1,10 @@
+pub mod EachRow
+pub mod Filled
+pub mod Found
+pub mod Moments
+pub mod Parts
+pub mod Ranked
+pub mod Singles
+pub mod Spelled
+pub mod Twice
+pub mod Weak

@@ -1,0 +1,72 @@
+-- Subqueries: an expression at the multiples of a step in a range. (Prometheus querying, "Subquery"; ranges are open on the left.)
+use Rattle.std.specs.Prelude.{ℕ, zero, suc, List, [], ◌∷◌, ◌++◌, map, ℤ, ◌+ℤ◌, ◌-ℤ◌, int_lt, Option, if◌then◌else◌}
+use Rattle.std.specs.Int.{int_rem_euclid}
+use Rattle.std.specs.List.{filter_map}
+use Rattle.ticks.specs.Grids.{step_count}
+use Rattle.ticks.specs.declared.moment.Ms.{Ms}
+use Rattle.step_table.specs.Groups.{Names, gathered}
+use Rattle.step_table.specs.Unions.{united}
+use Rattle.step_table.specs.declared.marks.Marks.{Marks}
+use Rattle.step_table.specs.declared.step.Row.{Row}
+use Rattle.step_table.specs.declared.step.Step.{Step}
+use Rattle.xfrac.specs.declared.value.XFrac.{XFrac}
+use Rattle.promql_meaning.specs.declared.given.WindowRow.{WindowRow}
+use Rattle.promql_meaning.specs.declared.given.Windows.{Windows}
+use Rattle.promql_meaning.specs.Givens.{no_marks}
+use Rattle.promql_meaning.specs.Selecting.{window_row}
+
+-- ---- instants
+
+-- so many instants from a first one on, a step apart
+abbrev pub instants : ℤ → ℤ → ℕ → List ℤ
+instants first step zero = []
+instants first step (suc n) = first ∷ instants (first +ℤ step) step n
+
+-- a first instant and those after it, a step apart, up to a last time
+abbrev pub instants_up_to : ℤ → ℤ → ℤ → List ℤ
+instants_up_to first last step = if int_lt last first then [] else instants first step (step_count first last step)
+
+-- the least multiple of a step that is later than a time
+abbrev pub multiple_after : ℤ → ℤ → ℤ
+multiple_after step edge = edge +ℤ (step -ℤ int_rem_euclid edge step)
+
+-- the multiples of a step in the range up to a moment, whose left edge is left out
+abbrev pub multiples : ℤ → ℤ → ℤ → List ℤ
+multiples m range step = instants_up_to (multiple_after step (m -ℤ range)) m step
+
+abbrev pub as_times : List ℤ → List Ms
+as_times us = map (λ (u : ℤ). record { 0 = u }) us
+
+-- ---- a meaning at some instants
+
+-- each row of a step beside the instant that it is of
+abbrev pub timed : Ms → Step → List (Names × (Ms × XFrac))
+timed u step = map (λ (row : Row). (row.labels, (u, row.value))) step.table.rows
+
+-- the rows of all instants, each beside its instant
+abbrev pub rows_over : (ℤ → Step) → List Ms → List (Names × (Ms × XFrac))
+rows_over meaning [] = []
+rows_over meaning (u ∷ us) = timed u (meaning u.0) ++ rows_over meaning us
+
+-- the notes and marks of all instants together
+abbrev pub marks_over : (ℤ → Step) → Marks → List Ms → Marks
+marks_over meaning marks [] = marks
+marks_over meaning marks (u ∷ us) = marks_over meaning (united marks (meaning u.0).marks) us
+
+abbrev pub group_window : Names × List (Ms × XFrac) → Option WindowRow
+group_window group = window_row group.0 group.1
+
+-- for all labels of rows, the times and values of the rows that have them
+abbrev pub gathered_windows : List (Names × (Ms × XFrac)) → List WindowRow
+gathered_windows rows = filter_map group_window (gathered rows)
+
+-- the windows of a subquery at a moment: at the multiples of its step in the range up to it, what the inner expression means
+abbrev pub points_of : (ℤ → Step) → Ms → Ms → ℤ → Windows
+points_of inner range step m =
+    record {
+      moment = record { 0 = m };
+      range = range;
+      rules = [];
+      rows = gathered_windows (rows_over inner (as_times (multiples m range.0 step.0)));
+      marks = marks_over inner no_marks (as_times (multiples m range.0 step.0));
+    }

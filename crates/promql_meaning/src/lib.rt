@@ -1,0 +1,22 @@
+//! What a query means at an instant and over a grid: the definitions, in the words of the Prometheus querying documentation,
+//! the types of a result, and the calls on steps that stand beside them.
+#![tactic(auto)]
+
+mod aggregates;
+mod answer;
+mod countings;
+mod elements;
+mod given;
+mod groups;
+pub mod laws;
+mod notes;
+mod ranks;
+
+pub use aggregates::group;
+pub use answer::{Answer, Outcome, Point, ResultSeries};
+pub use elements::map_rows;
+pub use given::{Given, Selection, Stamped, WindowRow, Windows};
+pub use notes::with_notes;
+
+#[cfg(test)]
+mod tests;

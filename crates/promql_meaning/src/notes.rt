@@ -1,0 +1,62 @@
+ghost use Rattle.promql_meaning.specs.Outcomes.{is_outside as is_outside_unit, range_notes_of, with_notes};
+ghost use Rattle.std.specs.Prelude.{◌≡◌, IfOk};
+ghost use Rattle.step_table.specs.Orders.{note_cmp};
+ghost use Rattle.step_table.specs.Unions.{set_of};
+
+use label_set::Items;
+use std::alloc::{AllocError, Global};
+use std::collections::BTreeSet;
+use step_table::{Marks, Note, Row};
+use xfrac::{CompareOp, XFrac, compare, is_nan, whole};
+
+/// The marks and notes, with the notes of a list in any order. The only error is want of memory.
+pub fn with_notes(alloc: Global, marks: Marks, notes: Items<Note>) -> Result<Marks, AllocError>
+    ensures { IfOk result (λ m. m ≡ with_notes marks notes) }
+{
+    let mut marks = marks;
+    let more = Marks {
+        fatal: Items::new(alloc),
+        notes: in_order(alloc, once(alloc, notes)?)?,
+    };
+    marks.unite(&more)?;
+    Ok(marks)
+}
+
+/// The notes of a list, each once.
+fn once(alloc: Global, notes: Items<Note>) -> Result<BTreeSet<Note>, AllocError>
+    ensures { IfOk result (λ set. set.keys ≡ set_of note_cmp notes) }
+{
+    let mut set = BTreeSet::new(alloc);
+    for note in notes.into_vec() {
+        set.insert(note)?;
+    }
+    Ok(set)
+}
+
+fn in_order(alloc: Global, notes: BTreeSet<Note>) -> Result<Items<Note>, AllocError>
+    ensures { IfOk result (λ list. list ≡ notes.keys) }
+{
+    let mut list = Items::new(alloc);
+    for note in notes {
+        list.push(note)?;
+    }
+    Ok(list)
+}
+
+/// Whether a quantile is NaN, below 0 or above 1.
+fn is_outside(q: &XFrac) -> bool
+    ensures { result ≡ is_outside_unit q.now }
+{
+    is_nan(q) || compare(CompareOp::Lt, q, &whole(0)) || compare(CompareOp::Gt, q, &whole(1))
+}
+
+/// The note of a quantile outside 0 to 1, where there are rows. The only error is want of memory.
+pub(crate) fn range_notes(alloc: Global, q: &XFrac, rows: &[Row]) -> Result<Items<Note>, AllocError>
+    ensures { IfOk result (λ notes. notes ≡ range_notes_of q.now rows.now) }
+{
+    let mut notes = Items::new(alloc);
+    if !rows.is_empty() && is_outside(q) {
+        notes.push(Note::QuantileRange(*q))?;
+    }
+    Ok(notes)
+}
