@@ -1,9 +1,17 @@
+pub mod Absent
+pub mod Bounds
 pub mod Children
 pub mod Framed
 pub mod Instants
+pub mod Joined
 pub mod Literals
+pub mod Merging
 pub mod Newest
 pub mod Patterned
+pub mod Raising
 pub mod Rests
+pub mod Sorting
+pub mod Stable
 pub mod Taken
+pub mod Templated
 pub mod Walking
