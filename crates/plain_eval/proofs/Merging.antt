@@ -159,7 +159,7 @@ module _ (equal : EqualIsSame) (reversed : OrderIsReversed) (transitive : LessIs
   strict_same [] [] sk sl f = refl
   strict_same [] (l ∷ ls) sk sl f = let t : false ≡ true = f l ∙ ap (λ x. x || list_any (is_at (number_order l)) ls) (at_itself l) in absurd (cc)
   strict_same (k ∷ ks) [] sk sl f = let t : true ≡ false = sym (ap (λ x. x || list_any (is_at (number_order k)) ks) (at_itself k)) ∙ f k in absurd (cc)
-  strict_same (k ∷ ks) (l ∷ ls) sk sl f = by (number_order k l) refl
+  strict_same (k ∷ ks) (l ∷ ls) sk sl f = by (λ g. strict_same ks ls sk.1 sl.1 g) (number_order k l) refl
     where
       absent_in : (a : XFrac) (m : XFrac) (ms : List XFrac) → AllByRecursion (λ y. number_order m y ≡ Less) ms → number_order a m ≡ Less → list_any (is_at (number_order a)) (m ∷ ms) ≡ false
       absent_in a m ms all e = none_at a (m ∷ ms) (e, recursion_map (λ y. number_order m y ≡ Less) (λ y. number_order a y ≡ Less) (λ y h. number_total.trans a m y e h) ms all)
@@ -178,14 +178,14 @@ module _ (equal : EqualIsSame) (reversed : OrderIsReversed) (transitive : LessIs
           equal_from Equal h = refl
           equal_from Greater h = absurd (cc)
 
-      by : (o : Ordering) → number_order k l ≡ o → k ∷ ks ≡ l ∷ ls
-      by Less e = let t : true ≡ false = sym (ap (λ x. x || list_any (is_at (number_order k)) ks) (at_itself k)) ∙ f k ∙ absent_in k l ls sl.0 e in absurd (cc)
-      by Greater e =
+      by : (((b : XFrac) → list_any (is_at (number_order b)) ks ≡ list_any (is_at (number_order b)) ls) → ks ≡ ls) → (o : Ordering) → number_order k l ≡ o → k ∷ ks ≡ l ∷ ls
+      by rest Less e = let t : true ≡ false = sym (ap (λ x. x || list_any (is_at (number_order k)) ks) (at_itself k)) ∙ f k ∙ absent_in k l ls sl.0 e in absurd (cc)
+      by rest Greater e =
           let less : number_order l k ≡ Less = number_total.antisymm l k ∙ ap ordering_reverse e in
           let t : false ≡ true = sym (absent_in l k ks sk.0 less) ∙ f l ∙ ap (λ x. x || list_any (is_at (number_order l)) ls) (at_itself l) in absurd (cc)
-      by Equal e =
+      by rest Equal e =
           let same = number_ties k l e in
-          ap (λ x. x ∷ ks) same ∙ ap (λ xs. l ∷ xs) (strict_same ks ls sk.1 sl.1 (λ b. tails same b (is_at (number_order b) k) refl))
+          ap (λ x. x ∷ ks) same ∙ ap (λ xs. l ∷ xs) (rest (λ b. tails same b (is_at (number_order b) k) refl))
 
   any_kept : (b : XFrac) (bs : List Bucket) → list_any (is_at (number_order b)) (bounds bs) ≡ some (at b bs)
   any_kept b [] = refl
