@@ -118,16 +118,8 @@ module _ (equal : EqualIsSame) (reversed : OrderIsReversed) (transitive : LessIs
       by Greater e = ap (λ o. ordering_then o (note_cmp (QuantileRange a) (QuantileRange b))) e ∙ sym e
       by Equal e =
           let same : a ≡ b = equal a b na nb e in
-          let tied : note_cmp (QuantileRange a) (QuantileRange b) ≡ Equal = tie (is_eq (note_cmp (QuantileRange a) (QuantileRange a))) (tied_itself note_cmp_total (QuantileRange a)) same in
+          let tied : note_cmp (QuantileRange a) (QuantileRange b) ≡ Equal = ap (λ v. note_cmp (QuantileRange a) (QuantileRange v)) (sym same) ∙ tied_itself note_cmp_total (QuantileRange a) in
           ap (λ o. ordering_then o (note_cmp (QuantileRange a) (QuantileRange b))) e ∙ tied ∙ sym e
-        where
-          equal_if : (o : Ordering) → is_eq o ≡ true → o ≡ Equal
-          equal_if Less h = absurd (cc)
-          equal_if Equal h = refl
-          equal_if Greater h = absurd (cc)
-
-          tie : (t : Bool) → is_eq (note_cmp (QuantileRange a) (QuantileRange a)) ≡ true → a ≡ b → note_cmp (QuantileRange a) (QuantileRange b) ≡ Equal
-          tie t h same = ap (λ v. note_cmp (QuantileRange a) (QuantileRange v)) (sym same) ∙ equal_if (note_cmp (QuantileRange a) (QuantileRange a)) h
 
   pub below_weak : IsStrictWeakOrder below
   below_weak = ranks_by number_total (λ (b : Bucket). b.bound)
@@ -151,7 +143,7 @@ module _ (equal : EqualIsSame) (reversed : OrderIsReversed) (transitive : LessIs
   none_at a (k ∷ ks) all = ap (λ t. t || list_any (is_at (number_order a)) ks) (not_at a k all.0) ∙ none_at a ks all.1
 
   at_itself : (a : XFrac) → is_at (number_order a) a ≡ true
-  at_itself a = tied_itself number_total a
+  at_itself a = ap is_eq (tied_itself number_total a)
 
   strict_same : (ks ls : List XFrac) → IsStrictlySortedBy number_order ks → IsStrictlySortedBy number_order ls
       → ((b : XFrac) → list_any (is_at (number_order b)) ks ≡ list_any (is_at (number_order b)) ls) → ks ≡ ls
@@ -294,7 +286,12 @@ module _ (equal : EqualIsSame) (reversed : OrderIsReversed) (transitive : LessIs
     parted [] all up = (tt, tt)
     parted (y ∷ ys) all up =
         elim (here x.bound y) as (λ t. here x.bound y ≡ t → Equals (take (cond t (1 + prefix_len (here x.bound) ys) 0) (y ∷ ys)) × Follow (drop (cond t (1 + prefix_len (here x.bound) ys) 0) (y ∷ ys))) [
-          | true ↦ λ h. let rest = parted ys all.1 (rises_tail below below_weak y ys up) in ((is_equal (number_order x.bound y.bound) h, rest.0), rest.1)
+          | true ↦ λ h.
+              let rest = parted ys all.1 (rises_tail below below_weak y ys up) in
+              let P : ℕ → Type 0 = λ n. Equals (take n (y ∷ ys)) × Follow (drop n (y ∷ ys)) in
+              let size : suc (prefix_len (here x.bound) ys) ≡ 1 + prefix_len (here x.bound) ys = omega arith in
+              let first : Equals (y ∷ take (prefix_len (here x.bound) ys) ys) = (is_equal (number_order x.bound y.bound) h, rest.0) in
+              subst P size (first, rest.1)
           | false ↦ λ h.
               let e = less_from (number_order x.bound y.bound) (number_order y.bound x.bound) h (number_total.antisymm y.bound x.bound) all.0 in
               (tt, (e, follow_on y ys e (all_above below below_weak y ys up)))
