@@ -1,9 +1,12 @@
+pub mod Called
 pub mod Children
 pub mod Framed
 pub mod Instants
 pub mod Literals
+pub mod Meanings
 pub mod Newest
 pub mod Patterned
 pub mod Rests
+pub mod Scalars
 pub mod Taken
 pub mod Walking

@@ -1,16 +1,26 @@
 -- A walk over instants, one instant further.
-use Rattle.std.proofs.Common.{◌≡◌, ◌∙◌, ℕ, ◌+◌, ◌<◌, ◌≤◌, List, [], ◌∷◌, ◌++◌, length, get_or, drop, map, ap, sym, refl, Option, None, Some, append_assoc, append-nil}
-use Rattle.std.specs.Prelude.{ℤ}
+use Rattle.std.proofs.Common.{◌≡◌, ◌∙◌, ℕ, ◌+◌, ◌<◌, ◌≤◌, Bool, true, false, List, [], ◌∷◌, ◌++◌, length, get_or, drop, map, ap, sym, subst, refl, arith, Option, None, Some, append_assoc, append-nil}
+use Rattle.std.specs.Prelude.{ℤ, nat_lt, if◌then◌else◌}
+use Rattle.std.specs.List.{AllByRecursion}
 use Rattle.std.specs.Option.{option_or}
+use Rattle.std.proofs.lemmas.Bool.Decides.{nat_tests}
 use Rattle.std.proofs.lemmas.List.{drop_all}
 use Rattle.step_table.specs.Groups.{Names}
 use Rattle.step_table.specs.Unions.{united}
+use Rattle.promql_ast.specs.declared.tree.Expr.{Expr}
+use Rattle.step_table.specs.declared.marks.Mark.{Mark}
 use Rattle.step_table.specs.declared.marks.Marks.{Marks}
+use Rattle.step_table.specs.declared.marks.Note.{Note}
+use Rattle.step_table.specs.declared.step.Row.{Row}
 use Rattle.step_table.specs.declared.step.Step.{Step}
 use Rattle.ticks.specs.declared.moment.Ms.{Ms}
 use Rattle.promql_meaning.specs.declared.answer.Outcome.{Outcome}
+use Rattle.promql_meaning.specs.declared.answer.Outcome.TheVariants.{TooManyRows}
 use Rattle.promql_meaning.specs.declared.answer.Point.{Point}
+use Rattle.promql_meaning.specs.Conditions.{AreMet, IsMet, needs_of, needs_over}
+use Rattle.promql_meaning.specs.Selecting.{Asked}
 use Rattle.promql_meaning.specs.Results.{StepAt, all_marks, all_points, first_stop, points_at, steps_over, stop_at}
+use Rattle.plain_eval.proofs.Children.{all_back, all_front}
 use Rattle.plain_eval.proofs.Rests.{drop_at}
 
 abbrev pub at_instant : Ms → Step → StepAt
@@ -49,3 +59,27 @@ points_done meant us i old all w told = sym (append-nil old) ∙ ap (λ vs. old 
 
 pub marks_done : (meant : ℤ → Step) (us : List Ms) (i : ℕ) (old all : Marks) → length us ≤ i → all_marks old (steps_over meant (drop i us)) ≡ all → old ≡ all
 marks_done meant us i old all w told = ap (λ vs. all_marks old (steps_over meant vs)) (sym (drop_all i us w)) ∙ told
+
+-- what an instant needs, and those behind it
+pub met_here : (asked : Asked) (e : Expr) (us : List Ms) (i : ℕ) (d : Ms) → i < length us → AreMet asked (needs_over (needs_of asked e) (drop i us))
+    → AreMet asked (needs_of asked e (get_or us i d).0) × AreMet asked (needs_over (needs_of asked e) (drop (i + 1) us))
+met_here asked e us i d w met =
+    let needs = needs_of asked e in
+    let here = needs (get_or us i d).0 in
+    let rest = needs_over needs (drop (i + 1) us) in
+    let all = subst (λ vs. AreMet asked (needs_over needs vs)) (drop_at us i d w) met in
+    (all_front (IsMet asked.kept) here rest all, all_back (IsMet asked.kept) here rest all)
+
+-- where an evaluation goes on, there are few rows
+few_of : (earlier : ℕ) (at : Ms) (rows : List Row) (fatal : List Mark) (notes : List Note)
+    → stop_at earlier (at_instant at (record { table = record { rows = rows }; marks = record { fatal = fatal; notes = notes } })) ≡ None → earlier + length rows ≤ 4000000
+few_of earlier at rows [] notes none =
+    let n = earlier + length rows in
+    elim (nat_lt 4000000 n) as (λ b. nat_lt 4000000 n ≡ b → (if b then Some (TooManyRows at) else None) ≡ None → n ≤ 4000000) [
+      | true ↦ λ e h. absurd (cc)
+      | false ↦ λ e h. grind (arith, nat_tests, e)
+    ] refl none
+few_of earlier at rows (mark ∷ fatal) notes none = absurd (cc)
+
+pub few : (earlier : ℕ) (at : Ms) (step : Step) → stop_at earlier (at_instant at step) ≡ None → earlier + length step.table.rows ≤ 4000000
+few earlier at step none = few_of earlier at step.table.rows step.marks.fatal step.marks.notes none

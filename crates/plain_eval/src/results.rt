@@ -1,4 +1,5 @@
 //! The result of a query over a grid.
+ghost use Rattle.plain_eval.specs.Ranked.{order_of};
 ghost use Rattle.plain_eval.specs.Ready.{ArePlaced};
 ghost use Rattle.plain_eval.specs.Walks.{IsWalked};
 ghost use Rattle.promql_meaning.specs.Conditions.{AreMet, needs_of, needs_over};
@@ -7,13 +8,14 @@ ghost use Rattle.promql_meaning.specs.Orders.{in_order as series_in_order};
 ghost use Rattle.promql_meaning.specs.Results.{gives_scalar, grid_times, order_asked, points_at, result_of, series_of_group, steps_over, stop_at as stop_of};
 ghost use Rattle.promql_meaning.specs.Selecting.{asked_over};
 ghost use Rattle.promql_type.specs.TypedTrees.{placed_of, tree_of};
+ghost use Rattle.std.specs.Option.{option_map};
 ghost use Rattle.std.specs.Prelude.{◌≡◌, ◌≤◌, ◌++◌, map, IfOk, OnOk};
 ghost use Rattle.step_table.specs.Groups.{gathered};
 ghost use Rattle.step_table.specs.Unions.{united};
 
 use crate::evaluating::at;
 use crate::givens::no_marks;
-use crate::orders::{in_order, root_order};
+use crate::orders::{ByValue, in_order, root_order};
 use crate::points::instants_up_to;
 use label_set::{Items, Labels};
 use match_rule::Patterns;
@@ -137,7 +139,18 @@ fn add_step(found: &mut Found, t: Ms, step: Step) -> Result<(), AllocError>
     found.marks.unite(&marks)
 }
 
+/// The order by value that the root of an instant query asks for.
+fn order_asked(alloc: Global, e: &Typed, instant: bool) -> Result<Option<ByValue>, AllocError>
+    ensures { IfOk result (λ order. option_map order_of order ≡ order_asked instant (tree_of e.now)) }
+{
+    if !instant {
+        return Ok(None);
+    }
+    root_order(alloc, e.expr())
+}
+
 /// The answer of all instants.
+#[tactic(auto, using(crate::proofs::Scalars::tells_scalar))]
 fn answer(alloc: Global, e: &Typed, instant: bool, found: Found) -> Result<Answer, AllocError>
     ensures { IfOk result (λ answer. answer ≡ record {
       scalar = gives_scalar (tree_of e.now);
@@ -145,11 +158,7 @@ fn answer(alloc: Global, e: &Typed, instant: bool, found: Found) -> Result<Answe
       notes = found.marks.notes;
     }) }
 {
-    let order = if instant {
-        root_order(alloc, e.expr())?
-    } else {
-        None
-    };
+    let order = order_asked(alloc, e, instant)?;
     let series = series_of(alloc, found.points)?;
     Ok(Answer {
         scalar: e.is_scalar(),
