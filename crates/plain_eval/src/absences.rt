@@ -1,8 +1,10 @@
 //! What is absent.
-ghost use Rattle.label_set.specs.Labels.{byte_cmp};
-ghost use Rattle.promql_meaning.specs.Absences.{absence, absent_labels, absent_value, equal_text as text_of_equality, kinds_on};
+ghost use Rattle.label_set.specs.Labels.{byte_cmp, is_named, metric_name};
+ghost use Rattle.plain_eval.specs.Absent.{pairs_on};
+ghost use Rattle.promql_meaning.specs.Absences.{absence, absent_labels, absent_value, equal_text as text_of_equality, is_equality, kinds_on};
 ghost use Rattle.promql_meaning.specs.Meaning.{absent};
-ghost use Rattle.std.specs.Prelude.{◌≡◌, map, IfOk, bytes_eq, option_map};
+ghost use Rattle.std.specs.Prelude.{◌≡◌, ◌∷◌, [], map, filter, length, Some, None, IfOk, MatchBool, option_map};
+ghost use Rattle.step_table.specs.Operators.{all_put};
 ghost use Rattle.step_table.specs.Unions.{set_of};
 
 use crate::givens::{barren, into_step, no_marks};
@@ -67,14 +69,23 @@ fn absent_labels(alloc: Global, rules: &[Rule]) -> Result<Option<Labels>, AllocE
 }
 
 /// Puts the value that a label of what is absent has, if it has one, and answers whether the limits are kept.
-fn put_absent(labels: &mut Labels, rules: &[Rule], label: &str) -> Result<bool, AllocError> {
-    if label == METRIC_NAME {
+#[tactic(auto, using(crate::proofs::Absent::metric_stays, crate::proofs::Absent::missing_stays, crate::proofs::Absent::value_put))]
+fn put_absent(labels: &mut Labels, rules: &[Rule], label: &str) -> Result<bool, AllocError>
+    ensures { IfOk result (λ taken. MatchBool taken (all_put labels.old (pairs_on rules.now label.now) ≡ Some labels.new) (all_put labels.old (pairs_on rules.now label.now) ≡ None)) }
+{
+    if is_metric(label) {
         return Ok(true);
     }
     match absent_value(rules, label) {
         Some(value) => put_one(labels, label, value),
         None => Ok(true),
     }
+}
+
+fn is_metric(label: &str) -> bool
+    ensures { result ≡ is_named (metric_name ∷ []) label.now }
+{
+    METRIC_NAME == label
 }
 
 /// The labels that rules are on, each once.
@@ -92,19 +103,26 @@ fn labels_of(alloc: Global, rules: &[Rule]) -> Result<BTreeSet<Text>, AllocError
 fn absent_value<'a>(rules: &'a [Rule], label: &str) -> Option<&'a str>
     ensures { option_map (λ text. text.now) result ≡ absent_value (kinds_on rules.now label.now) }
 {
-    let mut equalities: u64 = 0;
+    let mut equalities: usize = 0;
     let mut last = None;
     for rule in rules {
-        if rule.label.as_str() == label {
-            last = equal_text(&rule.kind);
-            equalities = equalities.saturating_add(is_equality(&rule.kind) as u64);
+        if rule.label.as_str() != label {
+            continue;
         }
+        equalities += equality_count(&rule.kind);
+        last = equal_text(&rule.kind);
     }
     if equalities == 1 { last } else { None }
 }
 
-fn is_equality(kind: &RuleKind) -> bool {
-    matches!(kind, RuleKind::Eq(_))
+/// 1 for a `=` rule, and 0 for any other.
+fn equality_count(kind: &RuleKind) -> usize
+    ensures { result ≡ length (filter is_equality (kind.now ∷ [])) }
+{
+    match kind {
+        RuleKind::Eq(_) => 1,
+        RuleKind::Ne(_) | RuleKind::Re(_) | RuleKind::Nre(_) => 0,
+    }
 }
 
 /// The text of a `=` rule, unless it is empty.

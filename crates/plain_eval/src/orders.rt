@@ -1,9 +1,12 @@
 //! The order in which the series of an answer stand.
-ghost use Rattle.plain_eval.specs.Ranked.{order_of};
+ghost use Rattle.plain_eval.specs.Ranked.{IsRanked, order_of, ranked_below, ranked_order};
+ghost use Rattle.promql_meaning.specs.NumberOrder.{tidy_order};
 ghost use Rattle.promql_meaning.specs.Orders.{aggregate_order, call_order, in_order, root_order, value_of_series};
 ghost use Rattle.promql_meaning.specs.Ranks.{value_order};
+ghost use Rattle.std.specs.List.{All};
 ghost use Rattle.std.specs.Option.{option_map};
-ghost use Rattle.std.specs.Prelude.{◌≡◌, Some, IfOk};
+ghost use Rattle.std.specs.Prelude.{◌≡◌, [], Some, true, false, fold, map, IfOk};
+ghost use Rattle.window_fn.specs.Aggregates.{inserted};
 
 use func_table::{Aggregate, Func};
 use label_set::{Grouping, Items, Labels};
@@ -11,6 +14,7 @@ use promql_ast::{Expr, Node};
 use promql_meaning::ResultSeries;
 use std::alloc::{AllocError, Global};
 use std::cmp::Ordering;
+use xfrac::laws::{is_number, order_is_total};
 use xfrac::{XFrac, cmp_total, is_nan};
 
 /// By value up or down, within the groups of a grouping.
@@ -80,9 +84,9 @@ pub fn in_order(
 
 /// A series beside the labels of its group.
 #[derive(Drop)]
-struct Ranked {
-    group: Labels,
-    series: ResultSeries,
+pub(crate) struct Ranked {
+    pub group: Labels,
+    pub series: ResultSeries,
 }
 
 fn by_value(
@@ -93,11 +97,7 @@ fn by_value(
     ensures { IfOk result (λ sorted. sorted ≡ in_order (Some (order_of order.now)) series) }
 {
     let ranked = grouped(alloc, &order.by, series)?;
-    let sorted = if order.down {
-        from_greatest(ranked)
-    } else {
-        from_least(ranked)
-    };
+    let sorted = sorted(ranked, order.down)?;
     let mut series = Items::new(alloc);
     for one in sorted {
         series.push(one.series)?;
@@ -105,13 +105,18 @@ fn by_value(
     Ok(series)
 }
 
+/// Each series beside the labels of its group.
 fn grouped(
     alloc: Global,
     by: &Grouping,
     series: Items<ResultSeries>,
-) -> Result<Vec<Ranked>, AllocError> {
+) -> Result<Vec<Ranked>, AllocError>
+    ensures series { IfOk result (λ ranked. map (λ r. r.series) ranked.items ≡ series) }
+    ensures ranked { IfOk result (λ ranked. All (IsRanked by.now) ranked.items) }
+{
     let mut ranked = Vec::new(alloc);
     for series in series.into_vec() {
+        is_number(&value_of(&series));
         ranked.push(Ranked {
             group: series.labels.signature(!by.without, &by.names)?,
             series,
@@ -120,28 +125,56 @@ fn grouped(
     Ok(ranked)
 }
 
-fn from_greatest(ranked: Vec<Ranked>) -> Vec<Ranked> {
-    let mut sorted = ranked;
-    sorted.sort_unstable_by(|a, b| series_order(true, a, b));
-    sorted
+/// Each direction has a comparison of its own, since a sort is known to be by one order alone where that takes nothing from
+/// outside.
+#[tactic(auto, using(crate::proofs::Sorting::same_direction))]
+fn sorted(ranked: Vec<Ranked>, down: bool) -> Result<Vec<Ranked>, AllocError>
+    ensures { IfOk result (λ sorted. sorted.items ≡ fold (inserted (ranked_below down)) [] ranked.items) }
+{
+    if down {
+        from_greatest(ranked)
+    } else {
+        from_least(ranked)
+    }
 }
 
-fn from_least(ranked: Vec<Ranked>) -> Vec<Ranked> {
+fn from_greatest(ranked: Vec<Ranked>) -> Result<Vec<Ranked>, AllocError>
+    ensures { IfOk result (λ sorted. sorted.items ≡ fold (inserted (ranked_below true)) [] ranked.items) }
+{
     let mut sorted = ranked;
-    sorted.sort_unstable_by(|a, b| series_order(false, a, b));
-    sorted
+    order_is_total();
+    sorted.sort_by(|a, b| series_order(true, a, b))?;
+    Ok(sorted)
+}
+
+fn from_least(ranked: Vec<Ranked>) -> Result<Vec<Ranked>, AllocError>
+    ensures { IfOk result (λ sorted. sorted.items ≡ fold (inserted (ranked_below false)) [] ranked.items) }
+{
+    let mut sorted = ranked;
+    order_is_total();
+    sorted.sort_by(|a, b| series_order(false, a, b))?;
+    Ok(sorted)
 }
 
 /// Groups by their labels, in a group by value, and equal values by labels.
-fn series_order(down: bool, a: &Ranked, b: &Ranked) -> Ordering {
-    let values = value_order(down, &value_of(&a.series), &value_of(&b.series));
+fn series_order(down: bool, a: &Ranked, b: &Ranked) -> Ordering
+    ensures { result ≡ ranked_order down a.now b.now }
+{
+    let values = tidy_order(down, &value_of(&a.series), &value_of(&b.series));
     a.group
         .cmp(&b.group)
-        .then(values)
-        .then(a.series.labels.cmp(&b.series.labels))
+        .then(values.then(a.series.labels.cmp(&b.series.labels)))
 }
 
 /// Up or down; NaN comes last in both.
+fn tidy_order(down: bool, a: &XFrac, b: &XFrac) -> Ordering
+    ensures { result ≡ tidy_order down a.now b.now }
+{
+    is_number(a);
+    is_number(b);
+    value_order(down, a, b)
+}
+
 fn value_order(down: bool, a: &XFrac, b: &XFrac) -> Ordering
     ensures { result ≡ value_order down a.now b.now }
 {

@@ -1,15 +1,17 @@
 //! New values for a label of each row.
-ghost use Rattle.match_rule.specs.Patterns.{IsWholeId};
-ghost use Rattle.promql_meaning.specs.Relabels.{joined_labels, label_joined, label_replaced, replaced_labels, separated};
 ghost use Rattle.label_set.specs.Labels.{value_of};
+ghost use Rattle.match_rule.specs.Patterns.{IsWholeId};
+ghost use Rattle.plain_eval.specs.Joined.{gap_at};
+ghost use Rattle.promql_meaning.specs.Relabels.{joined_labels, label_joined, label_replaced, replaced_labels, separated};
 ghost use Rattle.std.specs.Prelude.{◌≡◌, List, ℕ, true, Some, map, slice_get, string_bytes, IfOk};
+ghost use Rattle.step_table.specs.Matching.{labelled as with_labels};
 
 use crate::labelled::{labelled, with_label};
 use crate::templates::expanded;
 use label_set::{Items, Labels, PatternId, Text};
 use match_rule::{Patterns, Spans};
 use std::alloc::{AllocError, Global};
-use step_table::{Outcome, Step, settled, taken};
+use step_table::{Outcome, Row, Step, settled, taken};
 
 /// What label_replace is asked for; the pattern is one of `Patterns::whole`.
 #[derive(Drop)]
@@ -36,10 +38,24 @@ pub fn label_replaced(
     let Step { table, marks } = step;
     let mut outcomes = Items::new(alloc);
     for row in table.rows.into_vec() {
-        let labels = replaced_labels(alloc, replacing, row.labels, patterns)?;
-        outcomes.push(labelled(alloc, labels, row.value))?;
+        outcomes.push(replaced_outcome(alloc, replacing, row, patterns)?)?;
     }
     settled(alloc, taken(alloc, marks, outcomes)?)
+}
+
+fn replaced_outcome(
+    alloc: Global,
+    replacing: &Replacing,
+    row: Row,
+    patterns: &mut Patterns,
+) -> Result<Outcome, AllocError>
+    requires { IsWholeId patterns.old replacing.now.pattern.0 }
+    ensures outcome { IfOk result (λ o. (text : List ℕ) → slice_get patterns.old replacing.now.pattern.0 ≡ Some (true, text)
+        → o ≡ with_labels (replaced_labels replacing.now.target replacing.now.template replacing.now.source text row.labels) row.value) }
+    ensures same { patterns.new ≡ patterns.old }
+{
+    let labels = replaced_labels(alloc, replacing, row.labels, patterns)?;
+    Ok(labelled(alloc, labels, row.value))
 }
 
 fn replaced_labels(
@@ -55,7 +71,8 @@ fn replaced_labels(
 {
     let value = labels.get(replacing.source.as_str());
     let mut spans = Spans::new(alloc);
-    if !patterns.groups(replacing.pattern, value, &mut spans)? {
+    let matches = patterns.groups(replacing.pattern, value, &mut spans)?;
+    if !matches {
         return Ok(Some(labels));
     }
     let value = expanded(alloc, &spans, value, replacing.template.as_str())?;
@@ -75,11 +92,23 @@ pub fn label_joined(
     let Step { table, marks } = step;
     let mut outcomes = Items::new(alloc);
     for row in table.rows.into_vec() {
-        let value = joined_values(alloc, separator, sources, &row.labels)?;
-        let labels = with_label(alloc, row.labels, target, value.as_str())?;
-        outcomes.push(labelled(alloc, labels, row.value))?;
+        outcomes.push(joined_outcome(alloc, target, separator, sources, row)?)?;
     }
     settled(alloc, taken(alloc, marks, outcomes)?)
+}
+
+fn joined_outcome(
+    alloc: Global,
+    target: &str,
+    separator: &str,
+    sources: &[Text],
+    row: Row,
+) -> Result<Outcome, AllocError>
+    ensures { IfOk result (λ o. o ≡ with_labels (joined_labels target.now separator.now sources.now row.labels) row.value) }
+{
+    let value = joined_values(alloc, separator, sources, &row.labels)?;
+    let labels = with_label(alloc, row.labels, target, value.as_str())?;
+    Ok(labelled(alloc, labels, row.value))
 }
 
 /// The values of the sources with the separator between each two.
@@ -93,10 +122,15 @@ fn joined_values(
 {
     let mut text = String::new(alloc);
     for (i, source) in sources.iter().enumerate() {
-        if i > 0 {
-            text.push_str(separator)?;
-        }
+        text.push_str(gap(separator, i))?;
         text.push_str(labels.get(source.as_str()))?;
     }
     Ok(text)
+}
+
+/// What stands before a text: nothing before the first one.
+fn gap(separator: &str, i: usize) -> &str
+    ensures { result.now ≡ gap_at separator.now i }
+{
+    if i == 0 { "" } else { separator }
 }

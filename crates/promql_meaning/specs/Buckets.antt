@@ -28,15 +28,11 @@ use Rattle.step_table.specs.declared.marks.Note.TheVariants.{BadBucket, FixedBuc
 use Rattle.step_table.specs.declared.outcomes.Outcome.{Outcome}
 use Rattle.step_table.specs.declared.step.Row.{Row}
 use Rattle.step_table.specs.declared.step.Step.{Step}
+use Rattle.promql_meaning.specs.declared.buckets.Bucket.{Bucket}
 use Rattle.promql_meaning.specs.Elements.{nameless}
 use Rattle.promql_meaning.specs.Outcomes.{is_outside, range_notes, with_notes}
 
 -- ---- buckets
-
--- a bucket: its upper bound, and how many observations are not above it
-pub record Bucket : Type 0 where
-  pub bound : XFrac
-  pub count : XFrac
 
 abbrev pub bucket_label : List ℕ
 bucket_label = codes "le"

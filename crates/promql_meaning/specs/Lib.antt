@@ -7,6 +7,7 @@ pub mod Elements
 pub mod Givens
 pub mod Laws
 pub mod Meaning
+pub mod NumberOrder
 pub mod Orders
 pub mod Outcomes
 pub mod Ranges

@@ -4,6 +4,7 @@
 
 mod aggregates;
 mod answer;
+mod buckets;
 mod countings;
 mod elements;
 mod given;
@@ -14,6 +15,7 @@ mod ranks;
 
 pub use aggregates::group;
 pub use answer::{Answer, Outcome, Point, ResultSeries};
+pub use buckets::Bucket;
 pub use elements::map_rows;
 pub use given::{Given, Selection, Stamped, WindowRow, Windows};
 pub use notes::with_notes;
