@@ -78,22 +78,22 @@ module _ {X : Type 0} (lt : X → X → Bool) (o : IsStrictWeakOrder lt) where
   same_sorted [] [] up high f = refl
   same_sorted [] (z ∷ zs) up high f = let e : [] ≡ z ∷ filter (ties lt z) zs = f z ∙ kept z z zs (ties_itself z) in absurd (cc)
   same_sorted (y ∷ ys) [] up high f = let e : y ∷ filter (ties lt y) ys ≡ [] = sym (kept y y ys (ties_itself y)) ∙ f y in absurd (cc)
-  same_sorted (y ∷ ys) (z ∷ zs) up high f = by (lt y z) (lt z y) refl refl
+  same_sorted (y ∷ ys) (z ∷ zs) up high f = by (λ g. same_sorted ys zs (rises_tail y ys up) (rises_tail z zs high) g) (lt y z) (lt z y) refl refl
     where
       tails : y ≡ z → (x : X) → (b : Bool) → ties lt x y ≡ b → filter (ties lt x) ys ≡ filter (ties lt x) zs
       tails same x true h =
           let e : y ∷ filter (ties lt x) ys ≡ z ∷ filter (ties lt x) zs = sym (kept x y ys h) ∙ f x ∙ kept x z zs (ap (ties lt x) (sym same) ∙ h) in cc
       tails same x false h = sym (left_out x y ys h) ∙ f x ∙ left_out x z zs (ap (ties lt x) (sym same) ∙ h)
 
-      by : (a b : Bool) → lt y z ≡ a → lt z y ≡ b → y ∷ ys ≡ z ∷ zs
-      by true b p q =
+      by : (((x : X) → filter (ties lt x) ys ≡ filter (ties lt x) zs) → ys ≡ zs) → (a b : Bool) → lt y z ≡ a → lt z y ≡ b → y ∷ ys ≡ z ∷ zs
+      by later true b p q =
           let e : y ∷ filter (ties lt y) ys ≡ [] = sym (kept y y ys (ties_itself y)) ∙ f y ∙ none_tie y z p (z ∷ zs) (never_itself z, all_above z zs high) in absurd (cc)
-      by false true p q =
+      by later false true p q =
           let e : [] ≡ z ∷ filter (ties lt z) zs = sym (none_tie z y q (y ∷ ys) (never_itself y, all_above y ys up)) ∙ f z ∙ kept z z zs (ties_itself z) in absurd (cc)
-      by false false p q =
+      by later false false p q =
           let e : y ∷ filter (ties lt y) ys ≡ z ∷ filter (ties lt y) zs = sym (kept y y ys (ties_itself y)) ∙ f y ∙ kept y z zs (both_false (lt y z) (lt z y) p q) in
           let same : y ≡ z = cc in
-          let rest = same_sorted ys zs (rises_tail y ys up) (rises_tail z zs high) (λ x. tails same x (ties lt x y) refl) in
+          let rest = later (λ x. tails same x (ties lt x y) refl) in
           ap (λ w. w ∷ ys) same ∙ ap (λ ws. z ∷ ws) rest
 
   -- ---- insertion
@@ -125,7 +125,7 @@ module _ {X : Type 0} (lt : X → X → Bool) (o : IsStrictWeakOrder lt) where
 
   stable_inserted : (x : X) (zs : List X) (y : X) → Rises lt zs → filter (ties lt x) (inserted lt zs y) ≡ filter (ties lt x) zs ++ cond (ties lt x y) (y ∷ []) []
   stable_inserted x [] y up = refl
-  stable_inserted x (z ∷ zs) y up = by (lt y z) refl
+  stable_inserted x (z ∷ zs) y up = by (stable_inserted x zs y (rises_tail z zs up)) (lt y z) refl
     where
       first : (b : Bool) → ties lt x y ≡ b → lt y z ≡ true → filter (ties lt x) (y ∷ z ∷ zs) ≡ filter (ties lt x) (z ∷ zs) ++ cond (ties lt x y) (y ∷ []) []
       first false t h = left_out x y (z ∷ zs) t ∙ sym (append-nil (filter (ties lt x) (z ∷ zs))) ∙ ap (λ b. filter (ties lt x) (z ∷ zs) ++ cond b (y ∷ []) []) (sym t)
@@ -138,10 +138,10 @@ module _ {X : Type 0} (lt : X → X → Bool) (o : IsStrictWeakOrder lt) where
           under true e = e
           under false e = let no : lt y z ≡ false = o.chain y x z (tied_right (lt x y) (lt y x) t) e in absurd (cc)
 
-      by : (b : Bool) → lt y z ≡ b → filter (ties lt x) (inserted lt (z ∷ zs) y) ≡ filter (ties lt x) (z ∷ zs) ++ cond (ties lt x y) (y ∷ []) []
-      by true h = ap (filter (ties lt x)) (here y z zs h) ∙ first (ties lt x y) refl h
-      by false h =
-          let rest = stable_inserted x zs y (rises_tail z zs up) in
+      by : filter (ties lt x) (inserted lt zs y) ≡ filter (ties lt x) zs ++ cond (ties lt x y) (y ∷ []) [] → (b : Bool) → lt y z ≡ b
+          → filter (ties lt x) (inserted lt (z ∷ zs) y) ≡ filter (ties lt x) (z ∷ zs) ++ cond (ties lt x y) (y ∷ []) []
+      by rest true h = ap (filter (ties lt x)) (here y z zs h) ∙ first (ties lt x y) refl h
+      by rest false h =
           ap (filter (ties lt x)) (later y z zs h)
           ∙ elim (ties lt x z) as (λ b. cond b (z ∷ filter (ties lt x) (inserted lt zs y)) (filter (ties lt x) (inserted lt zs y)) ≡ cond b (z ∷ filter (ties lt x) zs) (filter (ties lt x) zs) ++ cond (ties lt x y) (y ∷ []) []) [
             | true ↦ ap (λ ws. z ∷ ws) rest

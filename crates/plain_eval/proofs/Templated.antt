@@ -1,5 +1,5 @@
 -- A template, one reference further.
-use Rattle.std.proofs.Common.{◌≡◌, ◌∙◌, ℕ, zero, suc, ◌+◌, ◌-◌, ◌<◌, ◌≤◌, ◌^◌, Bool, true, false, cond, List, [], ◌∷◌, ◌++◌, length, get_or, take, drop, ap, sym, subst, refl, Option, None, Some, Ok, Err, Result, arith, add-one, append_assoc, append-nil, length-append, length-drop}
+use Rattle.std.proofs.Common.{◌≡◌, ◌∙◌, ℕ, zero, suc, ◌+◌, ◌-◌, ◌*◌, ◌<◌, ◌≤◌, ◌^◌, Bool, true, false, cond, List, [], ◌∷◌, ◌++◌, length, get_or, take, drop, ap, sym, subst, refl, Option, None, Some, Ok, Err, Result, arith, add-one, append_assoc, append-nil, length-append, length-drop}
 use Rattle.std.specs.Prelude.{◌==◌, ◌&&◌, ◌||◌, not, is_some, slice_get}
 use Rattle.std.specs.Char.{digit_value, is_ascii_digit}
 use Rattle.std.specs.List.{list_all, prefix_len}
@@ -35,14 +35,16 @@ name_within text = let a = name_length text in let b = run_within text in omega 
 last_of_run : (text : List ℕ) (n : ℕ) → prefix_len is_word_byte text ≡ suc n → (n < length text) × (is_word_byte (get_or text n 0) ≡ true)
 last_of_run [] n e = absurd (omega arith)
 last_of_run (b ∷ text) n e =
+    let rest = last_of_run text in
     elim (is_word_byte b) as (λ t. is_word_byte b ≡ t → cond t (1 + prefix_len is_word_byte text) 0 ≡ suc n → (n < length (b ∷ text)) × (is_word_byte (get_or (b ∷ text) n 0) ≡ true)) [
-      | true ↦ λ h f. at_place n h (omega (arith, f))
+      | true ↦ λ h f. at_place rest n h (omega (arith, f))
       | false ↦ λ h f. absurd (omega (arith, f))
     ] refl e
   where
-    at_place : (n : ℕ) → is_word_byte b ≡ true → prefix_len is_word_byte text ≡ n → (n < length (b ∷ text)) × (is_word_byte (get_or (b ∷ text) n 0) ≡ true)
-    at_place zero h f = (omega arith, h)
-    at_place (suc n) h f = let rest = last_of_run text n f in (omega (arith, rest.0), rest.1)
+    at_place : ((n : ℕ) → prefix_len is_word_byte text ≡ suc n → (n < length text) × (is_word_byte (get_or text n 0) ≡ true)) → (n : ℕ) → is_word_byte b ≡ true → prefix_len is_word_byte text ≡ n
+        → (n < length (b ∷ text)) × (is_word_byte (get_or (b ∷ text) n 0) ≡ true)
+    at_place rest zero h f = (omega arith, h)
+    at_place rest (suc n) h f = let last = rest n f in (omega (arith, last.0), last.1)
 
 pub run_boundary : (text : List ℕ) (n : ℕ) → IsUtf8 text → n ≡ prefix_len is_word_byte text → IsCharBoundary text n
 run_boundary text zero u e = IsCharBoundary-start text u
@@ -64,6 +66,12 @@ pub braced_at : (text rest : List ℕ) → drop (length (name_in text)) text ≡
 braced_at text [] e = rw e refl
 braced_at text (b ∷ rest) e = rw e refl
 
+get_drop : (n : ℕ) (xs : List ℕ) (b : ℕ) (rest : List ℕ) → drop n xs ≡ b ∷ rest → get_or xs n 0 ≡ b
+get_drop zero [] b rest e = absurd (cc)
+get_drop zero (x ∷ xs) b rest e = let s : x ≡ b = cc in s
+get_drop (suc n) [] b rest e = absurd (cc)
+get_drop (suc n) (x ∷ xs) b rest e = get_drop n xs b rest e
+
 closing_byte : (text : List ℕ) → is_braced text ≡ true → (length (name_in text) < length text) × (get_or text (length (name_in text)) 0 ≡ 125)
 closing_byte text h = by (drop (length (name_in text)) text) refl
   where
@@ -78,12 +86,6 @@ closing_byte text h = by (drop (length (name_in text)) text) refl
         let size : length (drop (length (name_in text)) text) ≡ suc (length rest) = ap length e in
         let is : b ≡ 125 = grind (arith, nat_tests) in
         (omega (arith, size, length-drop (length (name_in text)) text), get_drop (length (name_in text)) text b rest e ∙ is)
-
-    get_drop : (n : ℕ) (xs : List ℕ) (b : ℕ) (rest : List ℕ) → drop n xs ≡ b ∷ rest → get_or xs n 0 ≡ b
-    get_drop zero [] b rest e = absurd (cc)
-    get_drop zero (x ∷ xs) b rest e = let s : x ≡ b = cc in s
-    get_drop (suc n) [] b rest e = absurd (cc)
-    get_drop (suc n) (x ∷ xs) b rest e = get_drop n xs b rest e
 
 -- ---- references
 

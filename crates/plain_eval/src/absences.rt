@@ -8,9 +8,8 @@ ghost use Rattle.step_table.specs.Operators.{all_put};
 ghost use Rattle.step_table.specs.Unions.{set_of};
 
 use crate::givens::{barren, into_step, no_marks};
-use crate::labelled::{labelled, put_one};
 use label_set::{Items, Labels, METRIC_NAME, Rule, RuleKind, Text};
-use promql_meaning::{Given, Selection, Windows};
+use promql_meaning::{Given, Selection, Windows, labelled, put_one};
 use std::alloc::{AllocError, Global};
 use std::collections::BTreeSet;
 use step_table::{Marks, Step, taken};

@@ -17,11 +17,9 @@ ghost use Rattle.xfrac.specs.Laws.{IsNumber};
 ghost use Rattle.xfrac.specs.Order.{compares, total_order};
 ghost use Rattle.xfrac.specs.Sequencing.{◌>>=◌};
 
-use crate::labelled::without_label;
-use crate::quantiles::{is_outside, range_notes};
 use frac_text::{NumberRefusal, read_number};
 use label_set::{Items, Labels, Text};
-use promql_meaning::{Bucket, with_notes};
+use promql_meaning::{Bucket, is_outside, range_notes, with_notes, without_label};
 use std::alloc::{AllocError, Global};
 use std::cmp::Ordering;
 use std::collections::BTreeMap;

@@ -1,39 +1,14 @@
 //! What expressions give, taken apart and put together.
-ghost use Rattle.promql_meaning.specs.Givens.{barren, marked, no_marks, scalar_step, step_of, step_of_rows, unstamped, value_in, words_of};
+ghost use Rattle.promql_meaning.specs.Givens.{marked, scalar_step, step_of, value_in, words_of};
 ghost use Rattle.promql_meaning.specs.Meaning.{argument};
-ghost use Rattle.std.specs.Prelude.{◌≡◌, drop, map, IfOk};
+ghost use Rattle.std.specs.Prelude.{◌≡◌, drop, IfOk};
 
 use label_set::{Items, Labels, Text};
-use promql_meaning::{Given, Stamped};
+use promql_meaning::Given;
+pub use promql_meaning::{barren, no_marks, step_of_rows};
 use std::alloc::{AllocError, Global};
-use step_table::{Marks, Row, Step, Table};
+use step_table::{Marks, Row, Step};
 use xfrac::XFrac;
-
-pub fn no_marks(alloc: Global) -> Marks
-    ensures { result ≡ no_marks }
-{
-    Marks {
-        fatal: Items::new(alloc),
-        notes: Items::new(alloc),
-    }
-}
-
-/// A table of these rows, with these marks.
-pub fn step_of_rows(rows: Items<Row>, marks: Marks) -> Step
-    ensures { result ≡ step_of_rows rows marks }
-{
-    Step {
-        table: Table { rows },
-        marks,
-    }
-}
-
-/// No rows.
-pub fn barren(alloc: Global, marks: Marks) -> Step
-    ensures { result ≡ barren marks }
-{
-    step_of_rows(Items::new(alloc), marks)
-}
 
 /// A table of one row without labels. The only error is want of memory.
 pub fn scalar_step(alloc: Global, value: &XFrac) -> Result<Step, AllocError>
@@ -51,28 +26,7 @@ pub fn scalar_step(alloc: Global, value: &XFrac) -> Result<Step, AllocError>
 pub fn into_step(alloc: Global, given: Given) -> Result<Step, AllocError>
     ensures { IfOk result (λ step. step ≡ step_of given) }
 {
-    match given {
-        Given::Scalar(step) => Ok(step),
-        Given::Vector(step) => Ok(step),
-        Given::Selected(selection) => Ok(step_of_rows(
-            unstamped(alloc, selection.rows)?,
-            no_marks(alloc),
-        )),
-        Given::Windows(_) => Ok(barren(alloc, no_marks(alloc))),
-        Given::Words(_) => Ok(barren(alloc, no_marks(alloc))),
-    }
-}
-
-/// The rows of a selector without the times of their samples.
-fn unstamped(alloc: Global, stamped: Items<Stamped>) -> Result<Items<Row>, AllocError>
-    ensures { IfOk result (λ rows. rows ≡ map unstamped stamped) }
-{
-    let mut rows = Items::new(alloc);
-    for row in stamped.into_vec() {
-        let Stamped { labels, value, .. } = row;
-        rows.push(Row { labels, value })?;
-    }
-    Ok(rows)
+    given.into_step(alloc)
 }
 
 /// The text of words. The only error is want of memory.

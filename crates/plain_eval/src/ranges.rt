@@ -14,10 +14,9 @@ ghost use Rattle.step_table.specs.declared.marks.Note.{Note};
 ghost use Rattle.window_fn.specs.Windows.{IsFrame, IsInFrame};
 
 use crate::givens::{barren, no_marks, take_first, take_step, value_in};
-use crate::quantiles::range_notes_of;
 use func_table::Window;
 use label_set::{Items, Labels, METRIC_NAME, Text};
-use promql_meaning::{Given, WindowRow, Windows, with_notes};
+use promql_meaning::{Given, WindowRow, Windows, range_notes_of, with_notes};
 use std::alloc::{AllocError, Global};
 use step_table::{Note, Outcome, Step, settled, taken, without_name};
 use ticks::Ms;

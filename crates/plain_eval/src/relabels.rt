@@ -6,10 +6,10 @@ ghost use Rattle.promql_meaning.specs.Relabels.{joined_labels, label_joined, lab
 ghost use Rattle.std.specs.Prelude.{◌≡◌, List, ℕ, true, Some, map, slice_get, string_bytes, IfOk};
 ghost use Rattle.step_table.specs.Matching.{labelled as with_labels};
 
-use crate::labelled::{labelled, with_label};
 use crate::templates::expanded;
 use label_set::{Items, Labels, PatternId, Text};
 use match_rule::{Patterns, Spans};
+use promql_meaning::{labelled, labels_with};
 use std::alloc::{AllocError, Global};
 use step_table::{Outcome, Row, Step, settled, taken};
 
@@ -76,7 +76,7 @@ fn replaced_labels(
         return Ok(Some(labels));
     }
     let value = expanded(alloc, &spans, value, replacing.template.as_str())?;
-    with_label(alloc, labels, replacing.target.as_str(), value.as_str())
+    labels_with(alloc, labels, replacing.target.as_str(), value.as_str())
 }
 
 /// The target is set to the values of the sources, joined by the separator. The only error is want of memory.
@@ -107,7 +107,7 @@ fn joined_outcome(
     ensures { IfOk result (λ o. o ≡ with_labels (joined_labels target.now separator.now sources.now row.labels) row.value) }
 {
     let value = joined_values(alloc, separator, sources, &row.labels)?;
-    let labels = with_label(alloc, row.labels, target, value.as_str())?;
+    let labels = labels_with(alloc, row.labels, target, value.as_str())?;
     Ok(labelled(alloc, labels, row.value))
 }
 

@@ -1,5 +1,5 @@
 //! The replacement of label_replace, with its references replaced.
-ghost use Rattle.plain_eval.specs.Spanned.{AreWithin};
+ghost use Rattle.plain_eval.specs.Spanned.{AreCutFrom};
 ghost use Rattle.promql_meaning.specs.Templates.{expanded, group_number, group_text, is_braced, is_word_byte, name_in, reference_size, reference_text, span_text};
 ghost use Rattle.std.specs.Char.{is_ascii_digit};
 ghost use Rattle.std.specs.List.{list_all, prefix_len};
@@ -15,7 +15,7 @@ pub fn expanded(
     value: &str,
     template: &str,
 ) -> Result<String, AllocError>
-    requires { AreWithin value.now spans.now }
+    requires { AreCutFrom value.now spans.now }
     ensures { IfOk result (λ text. string_bytes text ≡ expanded spans.now value.now template.now) }
 {
     let mut text = String::new(alloc);
@@ -96,7 +96,7 @@ fn name_in(text: &str) -> &str
 
 /// What stands for a `$` and the reference behind it.
 fn reference_text<'a>(spans: &Spans, value: &'a str, behind: &str) -> &'a str
-    requires { AreWithin value.now spans.now }
+    requires { AreCutFrom value.now spans.now }
     ensures { result.now ≡ reference_text spans.now value.now behind.now }
 {
     match behind.as_bytes() {
@@ -115,7 +115,7 @@ fn reference_text<'a>(spans: &Spans, value: &'a str, behind: &str) -> &'a str
 
 /// What stands for a reference in braces, behind the first brace.
 fn braced_text<'a>(spans: &Spans, value: &'a str, rest: &str) -> &'a str
-    requires { AreWithin value.now spans.now }
+    requires { AreCutFrom value.now spans.now }
     ensures { result.now ≡ (if is_braced rest.now then group_text spans.now value.now (group_number (name_in rest.now)) else 36 ∷ []) }
 {
     if is_braced(rest.as_bytes()) {
@@ -127,7 +127,7 @@ fn braced_text<'a>(spans: &Spans, value: &'a str, rest: &str) -> &'a str
 
 /// What the group of a number matched; nothing where the name is no number of a group.
 fn group_text<'a>(spans: &Spans, value: &'a str, name: &str) -> &'a str
-    requires { AreWithin value.now spans.now }
+    requires { AreCutFrom value.now spans.now }
     ensures { result.now ≡ group_text spans.now value.now (group_number name.now) }
 {
     if !is_number(name.as_bytes()) {
@@ -158,7 +158,7 @@ fn are_digits(name: &[u8]) -> bool
 
 /// What a group matched; nothing where it took no part, or isn't there.
 fn span_text<'a>(spans: &Spans, value: &'a str, number: usize) -> &'a str
-    requires { AreWithin value.now spans.now }
+    requires { AreCutFrom value.now spans.now }
     ensures { result.now ≡ span_text value.now (slice_get spans.now number) }
 {
     if number >= spans.len() {

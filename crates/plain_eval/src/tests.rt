@@ -5,7 +5,7 @@ use holders::Boxed;
 use label_set::{Card, Grouping, Items, Labels, METRIC_NAME, Pairing, Rule, RuleKind, Text};
 use match_rule::Patterns;
 use promql_ast::{Expr, Fixed, Moment, Node, Selector};
-use promql_meaning::Outcome;
+use promql_meaning::{Answer, Outcome, Point, ResultSeries};
 use promql_type::{Typed, check};
 use sample_store::Store;
 use std::alloc::Global;
@@ -49,7 +49,42 @@ x:60:0/1/2/3/4 130 v|x;p;f|timestamp|1 :120 -
 x:60:0/1/2/3/4 130 v|x;m;f|timestamp|1 :130 -
 x:60:7 0 v|x;n|5;f|round|2 :5 -
 x:60:7 0 v|x;n|5;n|2;o|^;o|* :175 -
-x:60:7 0 v|x;n|2;n|1/2;o|^;o|* - I";
+x:60:7 0 v|x;n|2;n|1/2;o|^;o|* - I
+x:60:7 0 v|x;n|2;n|1/2;o|^;f|round|2 - I
+x:60:7 0 n|2;n|1/2;o|^;v|x;a|topk|2 - I
+x:60:7 0 n|2;n|1/2;o|^;v|x;f|histogram_quantile|2 - I
+x:60:0/60/120/180 180 r|x|180;n|2;n|1/2;o|^;f|predict_linear|2 - I
+x:60:0/1/2/3/4/5 300 v|x;q|60|60;f|sum_over_time|1;q|180|60;f|max_over_time|1 :5 -
+x:60:0/1/2/3/4/5 300 v|x|@60;q|180|60;f|sum_over_time|1 :3 -
+x:60:0/1/2/3/4/5 300 v|x;q|120|60|@180;f|sum_over_time|1 :5 -
+x:60:0/1/2/3/4/5 120 v|x|--60 x:3 -
+x:60:1/stale/3 120 r|x|180;f|count_over_time|1 :2 -
+x:60:1/stale/3 60 r|x|180;f|last_over_time|1 x:1 -
+x,i=1:60:5~x,i=2:60:5 0 w|v;v|x;a|count_values|2 ,v=5:2 -
+x:60:1 0 r|y|60;f|absent_over_time|1 :1 -
+x:60:1 0 v|x;f|absent|1 - -
+x:60:3 0 v|x;a|sum|1;n|2;o|^ :9 -
+x:60:3 0 v|x;m;v|x;o|+|on= :0 -
+x,i=1:60:1~y,i=1:60:1 0 v|x;v|y;s|unless|on= - -
+x:60:7 0 v|x;f|scalar|1;f|vector|1;f|sgn|1 :1 -
+x:60:7 0 f|time|0;f|vector|1;v|x;s|or|on= :0 -";
+
+// Each line is the series, the start, the end and the step of a grid in seconds, whether it is an instant query, the query, and
+// the outcome: a vector's series or a scalar's, each with its points, or the instant that fails and its mark.
+const RANGES: &str = "x:60:1/2/3 0 120 60 no v|x v x:0=1/60=2/120=3
+x:60:1/2/3 0 120 60 no v|x|@start v x:0=1/60=1/120=1
+x:60:1/2/3 0 120 60 no v|x|@end v x:0=3/60=3/120=3
+x:60:1/2/3 0 120 60 no v|x|--60 v x:0=2/60=3/120=3
+x:60:1/2/3 0 120 60 no r|x|120|@end;f|count_over_time|1 v :0=2/60=2/120=2
+x:60:1/stale/3 0 120 60 no v|x v x:0=1/120=3
+x:60:1 0 60 60 no f|time|0 s :0=0/60=60
+b:60:1~a:60:2 0 0 1 no v|__name__=~a_b v a:0=2;b:0=1
+x,i=1:60:1~x,i=2:60:2 0 0 1 yes v|x;f|sort_desc|1 v x,i=2:0=2;x,i=1:0=1
+x,i=1:60:1~x,i=2:60:2 0 0 1 yes v|x;p;f|sort|1;p v x,i=1:0=1;x,i=2:0=2
+x,i=1:60:1~x,i=2:60:2 0 0 1 no v|x;f|sort_desc|1 v x,i=1:0=1;x,i=2:0=2
+a,i=1:60:1/1/1~a,i=2:60:1/stale~b:60:1/1/1 0 120 60 no v|a;v|b;o|*|on= f 0;M
+a,i=1:60:1/1/1~a,i=2:60:_/1/stale~b:60:1/1/1 0 120 60 no v|a;v|b;o|*|on= f 60;M
+a,i=1:60:1/1/1~a,i=2:60:_/_/1~b:60:1/1/1 0 120 60 no v|a;v|b;o|*|on= f 120;M";
 
 fn top(alloc: Global, stack: &mut Vec<Expr>) -> Result<Boxed<Expr>, Fail> {
     Ok(Boxed::new(alloc, stack.pop().ok_or("no operand")?)?)
@@ -488,6 +523,78 @@ fn steps_at_instants(rt: HostRuntime) -> Result<(), Fail> {
     for line in INSTANTS.lines() {
         let (step, wanted) = step_at::<Brand>(rt.alloc(), line, Blank::new(3))?;
         assert_eq!(rt; step, wanted, "{line}");
+    }
+    Ok(())
+}
+
+fn points(alloc: Global, text: &str) -> Result<Items<Point>, Fail> {
+    let mut points = Items::new(alloc);
+    for word in text.split('/') {
+        let (at, number) = word.split_once('=').ok_or("a point without a value")?;
+        points.push(Point {
+            at: seconds(at)?,
+            value: value(number)?,
+        })?;
+    }
+    Ok(points)
+}
+
+fn answer(alloc: Global, scalar: bool, text: &str) -> Result<Outcome, Fail> {
+    let mut series = Items::new(alloc);
+    for word in text.split(';') {
+        let (names, rest) = word.split_once(':').ok_or("a series without points")?;
+        series.push(ResultSeries {
+            labels: labels(alloc, names)?,
+            points: points(alloc, rest)?,
+        })?;
+    }
+    Ok(Outcome::Answer(Answer {
+        scalar,
+        series,
+        notes: Items::new(alloc),
+    }))
+}
+
+fn outcome(alloc: Global, kind: &str, text: &str) -> Result<Outcome, Fail> {
+    if kind == "f" {
+        let (at, word) = text.split_once(';').ok_or("no mark")?;
+        return Ok(Outcome::Failed {
+            at: seconds(at)?,
+            mark: mark(alloc, word)?,
+        });
+    }
+    answer(alloc, kind == "s", text)
+}
+
+fn grid(start: &str, end: &str, step: &str) -> Result<Grid, Fail> {
+    Ok(Grid::of(seconds(start)?, seconds(end)?, seconds(step)?)?)
+}
+
+fn outcome_over<W: Ledger>(
+    alloc: Global,
+    line: &str,
+    blank: Blank,
+) -> Result<(Outcome, Outcome), Fail> {
+    let mut words = line.split_whitespace();
+    let store = loaded(alloc, words.next().ok_or("no series")?)?;
+    let start = words.next().ok_or("no start")?;
+    let end = words.next().ok_or("no end")?;
+    let grid = grid(start, end, words.next().ok_or("no step")?)?;
+    let instant = words.next().ok_or("no kind of query")? == "yes";
+    let mut patterns = Patterns::new(alloc);
+    let typed = query(alloc, words.next().ok_or("no query")?, &mut patterns)?;
+    let mut work = Work::<W>::new(blank);
+    let found = range(alloc, &typed, &store, &mut patterns, &grid, instant, &mut work)?;
+    let kind = words.next().ok_or("no kind")?;
+    let text = words.next().ok_or("no outcome")?;
+    Ok((found, outcome(alloc, kind, text)?))
+}
+
+#[test]
+fn outcomes_over_grids(rt: HostRuntime) -> Result<(), Fail> {
+    for line in RANGES.lines() {
+        let (found, wanted) = outcome_over::<Brand>(rt.alloc(), line, Blank::new(3))?;
+        assert_eq!(rt; found, wanted, "{line}");
     }
     Ok(())
 }

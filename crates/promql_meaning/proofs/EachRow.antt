@@ -19,6 +19,7 @@ use Rattle.xfrac.specs.Sums.{Totals, alone, fits, sum_of, value_of}
 use Rattle.xfrac.specs.declared.value.NumFault.TheVariants.{Overflow}
 use Rattle.xfrac.specs.declared.value.XFrac.{XFrac}
 use Rattle.xfrac.specs.declared.value.XFrac.TheVariants.{Fin, PosInf, NegInf, NaN}
+use Rattle.step_table.specs.Gathering.{gathered_single, labels_of, nothing_more, single}
 use Rattle.step_table.specs.Groups.{Names, gathered}
 use Rattle.step_table.specs.Operators.{some_value}
 use Rattle.step_table.specs.Outcomes.{mark_of, row_of}
@@ -29,7 +30,6 @@ use Rattle.promql_meaning.specs.Aggregations.{group_outcome, keyed_values}
 use Rattle.promql_meaning.specs.Laws.{SumOfEachRow}
 use Rattle.promql_meaning.specs.Outcomes.{with_notes}
 use Rattle.promql_meaning.specs.Ranks.{kept_labels}
-use Rattle.promql_meaning.proofs.Singles.{gathered_single, labels_of, nothing_more, single}
 
 -- ---- one number
 

@@ -1,10 +1,11 @@
 pub mod EachRow
 pub mod Filled
-pub mod Found
 pub mod Moments
 pub mod Parts
+pub mod Points
 pub mod Ranked
-pub mod Singles
+pub mod Replaced
 pub mod Spelled
+pub mod Summed
 pub mod Twice
 pub mod Weak

@@ -16,11 +16,11 @@ use Rattle.label_set.specs.Entries.{recursion_map}
 use Rattle.label_set.specs.Labels.{labels_cmp}
 use Rattle.label_set.specs.declared.rules.Grouping.{Grouping}
 use Rattle.xfrac.specs.Laws.{IsNumber, EqualIsSame, LessIsTransitive, OrderIsReversed}
+use Rattle.step_table.specs.Gathering.{found}
 use Rattle.step_table.specs.Groups.{Names, gathered, items_of}
 use Rattle.step_table.specs.declared.step.Row.{Row}
 use Rattle.promql_meaning.specs.Ranks.{comes_before, is_ahead, is_ranked, kept_labels}
 use Rattle.promql_meaning.specs.RankedGroups.{AreNumbers, AreRanked, IsByValue, Rises, group_in, grouped_refs, is_among, seen}
-use Rattle.promql_meaning.proofs.Found.{found}
 use Rattle.promql_meaning.proofs.Weak.{rows_total, tidied_order, tidied_same}
 use denote.Ref.{Bor}
 

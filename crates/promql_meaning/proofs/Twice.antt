@@ -8,6 +8,7 @@ use Rattle.label_set.specs.Labels.{is_named, labels_cmp, metric_name}
 use Rattle.xfrac.specs.Forming.{negated}
 use Rattle.xfrac.specs.declared.value.XFrac.{XFrac}
 use Rattle.xfrac.specs.declared.value.XFrac.TheVariants.{Fin, PosInf, NegInf, NaN}
+use Rattle.step_table.specs.Gathering.{labels_of, nothing_more, settled_table}
 use Rattle.step_table.specs.Outcomes.{mark_of, row_of, settled}
 use Rattle.step_table.specs.Unions.{with_fatal}
 use Rattle.step_table.specs.WellFormed.{IsTable}
@@ -17,7 +18,6 @@ use Rattle.promql_meaning.specs.Elements.{element_outcome, mapped, nameless}
 use Rattle.promql_meaning.specs.Givens.{step_of_rows}
 use Rattle.promql_meaning.specs.Laws.{MinusTwice, unnamed_row}
 use Rattle.promql_meaning.specs.Meaning.{zero_number}
-use Rattle.promql_meaning.proofs.Singles.{labels_of, nothing_more, settled_table}
 
 -- a row under minus
 abbrev turned : Row → Row

@@ -1,6 +1,6 @@
 -- What users of a meaning rely on.
-use Rattle.std.specs.Prelude.{◌≡◌, ℕ, Bool, List, filter, map, None, Some, ℤ, pos, ◌-ℤ◌}
-use Rattle.std.specs.List.{AllByRecursion}
+use Rattle.std.specs.Prelude.{◌≡◌, ℕ, Bool, List, filter, map, None, Some, Ok, ℤ, pos, ◌-ℤ◌, ◌<ℤ◌, ◌≤ℤ◌, ◌↔◌}
+use Rattle.std.specs.List.{AllByRecursion, Contains}
 use Rattle.func_table.specs.declared.table.Aggregate.TheVariants.{Sum}
 use Rattle.func_table.specs.declared.table.Element.TheVariants.{Neg}
 use Rattle.label_set.specs.declared.rules.Grouping.{Grouping}
@@ -8,6 +8,8 @@ use Rattle.promql_ast.specs.declared.tree.Expr.{Expr}
 use Rattle.promql_ast.specs.declared.tree.Fixed.{Fixed}
 use Rattle.promql_ast.specs.declared.tree.Node.TheVariants.{Select}
 use Rattle.promql_ast.specs.declared.tree.Selector.{Selector}
+use Rattle.ticks.specs.Steps.{IsMultiple}
+use Rattle.window_fn.specs.Aggregates.{total}
 use Rattle.xfrac.specs.Laws.{IsNumber}
 use Rattle.xfrac.specs.declared.value.XFrac.{XFrac}
 use Rattle.step_table.specs.WellFormed.{IsTable}
@@ -17,8 +19,10 @@ use Rattle.promql_meaning.specs.Aggregations.{aggregated}
 use Rattle.promql_meaning.specs.Elements.{mapped, nameless}
 use Rattle.promql_meaning.specs.Givens.{step_of_rows}
 use Rattle.promql_meaning.specs.Meaning.{meaning, zero_number}
+use Rattle.promql_meaning.specs.Orders.{ungrouped}
 use Rattle.promql_meaning.specs.Ranks.{kept_labels, ranked}
 use Rattle.promql_meaning.specs.Selecting.{Asked}
+use Rattle.promql_meaning.specs.Subqueries.{multiples}
 
 -- the sum by a grouping that keeps all labels of each row is each row
 abbrev pub SumOfEachRow : Type 0
@@ -28,6 +32,14 @@ SumOfEachRow =
     → AllByRecursion (λ (row : Row). kept_labels by row.labels ≡ row.labels) v.table.rows
     → AllByRecursion (λ (row : Row). IsNumber row.value) v.table.rows
     → aggregated Sum by arg label v ≡ v
+
+-- where the values of a vector have a sum, it is the sum of their sums by any grouping
+abbrev pub SumsOfSums : Type 0
+SumsOfSums =
+    (by : Grouping) (arg s : XFrac) (label : List ℕ) (v : Step)
+    → AllByRecursion (λ (row : Row). IsNumber row.value) v.table.rows
+    → total (map (λ (row : Row). row.value) v.table.rows) ≡ Ok s
+    → aggregated Sum ungrouped arg label (aggregated Sum by arg label v) ≡ aggregated Sum ungrouped arg label v
 
 -- a row without the metric's name
 abbrev pub unnamed_row : Row → Row
@@ -61,3 +73,13 @@ OffsetIsEarlier =
     (asked : Asked) (e plain : Expr) (selector : Selector) (t : ℤ)
     → e.node ≡ Select selector → plain.node ≡ Select (without_offset selector) → selector.moment.fixed ≡ None
     → meaning asked e t ≡ meaning asked plain (t -ℤ selector.moment.offset.0)
+
+-- a multiple of a step behind the left edge of a range, up to its moment
+pub record IsMultipleIn (edge m step u : ℤ) : Type 0 where
+  pub behind : edge <ℤ u
+  pub up_to : u ≤ℤ m
+  pub multiple : IsMultiple step u
+
+-- a subquery asks what its inner expression means at these, and at no others
+abbrev pub MultiplesAreAll : Type 0
+MultiplesAreAll = (m range step u : ℤ) → pos 0 <ℤ step → Contains (multiples m range step) u ↔ IsMultipleIn (m -ℤ range) m step u

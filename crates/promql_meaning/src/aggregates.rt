@@ -5,7 +5,7 @@ ghost use Rattle.window_fn.specs.Aggregates.{quantile_of as quantile_answer};
 
 use crate::countings::counted;
 use crate::groups::group_labels;
-use crate::notes::{range_notes, with_notes};
+use crate::notes::{range_notes_of, with_notes};
 use crate::ranks::ranked;
 use func_table::Aggregate;
 use label_set::{Grouping, Items, Labels};
@@ -85,7 +85,7 @@ fn aggregate_notes(
     ensures { IfOk result (λ notes. notes ≡ notes_of_aggregate f q.now rows.now) }
 {
     match f {
-        Aggregate::Quantile => range_notes(alloc, q, rows),
+        Aggregate::Quantile => range_notes_of(alloc, q, rows),
         _ => Ok(Items::new(alloc)),
     }
 }

@@ -1,17 +1,17 @@
 ghost use Rattle.frac_text.specs.Spellings.{spelling};
-ghost use Rattle.label_set.specs.Labels.{is_named as is_named_name, set_refusal, with_value, without};
-ghost use Rattle.promql_meaning.specs.Countings.{counted, counted_labels as labels_counted, counting_outcome as outcome_of_counting, is_left_out as is_left_out_label, tallied, with_label};
-ghost use Rattle.std.specs.Prelude.{◌≡◌, ◌≢◌, ◌∷◌, [], true, false, is_some, string_bytes, IfOk, MatchBool};
-ghost use Rattle.step_table.specs.Matching.{labelled as with_labels};
+ghost use Rattle.label_set.specs.Labels.{is_named as is_named_name};
+ghost use Rattle.promql_meaning.specs.Countings.{counted, counted_labels as labels_counted, counting_outcome as outcome_of_counting, is_left_out as is_left_out_label, tallied};
+ghost use Rattle.std.specs.Prelude.{◌≡◌, string_bytes, IfOk};
 ghost use Rattle.step_table.specs.Outcomes.{keyed};
 
 use crate::groups::group_labels;
+use crate::limits::{labelled, labels_with};
 use frac_text::write_number;
-use label_set::{Grouping, Items, LabelRefusal, Labels, METRIC_NAME, Text};
+use label_set::{Grouping, Items, Labels, METRIC_NAME, Text};
 use std::alloc::{AllocError, Global};
 use step_table::{Outcome, Row, Step, Table, gather, taken};
 use xfrac::laws::is_number;
-use xfrac::{NumFault, XFrac, whole};
+use xfrac::{XFrac, whole};
 
 /// How many rows have the labels that they are counted under. The only error is want of memory.
 pub(crate) fn counted(
@@ -42,22 +42,6 @@ fn counting_outcome(
     Ok(labelled(alloc, labels, row.value))
 }
 
-/// A value under its labels; labels that would pass the limits are a fault.
-fn labelled(alloc: Global, labels: Option<Labels>, value: XFrac) -> Outcome
-    ensures { result ≡ with_labels labels value }
-{
-    match labels {
-        Some(labels) => Outcome {
-            labels,
-            value: Ok(Some(value)),
-        },
-        None => Outcome {
-            labels: Labels::empty(alloc),
-            value: Err(NumFault::Overflow),
-        },
-    }
-}
-
 /// The labels that a row is counted under: those of its group, with its value's text under the label.
 fn counted_labels(
     alloc: Global,
@@ -86,57 +70,6 @@ fn is_listed(names: &[Text], label: &str) -> bool
     ensures { result ≡ is_named_name names.now label.now }
 {
     names.iter().any(|name| name.as_str() == label)
-}
-
-/// The labels with a value under a name, in place of the one that is there; an empty value takes it out. There are none
-/// where they would pass the limits.
-fn labels_with(
-    alloc: Global,
-    labels: Labels,
-    label: &str,
-    value: &str,
-) -> Result<Option<Labels>, AllocError>
-    ensures { IfOk result (λ all. all ≡ with_label labels label.now value.now) }
-{
-    if value.is_empty() {
-        return Ok(Some(without_label(alloc, &labels, label)?));
-    }
-    let mut labels = labels;
-    if set_one(&mut labels, label, value)? {
-        Ok(Some(labels))
-    } else {
-        Ok(None)
-    }
-}
-
-fn without_label(alloc: Global, labels: &Labels, label: &str) -> Result<Labels, AllocError>
-    ensures { IfOk result (λ l. l ≡ without (label.now ∷ []) labels.now) }
-{
-    let mut names = Items::new(alloc);
-    names.push(Text::of(alloc, label)?)?;
-    labels.without(&names)
-}
-
-/// Sets a value, and answers whether it was taken.
-fn set_one(labels: &mut Labels, label: &str, value: &str) -> Result<bool, AllocError>
-    ensures { IfOk result (λ taken. MatchBool taken
-        ((is_some (set_refusal labels.old label.now value.now) ≡ false) × (labels.new ≡ with_value labels.old label.now value.now))
-        (is_some (set_refusal labels.old label.now value.now) ≡ true)) }
-{
-    match labels.set(label, value) {
-        Ok(()) => Ok(true),
-        Err(refusal) => not_taken(refusal),
-    }
-}
-
-/// Want of memory is an error; for other refusals nothing is taken.
-fn not_taken(refusal: LabelRefusal) -> Result<bool, AllocError>
-    ensures { IfOk result (λ taken. (taken ≡ false) × (refusal ≢ LabelRefusal.Memory)) }
-{
-    match refusal {
-        LabelRefusal::Memory => Err(AllocError),
-        _ => Ok(false),
-    }
 }
 
 /// The spelling of a number.

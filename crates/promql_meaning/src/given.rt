@@ -1,5 +1,9 @@
+ghost use Rattle.promql_meaning.specs.Givens.{barren, no_marks, step_of, step_of_rows, unstamped};
+ghost use Rattle.std.specs.Prelude.{◌≡◌, map, IfOk};
+
 use label_set::{Items, Labels, Rule, Text};
-use step_table::{Marks, Step};
+use std::alloc::{AllocError, Global};
+use step_table::{Marks, Row, Step, Table};
 use ticks::Ms;
 use xfrac::XFrac;
 
@@ -50,4 +54,61 @@ pub enum Given {
     Windows(Windows),
     /// A string.
     Words(Text),
+}
+
+impl Given {
+    /// The step of a scalar or a vector; windows and words have no rows. The only error is want of memory.
+    pub fn into_step(self, alloc: Global) -> Result<Step, AllocError>
+        ensures { IfOk result (λ step. step ≡ step_of self) }
+    {
+        match self {
+            Given::Scalar(step) => Ok(step),
+            Given::Vector(step) => Ok(step),
+            Given::Selected(selection) => {
+                let rows = unstamped(alloc, selection.rows)?;
+                Ok(step_of_rows(rows, no_marks(alloc)))
+            }
+            Given::Windows(_) => Ok(barren(alloc, no_marks(alloc))),
+            Given::Words(_) => Ok(barren(alloc, no_marks(alloc))),
+        }
+    }
+}
+
+/// The rows of a selector without the times of their samples.
+fn unstamped(alloc: Global, stamped: Items<Stamped>) -> Result<Items<Row>, AllocError>
+    ensures { IfOk result (λ rows. rows ≡ map unstamped stamped) }
+{
+    let mut rows = Items::new(alloc);
+    for row in stamped.into_vec() {
+        let Stamped { labels, value, .. } = row;
+        rows.push(Row { labels, value })?;
+    }
+    Ok(rows)
+}
+
+/// No mark and no note.
+pub fn no_marks(alloc: Global) -> Marks
+    ensures { result ≡ no_marks }
+{
+    Marks {
+        fatal: Items::new(alloc),
+        notes: Items::new(alloc),
+    }
+}
+
+/// A table of these rows, with these marks.
+pub fn step_of_rows(rows: Items<Row>, marks: Marks) -> Step
+    ensures { result ≡ step_of_rows rows marks }
+{
+    Step {
+        table: Table { rows },
+        marks,
+    }
+}
+
+/// No rows, with these marks.
+pub fn barren(alloc: Global, marks: Marks) -> Step
+    ensures { result ≡ barren marks }
+{
+    step_of_rows(Items::new(alloc), marks)
 }

@@ -1,13 +1,23 @@
 //! Laws of meanings that users rely on. The functions do nothing: each stands for what its contract says.
-ghost use Rattle.promql_meaning.specs.Laws.{FixedSelectorStays, MinusTwice, OffsetIsEarlier, RanksArePart, SumOfEachRow};
+ghost use Rattle.promql_meaning.specs.Laws.{FixedSelectorStays, MinusTwice, MultiplesAreAll, OffsetIsEarlier, RanksArePart, SumOfEachRow, SumsOfSums};
 
-use xfrac::laws::joined_sums_stand_for_both;
+use xfrac::laws::{joined_sums_stand_for_both, lcm_is_least, part_overflows_whole, sum_ignores_order};
 
 /// The sum by a grouping that keeps all labels of each row is each row.
 pub fn sum_of_each_row()
     ensures { SumOfEachRow }
 {
     joined_sums_stand_for_both();
+}
+
+/// Where the values of a vector have a sum, it is the sum of their sums by any grouping.
+pub fn sums_of_sums()
+    ensures { SumsOfSums }
+{
+    joined_sums_stand_for_both();
+    sum_ignores_order();
+    part_overflows_whole();
+    lcm_is_least();
 }
 
 /// Minus twice gives the rows without their names, where no two of them then share labels.
@@ -28,4 +38,9 @@ pub fn fixed_selector_stays()
 /// A selector with an offset means what it means without it, that much earlier.
 pub fn offset_is_earlier()
     ensures { OffsetIsEarlier }
+{}
+
+/// The points of a subquery are the multiples of its step in its range, whose left edge is left out.
+pub fn multiples_are_all()
+    ensures { MultiplesAreAll }
 {}

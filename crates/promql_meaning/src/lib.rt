@@ -10,6 +10,7 @@ mod elements;
 mod given;
 mod groups;
 pub mod laws;
+mod limits;
 mod notes;
 mod ranks;
 
@@ -17,8 +18,9 @@ pub use aggregates::group;
 pub use answer::{Answer, Outcome, Point, ResultSeries};
 pub use buckets::Bucket;
 pub use elements::map_rows;
-pub use given::{Given, Selection, Stamped, WindowRow, Windows};
-pub use notes::with_notes;
+pub use given::{Given, Selection, Stamped, WindowRow, Windows, barren, no_marks, step_of_rows};
+pub use limits::{labelled, labels_with, put_one, without_label};
+pub use notes::{is_outside, range_notes, range_notes_of, with_notes};
 
 #[cfg(test)]
 mod tests;

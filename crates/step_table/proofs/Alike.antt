@@ -13,12 +13,12 @@ use Rattle.std.specs.Set.{sorted_merge}
 use Rattle.std.proofs.lemmas.Bool.{false≢true}
 use Rattle.std.proofs.lemmas.Cmp.{tied_itself}
 use Rattle.label_set.specs.Labels.{labels_cmp}
+use Rattle.label_set.specs.Entries.{recursion_map}
 use Rattle.label_set.specs.LabelOrder.{labels_cmp_total, labels_cmp_ties}
+use Rattle.step_table.specs.Gathering.{found, names_sorted}
 use Rattle.step_table.specs.Groups.{Names, names_among, items_of, gathered, has_several, shared_names, shared_of}
-use Rattle.step_table.proofs.Gathers.{found, names_sorted}
-use Rattle.step_table.proofs.Keyed.{recursion_map}
-use Rattle.step_table.proofs.Merges.{merged-nil, merged-less, merged-equal, merged-greater}
-use Rattle.step_table.proofs.Sets.{any_of_set}
+use Rattle.step_table.specs.KeySets.{any_of_set, merged-nil}
+use Rattle.step_table.proofs.Merges.{merged-less, merged-equal, merged-greater}
 
 module _ {K : Type 0} {R : K → K → Ordering} (o : IsTotalOrder R) (ties : (x y : K) → R x y ≡ Equal → x ≡ y) where
   is_here : (k : K) (ks : List K) → list_any (is_at (R k)) (k ∷ ks) ≡ true

@@ -4,7 +4,6 @@ pub mod Filters
 pub mod Gathers
 pub mod Grouped
 pub mod Itself
-pub mod Keyed
 pub mod LoneRows
 pub mod Matched
 pub mod Members
@@ -13,6 +12,5 @@ pub mod Ordered
 pub mod Partners
 pub mod Puts
 pub mod Sameness
-pub mod Sets
 pub mod Slices
 pub mod WellFormedSteps

@@ -14,7 +14,7 @@ use Rattle.step_table.specs.Groups.{Names, items_of, gathered, alone, lone_items
 use Rattle.step_table.specs.Outcomes.{keyed}
 use Rattle.step_table.specs.WellFormed.{IsTable}
 use Rattle.step_table.specs.declared.step.Row.{Row}
-use Rattle.step_table.proofs.Gathers.{names_sorted}
+use Rattle.step_table.specs.Gathering.{names_sorted}
 
 pub equal_from_is : (o : Ordering) → is_eq o ≡ true → o ≡ Equal
 equal_from_is Less e = absurd (cc)

@@ -11,7 +11,7 @@ use Rattle.step_table.specs.Matching.{signature_of}
 use Rattle.step_table.specs.Sets.{is_on, is_among, is_wanted, rows_on, rows_off}
 use Rattle.step_table.specs.Unions.{set_of}
 use Rattle.step_table.specs.declared.step.Row.{Row}
-use Rattle.step_table.proofs.Sets.{any_of_set}
+use Rattle.step_table.specs.KeySets.{any_of_set}
 
 module _ (p : Pairing) (side : List Row) where
   any_signature : (test : Names → Bool) (rows : List Row) → list_any test (map (signature_of p) rows) ≡ list_any (λ row. test (signature_of p row)) rows

@@ -4,15 +4,12 @@ use Rattle.std.proofs.lemmas.List.{nil_from_length}
 use Rattle.std.specs.declared.cmp.Ordering.{Ordering}
 use Rattle.std.specs.declared.cmp.Ordering.TheVariants.{Less, Equal, Greater}
 use Rattle.std.specs.Set.{sorted_merge}
+use Rattle.step_table.specs.KeySets.{merged-nil}
 
 module _ {K : Type 0} (R : K → K → Ordering) where
   -- what is merged so far and what is still to come, before a bound and all that may follow it, are the same at both
   pub record IsSame (bound : K) (all rest all' rest' : List K) : Type 0 where
     pub at : (xs : List K) → all ++ sorted_merge R true (bound ∷ xs) rest ≡ all' ++ sorted_merge R true (bound ∷ xs) rest'
-
-  pub merged-nil : (xs : List K) → sorted_merge R true xs [] ≡ xs
-  merged-nil [] = refl
-  merged-nil (x ∷ xs) = refl
 
   pub merged-less : (x : K) (xs : List K) (y : K) (ys : List K) → R x y ≡ Less → sorted_merge R true (x ∷ xs) (y ∷ ys) ≡ x ∷ sorted_merge R true xs (y ∷ ys)
   merged-less x xs y ys e = rw e refl
@@ -31,7 +28,7 @@ module _ {K : Type 0} (R : K → K → Ordering) where
     pub ended_none : length rest < 1 → (xs : List K) → all ++ bound ∷ sorted_merge R true xs rest ≡ all' ++ sorted_merge R true (bound ∷ xs) rest'
     ended_none l xs =
         let e : rest ≡ [] = nil_from_length rest (omega arith) in
-        ap (λ r. all ++ bound ∷ sorted_merge R true xs r) e ∙ ap (λ r. all ++ bound ∷ r) (merged-nil xs) ∙ ap (λ r. all ++ sorted_merge R true (bound ∷ xs) r) (sym e) ∙ same.at xs
+        ap (λ r. all ++ bound ∷ sorted_merge R true xs r) e ∙ ap (λ r. all ++ bound ∷ r) (merged-nil R xs) ∙ ap (λ r. all ++ sorted_merge R true (bound ∷ xs) r) (sym e) ∙ same.at xs
 
     module _ (y : K) (ys : List K) (is : rest ≡ y ∷ ys) where
       pub ended_less : R bound y ≡ Less → (xs : List K) → all ++ bound ∷ sorted_merge R true xs rest ≡ all' ++ sorted_merge R true (bound ∷ xs) rest'

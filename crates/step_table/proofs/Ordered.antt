@@ -8,7 +8,7 @@ use Rattle.std.specs.Ordering.{match_ordering, ordering_reverse}
 use Rattle.std.specs.List.{AllByRecursion, list_any}
 use Rattle.std.specs.List.Sorted.{IsStrictlySortedBy}
 use Rattle.std.specs.Set.{merge_step, sorted_merge}
-use Rattle.step_table.proofs.Keyed.{recursion_map}
+use Rattle.label_set.specs.Entries.{recursion_map}
 
 module _ {K : Type 0} (R : K → K → Ordering) where
   all_onto : (P : K → Type 0) (x : K) (xs : List K) (on : List K → List K) → P x → AllByRecursion P xs → ((ys : List K) → AllByRecursion P ys → AllByRecursion P (on ys)) → (ys : List K) → AllByRecursion P ys → AllByRecursion P (merge_step R true x xs on ys)

@@ -14,7 +14,7 @@ use Rattle.step_table.specs.Matching.{signature_of, by_signature, pair_outcome, 
 use Rattle.step_table.specs.OneSides.{read, partner_in, match_in}
 use Rattle.step_table.specs.Unions.{set_of}
 use Rattle.step_table.specs.declared.step.Row.{Row}
-use Rattle.step_table.proofs.Gathers.{found}
+use Rattle.step_table.specs.Gathering.{found}
 use denote.Ref.{Bor}
 
 module _ {A B : Type 0} (f : A → B) where

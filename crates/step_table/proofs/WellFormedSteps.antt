@@ -28,7 +28,7 @@ use Rattle.step_table.specs.declared.step.Row.{Row}
 use Rattle.step_table.specs.declared.step.Step.{Step}
 use Rattle.step_table.proofs.LoneRows.{lone_rows_sorted}
 use Rattle.step_table.proofs.Ordered.{sorted_union, sorted_filtered}
-use Rattle.step_table.proofs.Sets.{sorted_set}
+use Rattle.step_table.specs.KeySets.{sorted_set}
 
 pub united_sets : (a b : Marks) → AreSets a → AreSets b → AreSets (united a b)
 united_sets a b s t = record { fatal = sorted_union mark_cmp_total a.fatal b.fatal s.fatal t.fatal; notes = sorted_union note_cmp_total a.notes b.notes s.notes t.notes }

@@ -1,4 +1,6 @@
+pub mod Gathering
 pub mod Groups
+pub mod KeySets
 pub mod Laws
 pub mod Matching
 pub mod OneSides

@@ -1,20 +1,21 @@
 ghost use Rattle.std.specs.List.{filter_map};
 ghost use Rattle.std.specs.Option.{option_to_list};
-ghost use Rattle.std.specs.Prelude.{◌≡◌, ◌++◌, IfOk, OnOk};
+ghost use Rattle.std.specs.Prelude.{◌≡◌, ◌++◌, ◌∷◌, [], IfOk, OnOk};
 ghost use Rattle.step_table.specs.Groups.{alone, gathered, lone_items, shared_names, shared_of, with_item};
 
 use label_set::{Items, Labels};
 use std::alloc::{AllocError, Global};
 use std::collections::BTreeMap;
 
-/// Adds an item to those that have its labels.
-fn add<T: Drop>(
+/// Adds an item to those that have its labels, behind them. The only error is want of memory.
+pub fn add<T: Drop>(
     groups: &mut BTreeMap<Labels, Items<T>>,
     alloc: Global,
     labels: Labels,
     item: T,
 ) -> Result<(), AllocError>
-    ensures { OnOk result (groups.new.entries ≡ with_item groups.old.entries labels item) }
+    ensures one_more { OnOk result (groups.new.entries ≡ with_item groups.old.entries labels item) }
+    ensures gathered { OnOk result ((items : _) → groups.old.entries ≡ gathered items → groups.new.entries ≡ gathered (items ++ (labels, item) ∷ [])) }
 {
     if let Some(items) = groups.get_mut(&labels) {
         items.push(item)?;

@@ -15,7 +15,7 @@ mod step;
 mod unions;
 
 pub use cells::{Cell, CellRow, PartKind, StepCells};
-pub use groups::{Parted, gather, part, part_groups};
+pub use groups::{Parted, add, gather, part, part_groups};
 pub use marks::{Mark, Marks, Note};
 pub use matching::pair;
 pub use operators::{drops_name, operate, without_name};

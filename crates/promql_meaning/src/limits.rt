@@ -9,7 +9,7 @@ use std::alloc::{AllocError, Global};
 use step_table::Outcome;
 use xfrac::{NumFault, XFrac};
 
-/// A value under its labels; labels that would pass the limits are a fault.
+/// A value under its labels; labels that would pass the limits are the fault Overflow, under no labels.
 pub fn labelled(alloc: Global, labels: Option<Labels>, value: XFrac) -> Outcome
     ensures { result ≡ with_labels labels value }
 {
@@ -26,8 +26,8 @@ pub fn labelled(alloc: Global, labels: Option<Labels>, value: XFrac) -> Outcome
 }
 
 /// The labels with a value under a name, in place of the one that is there; an empty value takes it out. There are none
-/// where they would pass the limits. The only error is want of memory.
-pub fn with_label(
+/// where the name is empty or they would pass the limits of labels. The only error is want of memory.
+pub fn labels_with(
     alloc: Global,
     labels: Labels,
     name: &str,
@@ -67,7 +67,8 @@ fn set_one(labels: &mut Labels, name: &str, value: &str) -> Result<bool, AllocEr
     }
 }
 
-/// Puts a pair, and answers whether it was taken. The only error is want of memory.
+/// Puts a value under a name that has none, and answers whether it was taken: not where the name is empty or there, or where
+/// the labels would pass their limits. An empty value changes nothing. The only error is want of memory.
 pub fn put_one(labels: &mut Labels, name: &str, value: &str) -> Result<bool, AllocError>
     ensures { IfOk result (λ taken. MatchBool taken
         ((is_some (put_refusal labels.old name.now value.now) ≡ false) × (labels.new ≡ with_pair labels.old name.now value.now))
