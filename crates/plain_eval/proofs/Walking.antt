@@ -1,11 +1,12 @@
 -- A walk over instants, one instant further.
 use Rattle.std.proofs.Common.{◌≡◌, ◌∙◌, ℕ, ◌+◌, ◌<◌, ◌≤◌, Bool, true, false, List, [], ◌∷◌, ◌++◌, length, get_or, drop, map, ap, sym, subst, refl, arith, Option, None, Some, append_assoc, append-nil}
-use Rattle.std.specs.Prelude.{ℤ, nat_lt, if◌then◌else◌}
+use Rattle.std.specs.Prelude.{ℤ, fold, nat_lt, if◌then◌else◌}
 use Rattle.std.specs.List.{AllByRecursion}
 use Rattle.std.specs.Option.{option_or}
 use Rattle.std.proofs.lemmas.Bool.Decides.{nat_tests}
 use Rattle.std.proofs.lemmas.List.{drop_all}
-use Rattle.step_table.specs.Groups.{Names}
+use Rattle.step_table.specs.Gathering.{gathered_more}
+use Rattle.step_table.specs.Groups.{Names, gathered, with_item}
 use Rattle.step_table.specs.Unions.{united}
 use Rattle.promql_ast.specs.declared.tree.Expr.{Expr}
 use Rattle.step_table.specs.declared.marks.Mark.{Mark}
@@ -26,6 +27,28 @@ use Rattle.plain_eval.proofs.Rests.{drop_at}
 abbrev pub at_instant : Ms → Step → StepAt
 at_instant u step = record { at = u; step = step }
 
+-- what is gathered so far, and what is to come, of all points
+pub record Gathers (entries : List (Names × List Point)) (rest all : List (Names × Point)) : Type 0 where
+  pub read : List (Names × Point)
+  pub held : entries ≡ gathered read
+  pub whole : read ++ rest ≡ all
+
+pub none_yet : (entries : List (Names × List Point)) (all : List (Names × Point)) → entries ≡ [] → Gathers entries all all
+unfolding gathered
+none_yet entries all is = record { read = []; held = is; whole = refl }
+
+abbrev pub labelled_at : Ms → Row → Names × Point
+labelled_at at row = (row.labels, record { at = at; value = row.value })
+
+-- the entries, with each of some points put to those that have its labels
+abbrev pub put_all : List (Names × List Point) → List (Names × Point) → List (Names × List Point)
+put_all entries points = fold (λ groups p. with_item groups p.0 p.1) entries points
+
+pub all_put : (read points : List (Names × Point)) → put_all (gathered read) points ≡ gathered (read ++ points)
+all_put read [] = ap gathered (sym (append-nil read))
+all_put read (p ∷ points) =
+    ap (λ groups. put_all groups points) (sym (gathered_more read p)) ∙ all_put (read ++ p ∷ []) points ∙ ap gathered (append_assoc read (p ∷ []) points)
+
 module _ (meant : ℤ → Step) (us : List Ms) (i : ℕ) (d : Ms) (step : Step) (within : i < length us) (is : step ≡ meant (get_or us i d).0) where
   abbrev u : Ms
   u = get_or us i d
@@ -43,9 +66,13 @@ module _ (meant : ℤ → Step) (us : List Ms) (i : ℕ) (d : Ms) (step : Step) 
   pub stops_here : (earlier : ℕ) (outcome : Outcome) → stop_at earlier (at_instant u step) ≡ Some outcome → first_stop earlier (steps_over meant (drop i us)) ≡ Some outcome
   stops_here earlier outcome some = ap (first_stop earlier) split ∙ ap (λ o. option_or o (first_stop (earlier + length step.table.rows) left)) some
 
-  pub points_more : (old new all : List (Names × Point)) → new ≡ old ++ points_at (at_instant u step) → old ++ all_points (steps_over meant (drop i us)) ≡ all → new ++ all_points left ≡ all
-  points_more old new all made told =
-      ap (λ ps. ps ++ all_points left) made ∙ append_assoc old (points_at (at_instant u step)) (all_points left) ∙ sym (ap (λ ss. old ++ all_points ss) split) ∙ told
+  pub points_more : (old new : List (Names × List Point)) (all : List (Names × Point)) → ((points : List (Names × Point)) → old ≡ gathered points → new ≡ gathered (points ++ points_at (at_instant u step)))
+      → Gathers old (all_points (steps_over meant (drop i us))) all → Gathers new (all_points left) all
+  points_more old new all more told = record {
+    read = told.read ++ points_at (at_instant u step);
+    held = more told.read told.held;
+    whole = append_assoc told.read (points_at (at_instant u step)) (all_points left) ∙ sym (ap (λ ss. told.read ++ all_points ss) split) ∙ told.whole;
+  }
 
   pub marks_more : (old new all : Marks) → new ≡ united old step.marks → all_marks old (steps_over meant (drop i us)) ≡ all → all_marks new left ≡ all
   marks_more old new all made told = ap (λ m. all_marks m left) made ∙ sym (ap (all_marks old) split) ∙ told
@@ -54,8 +81,9 @@ module _ (meant : ℤ → Step) (us : List Ms) (i : ℕ) (d : Ms) (step : Step) 
 pub no_stop : (meant : ℤ → Step) (us : List Ms) (i earlier : ℕ) → length us ≤ i → first_stop earlier (steps_over meant (drop i us)) ≡ None
 no_stop meant us i earlier w = ap (λ vs. first_stop earlier (steps_over meant vs)) (drop_all i us w)
 
-pub points_done : (meant : ℤ → Step) (us : List Ms) (i : ℕ) (old all : List (Names × Point)) → length us ≤ i → old ++ all_points (steps_over meant (drop i us)) ≡ all → old ≡ all
-points_done meant us i old all w told = sym (append-nil old) ∙ ap (λ vs. old ++ all_points (steps_over meant vs)) (sym (drop_all i us w)) ∙ told
+pub points_done : (meant : ℤ → Step) (us : List Ms) (i : ℕ) (old : List (Names × List Point)) (all : List (Names × Point)) → length us ≤ i → Gathers old (all_points (steps_over meant (drop i us))) all → old ≡ gathered all
+points_done meant us i old all w told =
+    told.held ∙ ap gathered (sym (append-nil told.read) ∙ ap (λ vs. told.read ++ all_points (steps_over meant vs)) (sym (drop_all i us w)) ∙ told.whole)
 
 pub marks_done : (meant : ℤ → Step) (us : List Ms) (i : ℕ) (old all : Marks) → length us ≤ i → all_marks old (steps_over meant (drop i us)) ≡ all → old ≡ all
 marks_done meant us i old all w told = ap (λ vs. all_marks old (steps_over meant vs)) (sym (drop_all i us w)) ∙ told
