@@ -51,7 +51,7 @@ run_boundary text zero u e = IsCharBoundary-start text u
 run_boundary text (suc n) u e =
     let last = last_of_run text n (sym e) in
     let P : ℕ → Type 0 = λ k. IsCharBoundary text k in
-    subst P add-one (IsCharBoundary-after_ascii text n u last.0 (word_ascii (get_or text n 0) last.1))
+    subst P (add-one n) (IsCharBoundary-after_ascii text n u last.0 (word_ascii (get_or text n 0) last.1))
 
 pub name_boundary : (text : List ℕ) (n : ℕ) → IsUtf8 text → n ≡ length (name_in text) → IsCharBoundary text n
 name_boundary text n u e = run_boundary text n u (e ∙ name_length text)

@@ -19,7 +19,7 @@ use Rattle.promql_meaning.specs.Ranks.{value_order}
 
 -- ---- numbers among all that look like some
 
-is_reduced : ℤ × ℕ → Bool
+pub is_reduced : ℤ × ℕ → Bool
 is_reduced f = nat_lt 0 f.1 && (nat_le (unsigned_abs f.0) limit && (nat_le f.1 limit && gcd (unsigned_abs f.0) f.1 == 1))
 
 abbrev pub tidy : XFrac → XFrac
