@@ -2,6 +2,8 @@
 use Rattle.std.proofs.Common.{◌≡◌, ◌∙◌, ℕ, ◌+◌, ◌<◌, ◌≤◌, Bool, true, false, List, [], ◌∷◌, ◌++◌, length, get_or, drop, map, ap, sym, subst, refl, arith, Option, None, Some, append_assoc, append-nil}
 use Rattle.std.specs.Prelude.{ℤ, fold, nat_lt, if◌then◌else◌}
 use Rattle.std.specs.List.{AllByRecursion}
+use Rattle.std.specs.Result.{OnOk}
+use Rattle.std.specs.Prelude.{Result, Ok, Err}
 use Rattle.std.specs.Option.{option_or}
 use Rattle.std.proofs.lemmas.Bool.Decides.{nat_tests}
 use Rattle.std.proofs.lemmas.List.{drop_all}
@@ -26,6 +28,11 @@ use Rattle.plain_eval.proofs.Rests.{drop_at}
 
 abbrev pub at_instant : Ms → Step → StepAt
 at_instant u step = record { at = u; step = step }
+
+-- what holds in any case holds where all went well
+pub on_any : {T E P : Type 0} (r : Result T E) → P → OnOk r P
+on_any (Ok x) p = p
+on_any (Err e) p = tt
 
 -- what is gathered so far, and what is to come, of all points
 pub record Gathers (entries : List (Names × List Point)) (rest all : List (Names × Point)) : Type 0 where
