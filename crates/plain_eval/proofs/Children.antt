@@ -156,29 +156,38 @@ module _ (asked : Asked) (placed : List Placed) where
       (sym (ap refused j) ∙ r.typed)
       (subst Kept j r.patterns)
 
+  both_ready : (left right : Expr) (t : ℤ) → AreMet asked (needs_of asked left t ++ needs_of asked right t) → (judged left).refusals ++ (judged right).refusals ≡ []
+      → AllByRecursion (IsPlaced asked.kept placed) ((judged left).replacements ++ (judged right).replacements) → IsReady asked placed left t × IsReady asked placed right t
+  both_ready left right t met typed patterns = (
+    record {
+      met = all_front (IsMet asked.kept) (needs_of asked left t) (needs_of asked right t) met;
+      typed = front_none (judged left).refusals (judged right).refusals typed;
+      patterns = all_front (IsPlaced asked.kept placed) (judged left).replacements (judged right).replacements patterns;
+    },
+    record {
+      met = all_back (IsMet asked.kept) (needs_of asked left t) (needs_of asked right t) met;
+      typed = back_none (judged left).refusals (judged right).refusals typed;
+      patterns = all_back (IsPlaced asked.kept placed) (judged left).replacements (judged right).replacements patterns;
+    },
+  )
+
   pub ready_Pair : (e : Expr) (op : PairOp) (left right : Expr) (pairing : Pairing) (t : ℤ) → e.node ≡ Pair op left right pairing → IsReady asked placed e t
       → IsReady asked placed left t × IsReady asked placed right t
   ready_Pair e op left right pairing t is r =
       let j = fold-Pair node_step expr_step e op left right pairing is in
-      let met = subst (λ f. AreMet asked (f t)) (fold-Pair (node_needs asked) (λ e. e.node) e op left right pairing is) r.met in
-      let typed = front_none ((judged left).refusals ++ (judged right).refusals) (pair_refusals op pairing (judged left).operand (judged right).operand e.at) (sym (ap refused j) ∙ r.typed) in
-      let patterns = subst Kept j r.patterns in
-      both_ready left right t met typed patterns
-    where
-      both_ready : (left right : Expr) (t : ℤ) → AreMet asked (needs_of asked left t ++ needs_of asked right t) → (judged left).refusals ++ (judged right).refusals ≡ []
-          → AllByRecursion (IsPlaced asked.kept placed) ((judged left).replacements ++ (judged right).replacements) → IsReady asked placed left t × IsReady asked placed right t
-      both_ready left right t met typed patterns = (
-        record {
-          met = all_front (IsMet asked.kept) (needs_of asked left t) (needs_of asked right t) met;
-          typed = front_none (judged left).refusals (judged right).refusals typed;
-          patterns = all_front (IsPlaced asked.kept placed) (judged left).replacements (judged right).replacements patterns;
-        },
-        record {
-          met = all_back (IsMet asked.kept) (needs_of asked left t) (needs_of asked right t) met;
-          typed = back_none (judged left).refusals (judged right).refusals typed;
-          patterns = all_back (IsPlaced asked.kept placed) (judged left).replacements (judged right).replacements patterns;
-        },
-      )
+      both_ready left right t
+      (subst (λ f. AreMet asked (f t)) (fold-Pair (node_needs asked) (λ e. e.node) e op left right pairing is) r.met)
+      (front_none ((judged left).refusals ++ (judged right).refusals) (pair_refusals op pairing (judged left).operand (judged right).operand e.at) (sym (ap refused j) ∙ r.typed))
+      (subst Kept j r.patterns)
+
+  pub ready_Set : (e : Expr) (op : SetOp) (left right : Expr) (pairing : Pairing) (t : ℤ) → e.node ≡ Set op left right pairing → IsReady asked placed e t
+      → IsReady asked placed left t × IsReady asked placed right t
+  ready_Set e op left right pairing t is r =
+      let j = fold-Set node_step expr_step e op left right pairing is in
+      both_ready left right t
+      (subst (λ f. AreMet asked (f t)) (fold-Set (node_needs asked) (λ e. e.node) e op left right pairing is) r.met)
+      (front_none ((judged left).refusals ++ (judged right).refusals) (set_refusals pairing (judged left).operand (judged right).operand e.at) (sym (ap refused j) ∙ r.typed))
+      (subst Kept j r.patterns)
 
 -- ---- depths
 

@@ -50,7 +50,7 @@ all_of P (x ∷ xs) a (suc k) d w = all_of P xs a.1 k d (omega (arith, w))
 -- ---- a range selector
 
 -- a time behind the left edge of a range, up to its moment
-abbrev IsIn : ℤ → ℤ → Ms → Type 0
+abbrev pub IsIn : ℤ → ℤ → Ms → Type 0
 IsIn edge m t = (edge ≤ℤ t.0) × (t.0 ≤ℤ m)
 
 fresh_in : (edge m : ℤ) (s : Ms × Held) (rest : List (Ms × XFrac)) → IsIn edge m s.0 → AllByRecursion (λ (x : Ms × XFrac). IsIn edge m x.0) rest
@@ -204,7 +204,7 @@ instants_in edge m first s zero behind last = ((omega (arith, ints, behind), ome
 instants_in edge m first s (suc n) behind last =
     ((omega (arith, ints, behind), omega (arith, ints, last)), instants_in edge m (first +ℤ pos s) s n (omega (arith, ints, behind)) (omega (arith, ints, last)))
 
-up_to_in : (edge m first : ℤ) (s : ℕ) → 0 < s → edge <ℤ first → AllByRecursion (IsIn edge m) (as_times (instants_up_to first m (pos s)))
+pub up_to_in : (edge m first : ℤ) (s : ℕ) → 0 < s → edge <ℤ first → AllByRecursion (IsIn edge m) (as_times (instants_up_to first m (pos s)))
 up_to_in edge m first s positive behind =
     let k = unsigned_abs (m -ℤ first) in
     let e : k / s * s + k % s ≡ k = div-add-mod' k s in

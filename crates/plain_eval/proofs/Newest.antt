@@ -9,6 +9,7 @@ use Rattle.std.specs.Ordering.{int_cmp}
 use Rattle.std.specs.Cmp.{int_ranked}
 use Rattle.std.specs.declared.cmp.Ordering.TheVariants.{Less}
 use Rattle.std.proofs.lemmas.Int.{ints}
+use Rattle.std.proofs.lemmas.List.Elements.{All-contains_itself, recursion_from_All}
 use Rattle.label_set.specs.declared.rules.Rule.{Rule}
 use Rattle.label_set.specs.Labels.{labels_cmp}
 use Rattle.match_rule.specs.Patterns.{labels_pass}
@@ -124,9 +125,8 @@ pub made_of : {A B : Type 0} (make : A → Option B) (all found : List A) (numbe
 made_of make all found numbers is = fused make all numbers ∙ ap (filter_map make) is
 
 each_within : (bound : ℕ) (numbers : List ℕ) → ((s : ℕ) → Contains numbers s → s < bound) → AllByRecursion (λ (n : ℕ). n < bound) numbers
-each_within bound [] within = tt
-each_within bound (n ∷ numbers) within =
-    (within n (0, (omega arith, refl)), each_within bound numbers (λ s c. within s (suc c.0, (omega (arith, c.1.0), c.1.1))))
+each_within bound numbers within =
+    recursion_from_All (λ (n : ℕ). n < bound) numbers (λ k d w. within (get_or numbers k d) (All-contains_itself numbers k d w))
 
 -- each number of a selection is that of a series
 pub all_within : (kept : List (Bool × List ℕ)) (rules : List Rule) (all : AllSeries) (places : List ℕ) → IsSelected kept rules all places → AllByRecursion (λ (n : ℕ). n < length all) places

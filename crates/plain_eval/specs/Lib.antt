@@ -4,6 +4,7 @@ pub mod Frames
 pub mod Joined
 pub mod Numbered
 pub mod Placing
+pub mod Queried
 pub mod Ranked
 pub mod Ready
 pub mod Spanned

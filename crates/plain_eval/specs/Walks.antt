@@ -2,6 +2,7 @@
 use Rattle.std.specs.Prelude.{◌≡◌, List, Some, None}
 use Rattle.plain_eval.specs.declared.results.Walked.{Walked}
 use Rattle.plain_eval.specs.declared.results.Walked.TheVariants.{Stopped, Done}
+use Rattle.step_table.specs.Groups.{gathered}
 use Rattle.promql_meaning.specs.Givens.{no_marks}
 use Rattle.promql_meaning.specs.Results.{StepAt, all_marks, all_points, first_stop}
 
@@ -9,4 +10,4 @@ use Rattle.promql_meaning.specs.Results.{StepAt, all_marks, all_points, first_st
 abbrev pub IsWalked : List StepAt → Walked → Type 0
 IsWalked steps (Stopped outcome) = first_stop 0 steps ≡ Some outcome
 IsWalked steps (Done found) =
-    (first_stop 0 steps ≡ None) × (found.points ≡ all_points steps) × (found.marks ≡ all_marks no_marks steps)
+    (first_stop 0 steps ≡ None) × (found.points.entries ≡ gathered (all_points steps)) × (found.marks ≡ all_marks no_marks steps)

@@ -2,39 +2,39 @@
 ghost use Rattle.promql_meaning.specs.Subqueries.{as_times, gathered_windows, instants, instants_up_to, multiple_after, multiples, timed};
 ghost use Rattle.std.specs.List.{AllByRecursion};
 ghost use Rattle.std.specs.Option.{option_to_list};
-ghost use Rattle.std.specs.Prelude.{◌≡◌, ◌++◌, ◌<ℤ◌, ◌≤ℤ◌, ◌-ℤ◌, ◌+ℤ◌, pos, IfOk, OnOk};
+ghost use Rattle.std.specs.Prelude.{◌≡◌, [], ◌++◌, ◌+◌, ◌<ℤ◌, ◌-ℤ◌, ◌+ℤ◌, pos, IfOk, OnOk};
 ghost use Rattle.step_table.specs.Unions.{united};
 ghost use Rattle.ticks.specs.Grids.{step_count};
 ghost use Rattle.ticks.specs.Walks.{IsTime};
 
 use crate::selecting::{earlier, window_of};
 use label_set::{Items, Labels};
-use promql_meaning::WindowRow;
+use promql_meaning::{WindowRow, Windows};
 use std::alloc::{AllocError, Global};
 use step_table::{Marks, Step, gather};
 use ticks::Ms;
 use xfrac::XFrac;
 
+/// The time a step later.
 fn next(u: Ms, step: Ms) -> Ms
-    requires time { IsTime u.0 }
-    requires step { IsTime step.0 }
+    requires { IsTime (u.0 +ℤ step.0) }
     ensures { result.0 ≡ u.0 +ℤ step.0 }
 {
     Ms(u.0 + step.0)
 }
 
-/// So many instants from a first one on, a step apart.
-fn instants(alloc: Global, first: Ms, step: Ms, count: u64) -> Result<Items<Ms>, AllocError>
-    requires step { IsTime step.0 }
-    requires times { AllByRecursion IsTime (instants first.0 step.0 count) }
-    ensures { IfOk result (λ us. us ≡ as_times (instants first.0 step.0 count)) }
+/// A first instant and so many after it, a step apart.
+fn instants(alloc: Global, first: Ms, step: Ms, more: u64) -> Result<Items<Ms>, AllocError>
+    requires { AllByRecursion IsTime (instants first.0 step.0 (more + 1)) }
+    ensures { IfOk result (λ us. us ≡ as_times (instants first.0 step.0 (more + 1))) }
 {
     let mut us = Items::new(alloc);
+    us.push(first)?;
     let mut u = first;
-    let mut left = count;
+    let mut left = more;
     while left > 0 {
-        us.push(u)?;
         u = next(u, step);
+        us.push(u)?;
         left -= 1;
     }
     Ok(us)
@@ -50,21 +50,16 @@ fn multiple_after(step: Ms, edge: Ms) -> Ms
     Ms(edge.0 + (step.0 - edge.0.rem_euclid(step.0)))
 }
 
-fn count_of(first: Ms, last: Ms, step: Ms) -> u64
-    requires ordered { first.0 ≤ℤ last.0 }
-    requires first { IsTime first.0 }
-    requires last { IsTime last.0 }
-    requires positive { pos 0 <ℤ step.0 }
-    ensures { result ≡ step_count first.0 last.0 step.0 }
+/// How many steps fit between two times.
+fn steps_between(first: Ms, last: Ms, step: Ms) -> u64
+    requires { pos 0 <ℤ step.0 }
+    ensures { result + 1 ≡ step_count first.0 last.0 step.0 }
 {
-    last.0.abs_diff(first.0) / step.0.unsigned_abs() + 1
+    last.0.abs_diff(first.0) / step.0.unsigned_abs()
 }
 
 /// A first instant and those after it, a step apart, up to a last time. The only error is want of memory.
 pub fn instants_up_to(alloc: Global, first: Ms, last: Ms, step: Ms) -> Result<Items<Ms>, AllocError>
-    requires last { IsTime last.0 }
-    requires first { IsTime first.0 }
-    requires step { IsTime step.0 }
     requires positive { pos 0 <ℤ step.0 }
     requires times { AllByRecursion IsTime (instants_up_to first.0 last.0 step.0) }
     ensures { IfOk result (λ us. us ≡ as_times (instants_up_to first.0 last.0 step.0)) }
@@ -72,14 +67,12 @@ pub fn instants_up_to(alloc: Global, first: Ms, last: Ms, step: Ms) -> Result<It
     if last.0 < first.0 {
         return Ok(Items::new(alloc));
     }
-    instants(alloc, first, step, count_of(first, last, step))
+    instants(alloc, first, step, steps_between(first, last, step))
 }
 
 /// The multiples of a step in the range up to a moment. The only error is want of memory.
 pub fn multiples(alloc: Global, m: Ms, range: Ms, step: Ms) -> Result<Items<Ms>, AllocError>
-    requires moment { IsTime m.0 }
     requires edge { IsTime (m.0 -ℤ range.0) }
-    requires first { IsTime (multiple_after step.0 (m.0 -ℤ range.0)) }
     requires step { IsTime step.0 }
     requires positive { pos 0 <ℤ step.0 }
     requires times { AllByRecursion IsTime (multiples m.0 range.0 step.0) }
@@ -108,8 +101,8 @@ pub fn add_step(points: &mut Points, u: Ms, step: Step) -> Result<(), AllocError
     points.marks.unite(&marks)
 }
 
-/// For all labels of rows, the times and values of the rows that have them. The only error is want of memory.
-pub fn windows_of(
+/// For all labels of rows, the times and values of the rows that have them.
+fn windows_of(
     alloc: Global,
     rows: Items<(Labels, (Ms, XFrac))>,
 ) -> Result<Items<WindowRow>, AllocError>
@@ -120,6 +113,25 @@ pub fn windows_of(
         add_window(&mut windows, window_of(labels, samples))?;
     }
     Ok(windows)
+}
+
+/// The windows of points in a range that ends at a moment. The only error is want of memory.
+pub fn windows_over(
+    alloc: Global,
+    moment: Ms,
+    range: Ms,
+    points: Points,
+) -> Result<Windows, AllocError>
+    ensures { IfOk result (λ windows. windows ≡ record { moment = moment; range = range; rules = []; rows = gathered_windows points.rows; marks = points.marks }) }
+{
+    let Points { rows, marks } = points;
+    Ok(Windows {
+        moment,
+        range,
+        rules: Items::new(alloc),
+        rows: windows_of(alloc, rows)?,
+        marks,
+    })
 }
 
 fn add_window(windows: &mut Items<WindowRow>, row: Option<WindowRow>) -> Result<(), AllocError>

@@ -1,4 +1,5 @@
 //! The result of a query over a grid.
+ghost use Rattle.plain_eval.specs.Ranked.{order_of};
 ghost use Rattle.plain_eval.specs.Ready.{ArePlaced};
 ghost use Rattle.plain_eval.specs.Walks.{IsWalked};
 ghost use Rattle.promql_meaning.specs.Conditions.{AreMet, needs_of, needs_over};
@@ -7,13 +8,14 @@ ghost use Rattle.promql_meaning.specs.Orders.{in_order as series_in_order};
 ghost use Rattle.promql_meaning.specs.Results.{gives_scalar, grid_times, order_asked, points_at, result_of, series_of_group, steps_over, stop_at as stop_of};
 ghost use Rattle.promql_meaning.specs.Selecting.{asked_over};
 ghost use Rattle.promql_type.specs.TypedTrees.{placed_of, tree_of};
+ghost use Rattle.std.specs.Option.{option_map};
 ghost use Rattle.std.specs.Prelude.{◌≡◌, ◌≤◌, ◌++◌, map, IfOk, OnOk};
 ghost use Rattle.step_table.specs.Groups.{gathered};
 ghost use Rattle.step_table.specs.Unions.{united};
 
 use crate::evaluating::at;
 use crate::givens::no_marks;
-use crate::orders::{in_order, root_order};
+use crate::orders::{ByValue, in_order, root_order};
 use crate::points::instants_up_to;
 use label_set::{Items, Labels};
 use match_rule::Patterns;
@@ -21,17 +23,18 @@ use promql_meaning::{Answer, Outcome, Point, ResultSeries};
 use promql_type::Typed;
 use sample_store::Store;
 use std::alloc::{AllocError, Global};
+use std::collections::BTreeMap;
 use std::sync::ledger::Ledger;
-use step_table::{Marks, Step, gather};
+use step_table::{Marks, Step, add};
 use ticks::{Grid, Ms, Work};
 
 /// The most rows of a result, over all its instants.
 const MOST_ROWS: usize = 4_000_000;
 
-/// The points of all instants so far under their labels, and the notes and marks of these instants.
+/// The points of all instants so far by their labels, and the notes and marks of these instants.
 #[derive(Drop)]
 pub(crate) struct Found {
-    pub points: Items<(Labels, Point)>,
+    pub points: BTreeMap<Labels, Items<Point>>,
     pub marks: Marks,
 }
 
@@ -86,15 +89,17 @@ fn walk<W: Ledger>(
 {
     let times = instants_up_to(alloc, grid.start, grid.end, grid.step)?;
     let mut found = Found {
-        points: Items::new(alloc),
+        points: BTreeMap::new(alloc),
         marks: no_marks(alloc),
     };
+    let mut rows = 0;
     for t in times.as_slice() {
         let step = at(alloc, e, s, p, *t, grid, work)?;
-        if let Some(outcome) = stop_at(found.points.as_slice().len(), *t, &step)? {
+        if let Some(outcome) = stop_at(rows, *t, &step)? {
             return Ok(Walked::Stopped(outcome));
         }
-        add_step(&mut found, *t, step)?;
+        rows += step.table.rows.as_slice().len();
+        add_step(alloc, &mut found, *t, step)?;
     }
     Ok(Walked::Done(found))
 }
@@ -120,36 +125,41 @@ fn stop_at(earlier: usize, t: Ms, step: &Step) -> Result<Option<Outcome>, AllocE
 }
 
 /// Adds the rows, notes and marks of an instant. The only error is want of memory.
-fn add_step(found: &mut Found, t: Ms, step: Step) -> Result<(), AllocError>
-    ensures points { OnOk result (found.new.points ≡ found.old.points ++ points_at (record { at = t; step = step })) }
+fn add_step(alloc: Global, found: &mut Found, t: Ms, step: Step) -> Result<(), AllocError>
+    ensures points { OnOk result ((points : _) → found.old.points.entries ≡ gathered points → found.new.points.entries ≡ gathered (points ++ points_at (record { at = t; step = step }))) }
     ensures marks { OnOk result (found.new.marks ≡ united found.old.marks step.marks) }
 {
     let Step { table, marks } = step;
     for row in table.rows.into_vec() {
-        found.points.push((
-            row.labels,
-            Point {
-                at: t,
-                value: row.value,
-            },
-        ))?;
+        let point = Point {
+            at: t,
+            value: row.value,
+        };
+        add(&mut found.points, alloc, row.labels, point)?;
     }
     found.marks.unite(&marks)
 }
 
+/// The order by value that the root of an instant query asks for.
+fn order_asked(alloc: Global, e: &Typed, instant: bool) -> Result<Option<ByValue>, AllocError>
+    ensures { IfOk result (λ order. option_map order_of order ≡ order_asked instant (tree_of e.now)) }
+{
+    if !instant {
+        return Ok(None);
+    }
+    root_order(alloc, e.expr())
+}
+
 /// The answer of all instants.
+#[tactic(auto, using(crate::proofs::Scalars::tells_scalar))]
 fn answer(alloc: Global, e: &Typed, instant: bool, found: Found) -> Result<Answer, AllocError>
     ensures { IfOk result (λ answer. answer ≡ record {
       scalar = gives_scalar (tree_of e.now);
-      series = series_in_order (order_asked instant (tree_of e.now)) (map series_of_group (gathered found.points));
+      series = series_in_order (order_asked instant (tree_of e.now)) (map series_of_group found.points.entries);
       notes = found.marks.notes;
     }) }
 {
-    let order = if instant {
-        root_order(alloc, e.expr())?
-    } else {
-        None
-    };
+    let order = order_asked(alloc, e, instant)?;
     let series = series_of(alloc, found.points)?;
     Ok(Answer {
         scalar: e.is_scalar(),
@@ -158,15 +168,15 @@ fn answer(alloc: Global, e: &Typed, instant: bool, found: Found) -> Result<Answe
     })
 }
 
-/// For all labels of rows, the times and values of the rows that have them, in the order of labels.
+/// A series for all labels that there are points of, in the order of labels.
 fn series_of(
     alloc: Global,
-    points: Items<(Labels, Point)>,
+    points: BTreeMap<Labels, Items<Point>>,
 ) -> Result<Items<ResultSeries>, AllocError>
-    ensures { IfOk result (λ series. series ≡ map series_of_group (gathered points)) }
+    ensures { IfOk result (λ series. series ≡ map series_of_group points.entries) }
 {
     let mut series = Items::new(alloc);
-    for (labels, points) in gather(alloc, points)? {
+    for (labels, points) in points {
         series.push(ResultSeries { labels, points })?;
     }
     Ok(series)

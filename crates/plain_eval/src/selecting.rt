@@ -192,7 +192,6 @@ fn window_at<W: Ledger>(
 }
 
 /// The samples of the window of a series.
-#[tactic(auto, using(crate::proofs::Newest::of_range))]
 fn samples_at<W: Ledger>(
     alloc: Global,
     store: &Store,

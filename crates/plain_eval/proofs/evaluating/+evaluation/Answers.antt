@@ -5,10 +5,9 @@ use Rattle.ticks.specs.declared.moment.Ms.{Ms}
 use Rattle.step_table.specs.declared.step.Step.{Step}
 use Rattle.promql_ast.specs.declared.tree.Expr.{Expr}
 use Rattle.promql_ast.specs.Depth.{depth, greatest}
-use Rattle.promql_type.specs.TypedTrees.{placed_of}
 use Rattle.promql_meaning.specs.Givens.{step_of}
 use Rattle.promql_meaning.specs.Meaning.{meaning, meaning_step}
-use Rattle.promql_meaning.specs.Selecting.{asked_over}
+use Rattle.plain_eval.specs.Queried.{asked_of}
 use Rattle.plain_eval.specs.Ready.{IsReady}
 use Rattle.plain_eval.proofs.Children.{depth_Paren, depth_Negate, depth_Subquery, depth_Call, depth_Aggregate, depth_item, ready_Paren, ready_Negate, ready_Call, ready_Aggregate}
 use Rattle.plain_eval.proofs.Rests.{next_holds, item_holds, given_more, rows_more, marks_more}
@@ -16,8 +15,8 @@ use Rattle.plain_eval.proofs.evaluating.+evaluation.Goals as goal
 
 pub value_at-value_at-requires : goal.value_at-value_at-requires
 value_at-value_at-requires g t c κs within =
-    let asked = asked_over c.args.store.now c.args.patterns.now c.args.span.now in
-    let placed = placed_of c.args.typed.now in
+    let asked = asked_of c.args.query.now c.args.patterns.now in
+    let placed = c.args.query.now.placed in
     let d : depth c.get.result.now < depth c.args.e.now = subst (λ e. depth e < depth c.args.e.now) (sym c.get.ensures) (depth_Paren c.args.e.now c.in-Paren.inner c.in-Paren.is) in
     let ready : IsReady asked placed c.get.result.now c.args.t.0 =
     subst (λ e. IsReady asked placed e c.args.t.0) (sym c.get.ensures) (ready_Paren asked placed c.args.e.now c.in-Paren.inner c.args.t.0 c.in-Paren.is c.requires) in
@@ -25,8 +24,8 @@ value_at-value_at-requires g t c κs within =
 
 pub value_at-value_at-requires-in-Negate : goal.value_at-value_at-requires-in-Negate
 value_at-value_at-requires-in-Negate g t c κs within =
-    let asked = asked_over c.args.store.now c.args.patterns.now c.args.span.now in
-    let placed = placed_of c.args.typed.now in
+    let asked = asked_of c.args.query.now c.args.patterns.now in
+    let placed = c.args.query.now.placed in
     let d : depth c.get-in-Negate.result.now < depth c.args.e.now = subst (λ e. depth e < depth c.args.e.now) (sym c.get-in-Negate.ensures) (depth_Negate c.args.e.now c.in-Negate.inner c.in-Negate.is) in
     let ready : IsReady asked placed c.get-in-Negate.result.now c.args.t.0 =
     subst (λ e. IsReady asked placed e c.args.t.0) (sym c.get-in-Negate.ensures) (ready_Negate asked placed c.args.e.now c.in-Negate.inner c.args.t.0 c.in-Negate.is c.requires) in
@@ -34,8 +33,8 @@ value_at-value_at-requires-in-Negate g t c κs within =
 
 pub value_at-values_at-requires : goal.value_at-values_at-requires
 value_at-values_at-requires g t c κs within =
-    let asked = asked_over c.args.store.now c.args.patterns.now c.args.span.now in
-    let placed = placed_of c.args.typed.now in
+    let asked = asked_of c.args.query.now c.args.patterns.now in
+    let placed = c.args.query.now.placed in
     let e = c.as_slice.ensures in
     let d : depth c.args.e.now ≡ 1 + greatest (map depth c.as_slice.result.now) = depth_Call c.args.e.now c.in-Call.f c.in-Call.arguments c.in-Call.is ∙ ap (λ es. 1 + greatest (map depth es)) (sym e) in (
       omega (arith, c.decreases),
@@ -48,8 +47,8 @@ value_at-values_at-requires g t c κs within =
 
 pub value_at-values_at-requires-in-Aggregate : goal.value_at-values_at-requires-in-Aggregate
 value_at-values_at-requires-in-Aggregate g t c κs within =
-    let asked = asked_over c.args.store.now c.args.patterns.now c.args.span.now in
-    let placed = placed_of c.args.typed.now in
+    let asked = asked_of c.args.query.now c.args.patterns.now in
+    let placed = c.args.query.now.placed in
     let e = c.as_slice-in-Aggregate.ensures in
     let d : depth c.args.e.now ≡ 1 + greatest (map depth c.as_slice-in-Aggregate.result.now) =
     depth_Aggregate c.args.e.now c.in-Aggregate.f c.in-Aggregate.by c.in-Aggregate.arguments c.in-Aggregate.is ∙ ap (λ es. 1 + greatest (map depth es)) (sym e) in (
@@ -63,21 +62,19 @@ value_at-values_at-requires-in-Aggregate g t c κs within =
 
 pub values_at-value_at-requires : goal.values_at-value_at-requires
 values_at-value_at-requires g t c κs within =
-    let store = c.args.store.now in
-    let span = c.args.span.now in
-    let asked = asked_over store c.args.patterns.now span in
-    let placed = placed_of c.args.typed.now in
+    let query = c.args.query.now in
+    let asked = asked_of query c.args.patterns.now in
+    let placed = c.args.query.now.placed in
     let d : depth c.e-item.result ≤ greatest (map depth c.args.arguments.now) = depth_item c.args.arguments.now c.loop-e.e-index c.e-item.result c.loop-e-test.true c.e-item.is in
     let ready = (item_holds (λ (x : Expr). IsReady asked placed x c.args.t.0) c.args.arguments.now c.loop-e.e-index c.e-item.result c.loop-e-test.true c.e-item.is c.loop-e.invariant.ready).0 in
-    (omega (arith, c.decreases), (within, subst (λ p. IsReady (asked_over store p span) placed c.e-item.result c.args.t.0) (sym c.loop-e.invariant.same) ready))
+    (omega (arith, c.decreases), (within, subst (λ p. IsReady (asked_of query p) placed c.e-item.result c.args.t.0) (sym c.loop-e.invariant.same) ready))
 
 pub values_at-loop-e-preserved : goal.values_at-loop-e-preserved
 values_at-loop-e-preserved g t c =
-    let store = c.args.store.now in
-    let span = c.args.span.now in
-    let asked = asked_over store c.args.patterns.now span in
-    let placed = placed_of c.args.typed.now in
-    let value : c.in_ok-value_at.field-0 ≡ meaning asked c.e-item.result c.args.t.0 = c.in_ok-value_at.ensures.meaning ∙ ap (λ p. meaning (asked_over store p span) c.e-item.result c.args.t.0) c.loop-e.invariant.same in
+    let query = c.args.query.now in
+    let asked = asked_of query c.args.patterns.now in
+    let placed = c.args.query.now.placed in
+    let value : c.in_ok-value_at.field-0 ≡ meaning asked c.e-item.result c.args.t.0 = c.in_ok-value_at.ensures.meaning ∙ ap (λ p. meaning (asked_of query p) c.e-item.result c.args.t.0) c.loop-e.invariant.same in
     record {
       given = given_more asked c.args.arguments.now c.loop-e.e-index c.e-item.result c.args.t.0 c.loop-e.givens c.push.new.self c.in_ok-value_at.field-0 _ c.loop-e-test.true c.e-item.is c.in_ok-push.ensures.ok value c.loop-e.invariant.given;
       ready = (item_holds (λ (x : Expr). IsReady asked placed x c.args.t.0) c.args.arguments.now c.loop-e.e-index c.e-item.result c.loop-e-test.true c.e-item.is c.loop-e.invariant.ready).1;
@@ -86,27 +83,25 @@ values_at-loop-e-preserved g t c =
 
 pub points_at-value_at-requires : goal.points_at-value_at-requires
 points_at-value_at-requires g t c κs within =
-    let store = c.args.store.now in
-    let span = c.args.span.now in
-    let asked = asked_over store c.args.patterns.now span in
-    let placed = placed_of c.args.typed.now in
+    let query = c.args.query.now in
+    let asked = asked_of query c.args.patterns.now in
+    let placed = c.args.query.now.placed in
     let inner = c.args.inner.now in
     let u : Ms = get_or c.args.us.now c.loop-u.u-index (record { 0 = pos 0 }) in
     let ready = (next_holds (λ (v : Ms). IsReady asked placed inner v.0) c.args.us.now c.loop-u.u-index (record { 0 = pos 0 }) c.loop-u-test.true c.loop-u.invariant.ready).0 in
-    (omega (arith, c.decreases), (within, subst (λ p. IsReady (asked_over store p span) placed inner u.0) (sym c.loop-u.invariant.same) ready))
+    (omega (arith, c.decreases), (within, subst (λ p. IsReady (asked_of query p) placed inner u.0) (sym c.loop-u.invariant.same) ready))
 
 pub points_at-loop-u-preserved : goal.points_at-loop-u-preserved
 points_at-loop-u-preserved g t c =
-    let store = c.args.store.now in
-    let span = c.args.span.now in
-    let asked = asked_over store c.args.patterns.now span in
-    let placed = placed_of c.args.typed.now in
+    let query = c.args.query.now in
+    let asked = asked_of query c.args.patterns.now in
+    let placed = c.args.query.now.placed in
     let inner = c.args.inner.now in
     let us = c.args.us.now in
     let i = c.loop-u.u-index in
     let u : Ms = get_or us i (record { 0 = pos 0 }) in
     let meant : ℤ → Step = meaning_step asked inner in
-    let value : c.in_ok-given.given ≡ meaning asked inner u.0 = c.in_ok-given.ensures.meaning ∙ ap (λ p. meaning (asked_over store p span) inner u.0) c.loop-u.invariant.same in
+    let value : c.in_ok-given.given ≡ meaning asked inner u.0 = c.in_ok-given.ensures.meaning ∙ ap (λ p. meaning (asked_of query p) inner u.0) c.loop-u.invariant.same in
     let step : c.in_ok-into_step.field-0 ≡ meant u.0 = c.in_ok-into_step.ensures ∙ ap step_of value in
     record {
       rows = rows_more meant us i (record { 0 = pos 0 }) c.in_ok-into_step.field-0 c.loop-u.points.rows _ _ c.loop-u-test.true c.in_ok-add_step.ensures.rows step c.loop-u.invariant.rows;
