@@ -389,7 +389,7 @@ module _ (equal : EqualIsSame) (reversed : OrderIsReversed) (transitive : LessIs
 
 -- ---- finite sums
 
-abbrev Finite : List XFrac → Type 0
+abbrev pub Finite : List XFrac → Type 0
 Finite vs = AllByRecursion (λ v. is_finite v ≡ true) vs
 
 none_special : (p : XFrac → Bool) → ((v : XFrac) → is_finite v ≡ true → p v ≡ false) → (vs : List XFrac) → Finite vs → list_any p vs ≡ false
