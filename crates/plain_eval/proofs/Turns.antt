@@ -14,7 +14,7 @@ use Rattle.xfrac.specs.declared.value.XFrac.{XFrac}
 use Rattle.promql_meaning.specs.declared.buckets.Bucket.{Bucket}
 use Rattle.promql_meaning.specs.Buckets.{are_finite, is_finite, merged}
 use Rattle.plain_eval.specs.Counts.{AreCounts, IsCount}
-use Rattle.plain_eval.proofs.Merging.{Finite, Numbers, all_joined, below, below_weak, joined_same, merged_is, one_bound, prefix_number, then_all, then_fault, then_more, total_finite, with_first}
+use Rattle.plain_eval.proofs.Merging.{Finite, Numbers, all_joined, below, below_weak, joined_same, merged_is, one_bound, prefix_number, then_all, then_fault, then_more, then_none, total_finite, with_first}
 use Rattle.plain_eval.proofs.Stable.{Rises, rises_from}
 
 abbrev pub AreFinite : List Bucket → Type 0
@@ -72,6 +72,11 @@ module _ (equal : EqualIsSame) (reversed : OrderIsReversed) (transitive : LessIs
     counts = All-nil (λ (b : Bucket). IsCount b.count);
   }
 
+  pub starts_at : (xs vec ys all rest : List Bucket) → vec ≡ xs → all ≡ [] → rest ≡ ys → HaveBounds xs → are_finite xs ≡ true → IsPermutation vec ys → IsSortedBy below ys → IsStableBy below vec ys → AreLeft (merged xs) all rest
+  starts_at xs vec ys all rest taken none lent numbers finite moved up stable =
+      let told = starts vec ys (subst HaveBounds (sym taken) numbers) (ap are_finite taken ∙ finite) moved up stable in
+      subst (λ a. AreLeft (merged xs) a rest) (sym none) (subst (λ r. AreLeft (merged xs) [] r) (sym lent) (subst (λ x. AreLeft (merged x) [] ys) taken told))
+
   module _ (answer : Result (List Bucket) NumFault) (all : List Bucket) (x : Bucket) (rest same behind : List Bucket) (n : ℕ)
       (left : AreLeft answer all (x ∷ rest)) (size : n ≡ prefix_len (λ (b : Bucket). is_at (total_order x.bound) b.bound) (x ∷ rest))
       (front : same ≡ take n (x ∷ rest)) (back : behind ≡ drop n (x ∷ rest)) where
@@ -112,3 +117,41 @@ module _ (equal : EqualIsSame) (reversed : OrderIsReversed) (transitive : LessIs
 
     pub fewer : length behind < length (x ∷ rest)
     fewer = let gone : 0 < n = parted.1.1 in omega (arith, ap length back, length-drop n (x ∷ rest), gone)
+
+-- the same of a list that has a first bucket
+front_is : (rest : List Bucket) (x : Bucket) → 0 < length rest → x ≡ get_or rest 0 x → rest ≡ x ∷ drop 1 rest
+front_is [] x w is = absurd (omega arith)
+front_is (y ∷ rest) x w is = ap (λ b. b ∷ rest) (sym is)
+
+module _ (equal : EqualIsSame) (reversed : OrderIsReversed) (transitive : LessIsTransitive)
+    (answer : Result (List Bucket) NumFault) (all rest : List Bucket) (x : Bucket) (same behind : List Bucket) (n : ℕ)
+    (left : AreLeft answer all rest) (some : 0 < length rest) (is : x ≡ get_or rest 0 x)
+    (size : n ≡ prefix_len (λ (b : Bucket). is_at (total_order x.bound) b.bound) rest) (front : same ≡ take n rest) (back : behind ≡ drop n rest) where
+  whole_rest : rest ≡ x ∷ drop 1 rest
+  whole_rest = front_is rest x some is
+
+  left_now : AreLeft answer all (x ∷ drop 1 rest)
+  left_now = subst (AreLeft answer all) whole_rest left
+
+  size_now : n ≡ prefix_len (λ (b : Bucket). is_at (total_order x.bound) b.bound) (x ∷ drop 1 rest)
+  size_now = size ∙ ap (prefix_len (λ (b : Bucket). is_at (total_order x.bound) b.bound)) whole_rest
+
+  front_now : same ≡ take n (x ∷ drop 1 rest)
+  front_now = front ∙ ap (take n) whole_rest
+
+  back_now : behind ≡ drop n (x ∷ drop 1 rest)
+  back_now = back ∙ ap (drop n) whole_rest
+
+  pub turn_stops : (fault : NumFault) → total (map (λ (b : Bucket). b.count) same) ≡ Err fault → Err fault ≡ answer
+  turn_stops fault e = fault_stops equal reversed transitive answer all x (drop 1 rest) same behind n left_now size_now front_now back_now fault e
+
+  pub turn_goes_on : (count : XFrac) (new : List Bucket) → total (map (λ (b : Bucket). b.count) same) ≡ Ok count → IsNumber count → new ≡ all ++ record { bound = x.bound; count = count } ∷ [] → AreLeft answer new behind
+  turn_goes_on count new e number made = count_goes_on equal reversed transitive answer all x (drop 1 rest) same behind n left_now size_now front_now back_now count new e number made
+
+  pub turn_takes : length behind < length rest
+  turn_takes =
+      let less : length behind < length (x ∷ drop 1 rest) = fewer equal reversed transitive answer all x (drop 1 rest) same behind n left_now size_now front_now back_now in
+      omega (arith, less, ap length whole_rest)
+
+pub none_left : (answer : Result (List Bucket) NumFault) (all rest : List Bucket) → length rest ≡ 0 → AreLeft answer all rest → Ok all ≡ answer
+none_left answer all rest e left = then_none all rest answer e left.whole
