@@ -47,6 +47,9 @@ module _ (asked : Asked) (placed : List Placed) where
     pub positive : pos 0 <ℤ step
     pub all : AllByRecursion IsTime (multiples m range step)
 
+  pub subquery_moment : (e inner : Expr) (range step : Ms) (moment : Moment) (t : ℤ) → e.node ≡ Subquery inner range step moment → IsReady asked placed e t → IsTime (moment_of asked moment t)
+  subquery_moment e inner range step moment t is ready = (met_Subquery asked placed e inner range step moment t is ready).1.0.1.1.1.0
+
   pub subquery_times : (e inner : Expr) (range step : Ms) (moment : Moment) (t m : ℤ) → e.node ≡ Subquery inner range step moment → IsReady asked placed e t → m ≡ moment_of asked moment t → HasTimes m range.0 step.0
   subquery_times e inner range step moment t m is ready here =
       let met = met_Subquery asked placed e inner range step moment t is ready in

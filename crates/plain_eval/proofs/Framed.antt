@@ -212,7 +212,7 @@ up_to_in edge m first s positive behind =
       | true ↦ λ h. tt
       | false ↦ λ h.
           let abs : pos k ≡ m -ℤ first = omega (arith, ints, h) in
-          subst (λ c. AllByRecursion (IsIn edge m) (as_times (instants first (pos s) c))) add-one (instants_in edge m first s (k / s) behind (omega (arith, ints, e, abs)))
+          subst (λ c. AllByRecursion (IsIn edge m) (as_times (instants first (pos s) c))) (sym (add-one (k / s))) (instants_in edge m first s (k / s) behind (omega (arith, ints, e, abs)))
     ] refl
 
 -- the multiples of a step in a range lie in it

@@ -3,13 +3,13 @@ ghost use Rattle.plain_eval.specs.Frames.{IsFramed};
 ghost use Rattle.promql_meaning.specs.Givens.{step_of};
 ghost use Rattle.promql_meaning.specs.Meaning.{over_windows, over_windows_with, ranged};
 ghost use Rattle.promql_meaning.specs.Ranges.{asks_counters as asks_for_counters, counter_note, frame_of, has_value as has_a_value, is_counter_name as is_name_of_counter, name_note, window_labels, window_notes, window_outcome, window_value, windowed};
-ghost use Rattle.std.specs.List.{All, AllByRecursion, filter_map};
+ghost use Rattle.std.specs.List.{All, AllByRecursion, ends_with, filter_map};
 ghost use Rattle.std.specs.Option.{option_to_list};
 ghost use Rattle.label_set.specs.Labels.{metric_name, value_of};
 ghost use Rattle.promql_meaning.specs.Outcomes.{range_notes_of as notes_of_range};
 ghost use Rattle.promql_meaning.specs.declared.given.Given.{Given};
 ghost use Rattle.promql_meaning.specs.declared.given.Given.TheVariants as given;
-ghost use Rattle.std.specs.Prelude.{◌≡◌, ◌++◌, ◌&&◌, None, IfOk, OnOk, map, if◌then◌else◌};
+ghost use Rattle.std.specs.Prelude.{◌≡◌, ◌==◌, ◌++◌, ◌&&◌, None, IfOk, OnOk, map, if◌then◌else◌};
 ghost use Rattle.step_table.specs.declared.marks.Note.{Note};
 ghost use Rattle.window_fn.specs.Windows.{IsFrame, IsInFrame};
 
@@ -232,8 +232,15 @@ fn has_value(value: Result<Option<XFrac>, NumFault>) -> bool
 fn is_counter_name(name: &str) -> bool
     ensures { result ≡ is_name_of_counter name.now }
 {
-    name.ends_with("_total")
-        || name.ends_with("_sum")
-        || name.ends_with("_count")
-        || name.ends_with("_bucket")
+    let total = has_ending(name, "_total");
+    let sum = has_ending(name, "_sum");
+    let count = has_ending(name, "_count");
+    let bucket = has_ending(name, "_bucket");
+    total || sum || count || bucket
+}
+
+fn has_ending(name: &str, ending: &str) -> bool
+    ensures { result ≡ ends_with (λ a b. a == b) name.now ending.now }
+{
+    name.ends_with(ending)
 }
