@@ -28,9 +28,9 @@ takes_words : (j : Judgement) → argument_refusals (Some Words) j.operand ≡ [
 takes_words j is = by j.operand.gives refl
   where
     by : (k : Kind) → j.operand.gives ≡ k → j.operand.gives ≡ Words
-    by Scalar e = absurd (omega (arith, ap length (rw e is)))
-    by Vector e = absurd (omega (arith, ap length (rw e is)))
-    by Windows e = absurd (omega (arith, ap length (rw e is)))
+    by Scalar e = let f = rw e at is in absurd (omega (arith, ap length f))
+    by Vector e = let f = rw e at is in absurd (omega (arith, ap length f))
+    by Windows e = let f = rw e at is in absurd (omega (arith, ap length f))
     by Words e = e
 
 -- the fifth argument is a string
