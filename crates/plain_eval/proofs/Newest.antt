@@ -1,0 +1,141 @@
+-- The samples of a range as they are read from its edge on, and the series as they are found by their numbers.
+use Rattle.std.proofs.Common.{◌≡◌, ℕ, zero, suc, ◌+◌, ◌<◌, Bool, true, false, List, [], ◌∷◌, ◌++◌, length, filter, Option, None, Some, refl, sym, ap, subst, ◌∙◌, arith, append-nil, get_or}
+use Rattle.std.specs.Prelude.{ℤ, ◌<ℤ◌, ◌↔◌, Contains, int_lt, int_le, not, slice_get, slice_index_or, if◌then◌else◌, ◌&&◌}
+use Rattle.std.specs.BTreeMap.{insert_entry}
+use Rattle.std.specs.List.{AllByRecursion, cons_option, filter_map, last_or}
+use Rattle.std.specs.List.Sorted.{IsStrictlySortedBy}
+use Rattle.std.specs.Option.{option_and_then}
+use Rattle.std.specs.Ordering.{int_cmp}
+use Rattle.std.specs.Cmp.{int_ranked}
+use Rattle.std.specs.declared.cmp.Ordering.TheVariants.{Less}
+use Rattle.std.proofs.lemmas.Int.{ints}
+use Rattle.std.proofs.lemmas.List.Elements.{All-contains_itself, recursion_from_All}
+use Rattle.label_set.specs.declared.rules.Rule.{Rule}
+use Rattle.label_set.specs.Labels.{labels_cmp}
+use Rattle.match_rule.specs.Patterns.{labels_pass}
+use Rattle.sample_store.specs.Samples.{AllSeries, IsRising, IsSelected, Names, Samples, by_labels, chosen, later_than}
+use Rattle.ticks.specs.declared.moment.Ms.{Ms}
+use Rattle.xfrac.specs.declared.value.Held.{Held}
+use Rattle.xfrac.specs.declared.value.XFrac.{XFrac}
+use Rattle.promql_meaning.specs.Selecting.{between, by_labels as meant_by_labels, fresh_sample, passing}
+use Rattle.plain_eval.specs.Numbered.{fresh_until, last_until, until}
+
+-- ---- the samples up to a time
+
+-- the samples at the front, up to the first one that is later
+abbrev pub front_until : ℤ → Samples → Samples
+front_until m [] = []
+front_until m (s ∷ samples) = if int_lt m s.0.0 then [] else s ∷ front_until m samples
+
+later_less : (a b : ℤ) → int_cmp a b ≡ Less → (m : ℤ) → int_lt m a ≡ true → int_lt m b ≡ true
+later_less a b less m later = let h : a <ℤ b = int_ranked a b Less (sym less) in grind (arith, ints, h, later)
+
+rising_tail : (s : Ms × Held) (samples : Samples) → IsRising (s ∷ samples) → IsRising samples
+unfolding IsStrictlySortedBy
+rising_tail s samples rising = rising.1
+
+-- behind a later sample all are later
+none_until : (m : ℤ) (s : Ms × Held) (samples : Samples) → IsRising (s ∷ samples) → int_lt m s.0.0 ≡ true → until m samples ≡ []
+unfolding IsStrictlySortedBy
+none_until m s [] rising later = refl
+none_until m s (next ∷ samples) rising later =
+    let h : int_lt m next.0.0 ≡ true = later_less s.0.0 next.0.0 rising.0.0 m later in
+    rw h (none_until m next samples rising.1 h)
+
+pub fronts : (m : ℤ) (samples : Samples) → IsRising samples → front_until m samples ≡ until m samples
+fronts m [] rising = refl
+fronts m (s ∷ samples) rising =
+    elim (int_lt m s.0.0) as (λ b. int_lt m s.0.0 ≡ b → (if b then [] else s ∷ front_until m samples) ≡ (if not b then s ∷ until m samples else until m samples)) [
+      | true ↦ λ h. sym (none_until m s samples rising h)
+      | false ↦ λ h. ap (λ ss. s ∷ ss) (fronts m samples (rising_tail s samples rising))
+    ] refl
+
+past : (m time t : ℤ) → t ≡ time → m <ℤ time → int_lt m t ≡ true
+past m time t is later = rw is (grind (arith, ints, later))
+
+not_past : (m time t : ℤ) → t ≡ time → int_lt m time ≡ false → int_lt m t ≡ false
+not_past m time t is h = rw is h
+
+-- a later sample ends them
+pub stops : (m time : ℤ) (s : Ms × Held) (samples rest : Samples) → samples ≡ s ∷ rest → s.0.0 ≡ time → m <ℤ time → front_until m samples ≡ []
+stops m time s samples rest is here later =
+    let h : int_lt m s.0.0 ≡ true = past m time s.0.0 here later in
+    rw (is, h) refl
+
+-- ---- the last one
+
+-- the last of samples up to a time, behind samples whose last is this
+abbrev pub last_behind : ℤ → Samples → Option (Ms × XFrac) → Option (Ms × XFrac)
+last_behind m [] last = last
+last_behind m (s ∷ samples) last = if int_lt m s.0.0 then last else last_behind m samples (fresh_sample s)
+
+last_of_front : (m : ℤ) (samples : Samples) (d : Option (Ms × Held)) → last_behind m samples (option_and_then fresh_sample d) ≡ option_and_then fresh_sample (last_or d (front_until m samples))
+last_of_front m [] d = refl
+last_of_front m (s ∷ samples) d =
+    elim (int_lt m s.0.0) as (λ b. (if b then option_and_then fresh_sample d else last_behind m samples (fresh_sample s))
+    ≡ option_and_then fresh_sample (last_or d (if b then [] else s ∷ front_until m samples)))
+    [ true ↦ refl | false ↦ last_of_front m samples (Some s) ]
+
+pub lasts : (m : ℤ) (samples : Samples) → IsRising samples → last_behind m samples None ≡ last_until m samples
+lasts m samples rising = last_of_front m samples None ∙ ap (λ ss. option_and_then fresh_sample (last_or None ss)) (fronts m samples rising)
+
+pub last_stops : (m time : ℤ) (s : Ms × Held) (samples rest : Samples) (last : Option (Ms × XFrac)) → samples ≡ s ∷ rest → s.0.0 ≡ time → m <ℤ time → last_behind m samples last ≡ last
+last_stops m time s samples rest last is here later =
+    let h : int_lt m s.0.0 ≡ true = past m time s.0.0 here later in
+    rw (is, h) refl
+
+-- ---- the samples that are no markers
+
+-- what has been read, where no sample up to the time is left
+pub closes : (m : ℤ) (read : List (Ms × XFrac)) (rest all : Samples) → front_until m rest ≡ [] → read ++ filter_map fresh_sample (front_until m rest) ≡ filter_map fresh_sample (front_until m all) → IsRising all → read ≡ fresh_until m all
+closes m read rest all none told rising =
+    sym (append-nil read) ∙ ap (λ ss. read ++ filter_map fresh_sample ss) (sym none) ∙ told ∙ ap (filter_map fresh_sample) (fronts m all rising)
+
+-- ---- a range
+
+le_not : (a b : ℤ) → int_le a b ≡ not (int_lt b a)
+le_not a b = elim (int_lt b a) as (λ c. int_lt b a ≡ c → int_le a b ≡ not c) [
+  | true ↦ λ h. grind (arith, ints, h)
+  | false ↦ λ h. grind (arith, ints, h)
+] refl
+
+-- the samples of a range are those behind its edge, up to its moment
+pub of_range : (edge : Ms) (m : ℤ) (samples : Samples) → until m (later_than edge samples) ≡ between edge.0 m samples
+of_range edge m [] = refl
+of_range edge m (s ∷ samples) =
+    let rest = of_range edge m samples in
+    elim (int_lt edge.0 s.0.0) as (λ b. until m (if b then s ∷ later_than edge samples else later_than edge samples)
+    ≡ (if b && int_le s.0.0 m then s ∷ between edge.0 m samples else between edge.0 m samples))
+    [ true ↦ rw (le_not s.0.0 m, rest) refl | false ↦ rest ]
+
+-- ---- the series of numbers
+
+fused : {A B : Type 0} (make : A → Option B) (all : List A) (numbers : List ℕ)
+    → filter_map (λ n. option_and_then make (slice_get all n)) numbers ≡ filter_map make (filter_map (slice_get all) numbers)
+fused make all [] = refl
+fused {A} {B} make all (n ∷ numbers) =
+    let rest = fused make all numbers in
+    elim (slice_get all n) as (λ (o : Option A). cons_option (option_and_then make o) (filter_map (λ k. option_and_then make (slice_get all k)) numbers)
+    ≡ filter_map make (cons_option o (filter_map (slice_get all) numbers)))
+    [ None ↦ rest | Some a ↦ ap (cons_option (make a)) rest ]
+
+-- what is made of the series with some numbers
+pub made_of : {A B : Type 0} (make : A → Option B) (all found : List A) (numbers : List ℕ) → filter_map (slice_get all) numbers ≡ found
+    → filter_map (λ n. option_and_then make (slice_get all n)) numbers ≡ filter_map make found
+made_of make all found numbers is = fused make all numbers ∙ ap (filter_map make) is
+
+each_within : (bound : ℕ) (numbers : List ℕ) → ((s : ℕ) → Contains numbers s → s < bound) → AllByRecursion (λ (n : ℕ). n < bound) numbers
+each_within bound numbers within =
+    recursion_from_All (λ (n : ℕ). n < bound) numbers (λ k d w. within (get_or numbers k d) (All-contains_itself numbers k d w))
+
+-- each number of a selection is that of a series
+pub all_within : (kept : List (Bool × List ℕ)) (rules : List Rule) (all : AllSeries) (places : List ℕ) → IsSelected kept rules all places → AllByRecursion (λ (n : ℕ). n < length all) places
+all_within kept rules all places selected = each_within (length all) places (λ s c. ((selected.exact s).0 c).0)
+
+-- the series that pass are the same by the store and by the meaning
+same_order : (all : AllSeries) → by_labels all ≡ meant_by_labels all
+same_order [] = refl
+same_order (one ∷ all) = ap (λ es. insert_entry labels_cmp es one.0 one.1) (same_order all)
+
+pub same_passing : (kept : List (Bool × List ℕ)) (rules : List Rule) (all : AllSeries) → chosen kept rules all ≡ passing all kept rules
+same_passing kept rules all = ap (filter (λ (s : Names × Samples). labels_pass kept rules s.0)) (same_order all)

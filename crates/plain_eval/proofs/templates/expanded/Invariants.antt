@@ -1,0 +1,10 @@
+use Rattle.std.proofs.Common.{◌≡◌, ◌++◌, length}
+use Rattle.std.specs.Prelude.{string_bytes}
+use Rattle.promql_meaning.specs.Templates.{expanded, expanded_from}
+use Rattle.plain_eval.proofs.templates.expanded.Given as goal
+
+abbrev pub invariant-loop-plain : goal.invariant-loop-plain
+invariant-loop-plain l = string_bytes l.text ++ expanded_from 0 l.spans l.value l.rest ≡ expanded l.spans l.value l.template
+
+abbrev pub decreases-loop-plain : goal.decreases-loop-plain
+decreases-loop-plain l = length l.rest

@@ -1,0 +1,10 @@
+pub mod Absent
+pub mod Counts
+pub mod Frames
+pub mod Joined
+pub mod Numbered
+pub mod Placing
+pub mod Queried
+pub mod Ranked
+pub mod Ready
+pub mod Walks

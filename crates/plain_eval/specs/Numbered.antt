@@ -1,0 +1,28 @@
+-- The rows of series by their numbers. (Our own.)
+use Rattle.std.specs.Prelude.{ℕ, ℤ, not, List, Option, None, slice_get, int_lt, filter}
+use Rattle.std.specs.List.{filter_map, last_or}
+use Rattle.std.specs.Option.{option_and_then}
+use Rattle.ticks.specs.declared.moment.Ms.{Ms}
+use Rattle.xfrac.specs.declared.value.Held.{Held}
+use Rattle.xfrac.specs.declared.value.XFrac.{XFrac}
+use Rattle.promql_meaning.specs.Selecting.{AllSeries, Samples, fresh_sample, newest_row, series_window}
+use Rattle.promql_meaning.specs.declared.given.Stamped.{Stamped}
+use Rattle.promql_meaning.specs.declared.given.WindowRow.{WindowRow}
+
+-- the samples that are not later than a time
+abbrev pub until : ℤ → Samples → Samples
+until m samples = filter (λ (s : Ms × Held). not (int_lt m s.0.0)) samples
+
+-- the last of them, unless that is a marker of staleness, and those that are no markers
+abbrev pub last_until : ℤ → Samples → Option (Ms × XFrac)
+last_until m samples = option_and_then fresh_sample (last_or None (until m samples))
+
+abbrev pub fresh_until : ℤ → Samples → List (Ms × XFrac)
+fresh_until m samples = filter_map fresh_sample (until m samples)
+
+-- the row of the series with a number, and its window
+abbrev pub row_numbered : ℤ → AllSeries → ℕ → Option Stamped
+row_numbered m all number = option_and_then (newest_row m) (slice_get all number)
+
+abbrev pub window_numbered : ℤ → ℤ → AllSeries → ℕ → Option WindowRow
+window_numbered m range all number = option_and_then (series_window m range) (slice_get all number)

@@ -1,0 +1,147 @@
+//! What a call gives of its arguments.
+ghost use Rattle.plain_eval.specs.Frames.{IsFramed};
+ghost use Rattle.promql_meaning.specs.Buckets.{bucket_quantiles as quantiles_of_buckets};
+ghost use Rattle.promql_meaning.specs.Givens.{step_of, with_scalar, words_of};
+ghost use Rattle.promql_meaning.specs.Meaning.{as_scalar, called, step_at, value_of_one, words_at};
+ghost use Rattle.promql_meaning.specs.Relabels.{label_joined as label_joined_of};
+ghost use Rattle.std.specs.List.{AllByRecursion};
+ghost use Rattle.std.specs.Prelude.{◌≡◌, drop, map, Some, true, slice_get, IfOk};
+
+use crate::absences::absent;
+use crate::buckets::bucket_quantiles;
+use crate::elements::applied;
+use crate::givens::{
+    barren, into_words, marked, step_of_rows, take_first, take_step, take_words, value_in,
+};
+use crate::ranges::ranged;
+use crate::relabels::{Replacing, label_joined, label_replaced};
+use crate::times::{time_step, timestamps};
+use func_table::Func;
+use label_set::{Items, Labels, PatternId, Text};
+use match_rule::Patterns;
+use promql_meaning::Given;
+use std::alloc::{AllocError, Global};
+use step_table::{Row, Step};
+use ticks::Ms;
+use xfrac::XFrac;
+
+/// What a call gives at an instant, but for label_replace. The only error is want of memory.
+pub fn called(alloc: Global, f: Func, arguments: Items<Given>, t: Ms) -> Result<Given, AllocError>
+    requires framed { AllByRecursion (IsFramed t.0) arguments }
+    requires other { f ≡ Func.LabelReplace → ⊥ }
+    ensures { IfOk result (λ given. given ≡ called f arguments t.0) }
+{
+    let mut arguments = arguments;
+    match f {
+        Func::Element(f) => Ok(Given::Vector(applied(alloc, f, arguments)?)),
+        Func::Window(f) => Ok(Given::Vector(ranged(alloc, f, arguments, t)?)),
+        Func::Absent | Func::AbsentOver => {
+            let given = take_first(alloc, &mut arguments);
+            Ok(Given::Vector(absent(alloc, given)?))
+        }
+        Func::HistogramQuantile => Ok(Given::Vector(quantiles(alloc, arguments)?)),
+        Func::LabelJoin => Ok(Given::Vector(joined(alloc, arguments)?)),
+        Func::Scalar => {
+            let step = take_step(alloc, &mut arguments)?;
+            Ok(Given::Scalar(as_scalar(alloc, step)?))
+        }
+        Func::Sort | Func::SortDesc | Func::Vector => {
+            Ok(Given::Vector(take_step(alloc, &mut arguments)?))
+        }
+        Func::Time => Ok(Given::Scalar(time_step(alloc, t)?)),
+        Func::Timestamp => {
+            let given = take_first(alloc, &mut arguments);
+            Ok(Given::Vector(timestamps(alloc, given, t)?))
+        }
+        Func::LabelReplace => Ok(Given::Vector(take_step(alloc, &mut arguments)?)),
+    }
+}
+
+/// The value of the one row of a vector, else NaN, as a scalar.
+fn as_scalar(alloc: Global, step: Step) -> Result<Step, AllocError>
+    ensures { IfOk result (λ s. s ≡ as_scalar step) }
+{
+    let value = value_of_one(step.table.rows.as_slice());
+    let mut rows = Items::new(alloc);
+    rows.push(Row {
+        labels: Labels::empty(alloc),
+        value,
+    })?;
+    Ok(step_of_rows(rows, step.marks))
+}
+
+fn value_of_one(rows: &[Row]) -> XFrac
+    ensures { result ≡ value_of_one rows.now }
+{
+    match rows {
+        [row] => row.value,
+        _ => XFrac::NaN,
+    }
+}
+
+#[tactic(auto, using(crate::proofs::Taken::second_is))]
+fn quantiles(alloc: Global, arguments: Items<Given>) -> Result<Step, AllocError>
+    ensures { IfOk result (λ step. step ≡ with_scalar quantiles_of_buckets (step_at arguments 0) (step_at arguments 1)) }
+{
+    let mut arguments = arguments;
+    let quantile = take_step(alloc, &mut arguments)?;
+    let step = take_step(alloc, &mut arguments)?;
+    let step = marked(&quantile.marks, step)?;
+    match value_in(&quantile) {
+        Some(value) => bucket_quantiles(alloc, &value, &step),
+        None => Ok(barren(alloc, step.marks)),
+    }
+}
+
+/// label_join of its arguments.
+#[tactic(auto, using(crate::proofs::Taken::second_is, crate::proofs::Taken::third_is, crate::proofs::Taken::behind_third))]
+fn joined(alloc: Global, arguments: Items<Given>) -> Result<Step, AllocError>
+    ensures { IfOk result (λ step. step ≡ label_joined_of (words_at arguments 1) (words_at arguments 2) (map words_of (drop 3 arguments)) (step_at arguments 0)) }
+{
+    let mut arguments = arguments;
+    let step = take_step(alloc, &mut arguments)?;
+    let target = take_words(alloc, &mut arguments)?;
+    let separator = take_words(alloc, &mut arguments)?;
+    let sources = all_words(alloc, arguments)?;
+    label_joined(
+        alloc,
+        target.as_str(),
+        separator.as_str(),
+        sources.as_slice(),
+        step,
+    )
+}
+
+fn all_words(alloc: Global, arguments: Items<Given>) -> Result<Items<Text>, AllocError>
+    ensures { IfOk result (λ texts. texts ≡ map words_of arguments) }
+{
+    let mut texts = Items::new(alloc);
+    for given in arguments.into_vec() {
+        texts.push(into_words(alloc, given)?)?;
+    }
+    Ok(texts)
+}
+
+/// What label_replace gives; the pattern is that of the fifth argument. The only error is want of memory.
+#[tactic(auto, using(crate::proofs::Taken::second_is, crate::proofs::Taken::third_is, crate::proofs::Taken::fourth_is))]
+pub fn replaced(
+    alloc: Global,
+    arguments: Items<Given>,
+    pattern: PatternId,
+    patterns: &mut Patterns,
+    t: Ms,
+) -> Result<Given, AllocError>
+    requires { slice_get patterns.old pattern.0 ≡ Some (true, words_at arguments 4) }
+    ensures given { IfOk result (λ given. given ≡ called Func.LabelReplace arguments t.0) }
+    ensures same { patterns.new ≡ patterns.old }
+{
+    let mut arguments = arguments;
+    let step = take_step(alloc, &mut arguments)?;
+    let replacing = Replacing {
+        target: take_words(alloc, &mut arguments)?,
+        template: take_words(alloc, &mut arguments)?,
+        source: take_words(alloc, &mut arguments)?,
+        pattern,
+    };
+    Ok(Given::Vector(label_replaced(alloc, &replacing, step, patterns)?))
+}

@@ -1,0 +1,26 @@
+//! The meaning of a typed query at an instant, and its result over a grid, computed from the tree and the store.
+#![tactic(auto)]
+
+mod absences;
+mod aggregates;
+mod buckets;
+mod calls;
+mod elements;
+mod evaluating;
+mod givens;
+mod operators;
+mod orders;
+mod points;
+mod ranges;
+mod relabels;
+mod results;
+mod selecting;
+mod templates;
+mod times;
+
+pub use evaluating::at;
+pub use results::range;
+pub use std::alloc::AllocError as Memory;
+
+#[cfg(test)]
+mod tests;

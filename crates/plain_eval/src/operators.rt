@@ -1,0 +1,87 @@
+//! Operators and the sign minus.
+ghost use Rattle.promql_meaning.specs.Givens.{step_of};
+ghost use Rattle.promql_meaning.specs.Elements.{mapped};
+ghost use Rattle.promql_meaning.specs.Meaning.{negation, operation, zero_number};
+ghost use Rattle.std.specs.Prelude.{◌≡◌, IfOk};
+ghost use Rattle.step_table.specs.Sets.{combined};
+
+use crate::elements::with_operand;
+use crate::givens::into_step;
+use func_table::{Element, SetOp};
+use label_set::Pairing;
+use promql_meaning::{Given, map_rows};
+use std::alloc::{AllocError, Global};
+use step_table::{Step, combine, pair};
+use xfrac::{PairOp, whole};
+
+/// The minus of a scalar or a vector. The only error is want of memory.
+pub fn negation(alloc: Global, given: Given) -> Result<Given, AllocError>
+    ensures { IfOk result (λ g. g ≡ negation given) }
+{
+    match given {
+        Given::Scalar(step) => Ok(Given::Scalar(negated(alloc, &step)?)),
+        other => Ok(Given::Vector(negated(alloc, &into_step(alloc, other)?)?)),
+    }
+}
+
+fn negated(alloc: Global, step: &Step) -> Result<Step, AllocError>
+    ensures { IfOk result (λ s. s ≡ mapped Element.Neg zero_number zero_number step.now) }
+{
+    map_rows(alloc, step, Element::Neg, &whole(0), &whole(0))
+}
+
+/// An arithmetic operation or a comparison. The only error is want of memory.
+pub fn operation(
+    alloc: Global,
+    op: PairOp,
+    pairing: &Pairing,
+    left: Given,
+    right: Given,
+) -> Result<Given, AllocError>
+    ensures { IfOk result (λ g. g ≡ operation op pairing.now left right) }
+{
+    match left {
+        Given::Scalar(l) => match right {
+            Given::Scalar(r) => Ok(Given::Scalar(with_operand(alloc, op, false, &r, l)?)),
+            other => {
+                let r = into_step(alloc, other)?;
+                Ok(Given::Vector(with_operand(alloc, op, true, &l, r)?))
+            }
+        },
+        left => beside_vector(alloc, op, pairing, into_step(alloc, left)?, right),
+    }
+}
+
+/// The same with a vector on the left.
+fn beside_vector(
+    alloc: Global,
+    op: PairOp,
+    pairing: &Pairing,
+    left: Step,
+    right: Given,
+) -> Result<Given, AllocError>
+    ensures { IfOk result (λ g. g ≡ operation op pairing.now (Given.Vector left) right) }
+{
+    match right {
+        Given::Scalar(r) => Ok(Given::Vector(with_operand(alloc, op, false, &r, left)?)),
+        other => {
+            let right = into_step(alloc, other)?;
+            Ok(Given::Vector(pair(alloc, &left, &right, op, pairing)?))
+        }
+    }
+}
+
+/// A set operation. The only error is want of memory.
+pub fn set_operation(
+    alloc: Global,
+    op: SetOp,
+    pairing: &Pairing,
+    left: Given,
+    right: Given,
+) -> Result<Step, AllocError>
+    ensures { IfOk result (λ s. s ≡ combined (step_of left) (step_of right) op pairing.now) }
+{
+    let left = into_step(alloc, left)?;
+    let right = into_step(alloc, right)?;
+    combine(alloc, &left, &right, op, pairing)
+}

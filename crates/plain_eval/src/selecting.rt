@@ -1,0 +1,243 @@
+//! What selectors give, read from the store.
+ghost use Rattle.match_rule.specs.Patterns.{HaveTheirPatterns};
+ghost use Rattle.plain_eval.specs.Numbered.{fresh_until, last_until, row_numbered, window_numbered};
+ghost use Rattle.promql_meaning.specs.Selecting.{base_of, fresh as fresh_value, fresh_sample, lookback, newest, newest_row, passing, series_window, window, window_row};
+ghost use Rattle.sample_store.specs.Samples.{IsRising, Names, Samples};
+ghost use Rattle.std.specs.List.{filter_map};
+ghost use Rattle.std.specs.Option.{option_to_list};
+ghost use Rattle.std.specs.Prelude.{◌≡◌, ◌<◌, ◌++◌, ◌-ℤ◌, Some, length, slice_get, IfOk, OnOk};
+ghost use Rattle.ticks.specs.Walks.{IsTime};
+
+use label_set::{Items, Labels, Rule};
+use match_rule::Patterns;
+use promql_ast::{Fixed, Moment};
+use promql_meaning::{Stamped, WindowRow};
+use sample_store::{Cursor, Store};
+use std::alloc::{AllocError, Global};
+use std::sync::ledger::Ledger;
+use ticks::{Grid, Ms, Work};
+use xfrac::{Held, XFrac};
+
+/// How far back an instant selector looks for a sample, in milliseconds; a sample just that old is too old.
+const LOOKBACK: Ms = Ms(300_000);
+
+/// The fixed time, if there is one, or the instant.
+fn base_at(fixed: Option<Fixed>, span: &Grid, t: Ms) -> Ms
+    ensures { result.0 ≡ base_of span.now.start.0 span.now.end.0 t.0 fixed }
+{
+    match fixed {
+        None => t,
+        Some(Fixed::At(at)) => at,
+        Some(Fixed::Start) => span.start,
+        Some(Fixed::End) => span.end,
+    }
+}
+
+/// The moment that belongs to an instant.
+pub fn moment_at(moment: &Moment, span: &Grid, t: Ms) -> Ms
+    requires { IsTime (base_of span.now.start.0 span.now.end.0 t.0 moment.now.fixed -ℤ moment.now.offset.0) }
+    ensures { result.0 ≡ base_of span.now.start.0 span.now.end.0 t.0 moment.now.fixed -ℤ moment.now.offset.0 }
+{
+    let base = base_at(moment.fixed, span, t);
+    Ms(base.0 - moment.offset.0)
+}
+
+/// The time that is a while before a moment.
+pub fn earlier(m: Ms, span: Ms) -> Ms
+    requires { IsTime (m.0 -ℤ span.0) }
+    ensures { result ≡ record { 0 = m.0 -ℤ span.0 } }
+{
+    Ms(m.0 - span.0)
+}
+
+/// The value of a sample, unless it is a marker of staleness.
+fn fresh(held: &Held) -> Option<XFrac>
+    ensures { result ≡ fresh_value held.now }
+{
+    match held {
+        Held::Value(value) => Some(*value),
+        Held::Stale => None,
+    }
+}
+
+/// A sample with its time, unless it is a marker of staleness.
+fn fresh_at(time: Ms, held: &Held) -> Option<(Ms, XFrac)>
+    ensures { result ≡ fresh_sample (time, held.now) }
+{
+    match fresh(held) {
+        Some(value) => Some((time, value)),
+        None => None,
+    }
+}
+
+/// The last of the samples up to a time that come from a cursor, unless that is a marker of staleness.
+fn last_until<W: Ledger>(cursor: Cursor<'_>, m: Ms, work: &mut Work<W>) -> Option<(Ms, XFrac)>
+    requires { IsRising cursor.rest }
+    ensures { result ≡ last_until m.0 cursor.entry.rest }
+{
+    let mut ahead = cursor;
+    let mut last = None;
+    while let Some((time, held)) = ahead.next(work) {
+        if time.0 > m.0 {
+            return last;
+        }
+        last = fresh_at(time, held);
+    }
+    last
+}
+
+/// The newest sample of a series at a moment.
+fn newest<W: Ledger>(store: &Store, s: u32, m: Ms, work: &mut Work<W>) -> Option<(Ms, XFrac)>
+    requires there { s < length store.now }
+    requires edge { IsTime (m.0 -ℤ lookback) }
+    ensures { (one : Names × Samples) → slice_get store.now s ≡ Some one → result ≡ newest m.0 one.1 }
+{
+    let cursor = store.seek(s, earlier(m, LOOKBACK), work);
+    last_until(cursor, m, work)
+}
+
+/// The row of a series at a moment, if it has a newest value.
+fn row_at<W: Ledger>(
+    store: &Store,
+    s: u32,
+    m: Ms,
+    work: &mut Work<W>,
+) -> Result<Option<Stamped>, AllocError>
+    requires there { s < length store.now }
+    requires edge { IsTime (m.0 -ℤ lookback) }
+    ensures { IfOk result (λ row. row ≡ row_numbered m.0 store.now s) }
+{
+    match newest(store, s, m, work) {
+        Some((at, value)) => Ok(Some(Stamped {
+            labels: store.labels(s).copy()?,
+            at,
+            value,
+        })),
+        None => Ok(None),
+    }
+}
+
+/// Adds a row, if there is one.
+fn add_row<T: Drop>(rows: &mut Items<T>, row: Option<T>) -> Result<(), AllocError>
+    ensures { OnOk result (rows.new ≡ rows.old ++ option_to_list row) }
+{
+    match row {
+        Some(row) => rows.push(row),
+        None => Ok(()),
+    }
+}
+
+/// The newest rows of a selector at a moment, in the order of labels. The only error is want of memory.
+pub fn newest_rows<W: Ledger>(
+    alloc: Global,
+    store: &Store,
+    rules: &Items<Rule>,
+    patterns: &mut Patterns,
+    m: Ms,
+    work: &mut Work<W>,
+) -> Result<Items<Stamped>, AllocError>
+    requires edge { IsTime (m.0 -ℤ lookback) }
+    requires patterns { HaveTheirPatterns patterns.old rules.now }
+    ensures rows { IfOk result (λ rows. rows ≡ filter_map (newest_row m.0) (passing store.now patterns.old rules.now)) }
+    ensures same { patterns.new ≡ patterns.old }
+{
+    let places = store.select(rules, patterns, work)?;
+    let mut rows = Items::new(alloc);
+    for s in places.as_slice() {
+        let row = row_at(store, *s, m, work)?;
+        add_row(&mut rows, row)?;
+    }
+    Ok(rows)
+}
+
+/// The samples up to a time that are no markers of staleness, of those that come from a cursor.
+fn fresh_until<W: Ledger>(
+    alloc: Global,
+    cursor: Cursor<'_>,
+    m: Ms,
+    work: &mut Work<W>,
+) -> Result<Items<(Ms, XFrac)>, AllocError>
+    requires { IsRising cursor.rest }
+    ensures { IfOk result (λ samples. samples ≡ fresh_until m.0 cursor.entry.rest) }
+{
+    let mut ahead = cursor;
+    let mut samples = Items::new(alloc);
+    while let Some((time, held)) = ahead.next(work) {
+        if time.0 > m.0 {
+            return Ok(samples);
+        }
+        add_row(&mut samples, fresh_at(time, held))?;
+    }
+    Ok(samples)
+}
+
+/// The window of a series, if it has a sample in it.
+fn window_at<W: Ledger>(
+    alloc: Global,
+    store: &Store,
+    s: u32,
+    range: Ms,
+    m: Ms,
+    work: &mut Work<W>,
+) -> Result<Option<WindowRow>, AllocError>
+    requires there { s < length store.now }
+    requires edge { IsTime (m.0 -ℤ range.0) }
+    ensures { IfOk result (λ row. row ≡ window_numbered m.0 range.0 store.now s) }
+{
+    let samples = samples_at(alloc, store, s, range, m, work)?;
+    if samples.as_slice().is_empty() {
+        return Ok(None);
+    }
+    Ok(window_of(store.labels(s).copy()?, samples))
+}
+
+/// The samples of the window of a series.
+fn samples_at<W: Ledger>(
+    alloc: Global,
+    store: &Store,
+    s: u32,
+    range: Ms,
+    m: Ms,
+    work: &mut Work<W>,
+) -> Result<Items<(Ms, XFrac)>, AllocError>
+    requires there { s < length store.now }
+    requires edge { IsTime (m.0 -ℤ range.0) }
+    ensures { IfOk result (λ samples. (one : Names × Samples) → slice_get store.now s ≡ Some one → samples ≡ window m.0 range.0 one.1) }
+{
+    let cursor = store.seek(s, earlier(m, range), work);
+    fresh_until(alloc, cursor, m, work)
+}
+
+/// Samples under their labels, if there are some.
+pub fn window_of(labels: Labels, samples: Items<(Ms, XFrac)>) -> Option<WindowRow>
+    ensures { result ≡ window_row labels samples }
+{
+    if samples.as_slice().is_empty() {
+        return None;
+    }
+    Some(WindowRow { labels, samples })
+}
+
+/// The windows of a selector at a moment, in the order of labels. The only error is want of memory.
+pub fn window_rows<W: Ledger>(
+    alloc: Global,
+    store: &Store,
+    rules: &Items<Rule>,
+    range: Ms,
+    patterns: &mut Patterns,
+    m: Ms,
+    work: &mut Work<W>,
+) -> Result<Items<WindowRow>, AllocError>
+    requires edge { IsTime (m.0 -ℤ range.0) }
+    requires patterns { HaveTheirPatterns patterns.old rules.now }
+    ensures rows { IfOk result (λ rows. rows ≡ filter_map (series_window m.0 range.0) (passing store.now patterns.old rules.now)) }
+    ensures same { patterns.new ≡ patterns.old }
+{
+    let places = store.select(rules, patterns, work)?;
+    let mut rows = Items::new(alloc);
+    for s in places.as_slice() {
+        let row = window_at(alloc, store, *s, range, m, work)?;
+        add_row(&mut rows, row)?;
+    }
+    Ok(rows)
+}
