@@ -9,6 +9,7 @@ pub mod Literals
 pub mod Meanings
 pub mod Merging
 pub mod Newest
+pub mod Noted
 pub mod Patterned
 pub mod Raising
 pub mod Rests
