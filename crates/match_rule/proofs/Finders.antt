@@ -3,18 +3,18 @@ use Rattle.std.proofs.Common.{◌≡◌, ℕ, ◌*◌, ◌+◌, ◌<◌, ◌≤�
 use Rattle.std.specs.Option.{IsSomeAnd, option_map}
 use Rattle.std.proofs.lemmas.Bool.Decides.{nat_tests}
 use Rattle.std.proofs.lemmas.List.{get_or_default}
-use Rattle.regex.specs.Locations.{AreLocationsOf, location, location_count}
-use Rattle.regex.specs.declared.locations.CaptureLocations.{CaptureLocations}
+use Rattle.regex.specs.declared.string.captures.Captures.{Captures}
 use Rattle.regex.specs.Names.{names_of}
 use Rattle.regex.specs.Patterns.{Re, Match, find_str, default_config, span, Reads, SameCaptures}
-use Rattle.regex.specs.Strings.{IsReadFromSource, regex_config, regex_names, regex_pattern, regex_source}
+use Rattle.regex.specs.Search.{group_span}
+use Rattle.regex.specs.Strings.{IsCapturesOf, IsReadFromSource, captures_span, regex_config, regex_names, regex_pattern, regex_source}
 use Rattle.regex.specs.declared.string.regex.Regex.{Regex}
 use Rattle.regex.specs.Writes.{both, group_of}
 use Rattle.regex.proofs.ForCallers.{is_match_alike, spans}
 use Rattle.regex_syntax.proofs.CapturesLemmas.{find_str_alike}
 use Rattle.regex_syntax.specs.Brackets.{Nested}
 use Rattle.regex_syntax.specs.Grammar.{Names, group_count, read}
-use Rattle.match_rule.specs.Patterns.{IsFinder, first_locations, found_by, group_spans, groups_read}
+use Rattle.match_rule.specs.Patterns.{IsFinder, first_spans, found_by, group_spans, groups_read}
 
 abbrev Found : Type 0
 Found = Option (Nested Re × Names)
@@ -68,14 +68,18 @@ module _ (r : Regex) (source : List ℕ) (is_source : regex_source r ≡ source)
 suc_not_zero : (n : ℕ) → eqb (suc n) 0 ≡ false
 suc_not_zero n = grind (arith, nat_tests)
 
-location_at : (l : CaptureLocations) (m : Match) → AreLocationsOf m l → (n : ℕ) → n < location_count l → location l n ≡ cond (eqb n 0) (Some (span m)) (group_of m n)
-location_at l m h zero w = h.0 w
-location_at l m h (suc n) w = rw (suc_not_zero n) (h.1 (suc n) (omega arith) w)
+whole_at : (hay : List ℕ) (m : Match) (c : Captures) → IsCapturesOf hay m c → captures_span c 0 ≡ Some (span m)
+unfolding group_span
+whole_at hay m c h = ap Some h.1.whole_is
 
--- the locations that a search writes are the groups' spans
-pub locations_groups : (l : CaptureLocations) (m : Match) → AreLocationsOf m l → (n : ℕ) → n ≤ location_count l → first_locations l n ≡ group_spans n m
-locations_groups l m h zero w = refl
-locations_groups l m h (suc n) w =
-    let e = locations_groups l m h n (omega arith) in
-    let f = location_at l m h n w in
+group_at : (hay : List ℕ) (m : Match) (c : Captures) → IsCapturesOf hay m c → (n : ℕ) → captures_span c n ≡ cond (eqb n 0) (Some (span m)) (group_of m n)
+group_at hay m c h zero = whole_at hay m c h
+group_at hay m c h (suc n) = rw (suc_not_zero n) (h.2 (suc n) (omega arith))
+
+-- the captures' spans are the groups' spans
+pub captures_groups : (hay : List ℕ) (m : Match) (c : Captures) → IsCapturesOf hay m c → (n : ℕ) → first_spans c n ≡ group_spans n m
+captures_groups hay m c h zero = refl
+captures_groups hay m c h (suc n) =
+    let e = captures_groups hay m c h n in
+    let f = group_at hay m c h n in
     λ i. e i ++ f i ∷ []

@@ -1,3 +1,4 @@
+pub mod Cuts
 pub mod Finders
 pub mod Numbers
 pub mod Words

@@ -2,15 +2,14 @@
 -- Prometheus, "Time series selectors": `=~` and `!~` take a regular expression that has to match the whole value.
 -- That a text with no special character is a list of words, each of which stands for itself, follows from that; it is this
 -- project's own rule that such a text never reaches the regular expressions. Those are Rust's, by the words of `regex`.
-use Rattle.std.specs.Prelude.{◌≡◌, ◌≢◌, ℕ, zero, suc, slice_index, ◌<◌, Bool, true, false, List, [], ◌∷◌, ◌++◌, length, codes, bytes_eq, is_some, not, nat_lt, chars, slice_get, ◌==◌, ◌&&◌, ◌||◌, if◌then◌else◌, Option, None, Some}
+use Rattle.std.specs.Prelude.{◌≡◌, ◌≢◌, ℕ, zero, suc, slice_index, ◌<◌, ◌≤◌, Bool, true, false, List, [], ◌∷◌, ◌++◌, length, codes, bytes_eq, is_some, not, nat_lt, chars, slice_get, ◌==◌, ◌&&◌, ◌||◌, if◌then◌else◌, Option, None, Some, IsCharBoundary}
 use Rattle.std.specs.List.{AllByRecursion, list_all, list_any, position_or_len, slice_split}
 use Rattle.std.specs.Option.{option_map}
 use Rattle.regex.specs.Patterns.{Re, Match, find_str, default_config}
 use Rattle.regex.specs.Patterns.{span}
-use Rattle.regex.specs.Strings.{IsDefaultFailure, regex_names, regex_pattern}
-use Rattle.regex.specs.Locations.{location}
+use Rattle.regex.specs.Strings.{IsDefaultFailure, captures_span, regex_names, regex_pattern}
 use Rattle.regex.specs.Writes.{group_of}
-use Rattle.regex.specs.declared.locations.CaptureLocations.{CaptureLocations}
+use Rattle.regex.specs.declared.string.captures.Captures.{Captures}
 use Rattle.regex.specs.declared.string.regex.Regex.{Regex}
 use Rattle.match_rule.specs.declared.patterns.PatternRefusal.{PatternRefusal}
 use Rattle.match_rule.specs.declared.patterns.PatternRefusal.TheVariants.{BadPattern, TooManyPatterns, Memory}
@@ -125,10 +124,18 @@ groups_at kept id value = groups_by (slice_get kept id)
     groups_by None = None
     groups_by (Some pattern) = pattern_groups pattern.1 value
 
--- the spans of so many groups that were written
-abbrev pub first_locations : CaptureLocations → ℕ → List (Option (ℕ × ℕ))
-first_locations locations zero = []
-first_locations locations (suc n) = first_locations locations n ++ location locations n ∷ []
+-- what the first groups of captures span
+abbrev pub first_spans : Captures → ℕ → List (Option (ℕ × ℕ))
+first_spans captures zero = []
+first_spans captures (suc n) = first_spans captures n ++ captures_span captures n ∷ []
+
+-- a span is a part of a value, cut between characters
+abbrev pub IsCutFrom : List ℕ → ℕ × ℕ → Type 0
+IsCutFrom value s = (s.0 ≤ s.1) × IsCharBoundary value s.0 × IsCharBoundary value s.1
+
+-- each group that took part spans a part of the value, cut between characters
+abbrev pub AreCutFrom : List ℕ → List (Option (ℕ × ℕ)) → Type 0
+AreCutFrom value spans = (k : ℕ) (s : ℕ × ℕ) → slice_get spans k ≡ Some (Some s) → IsCutFrom value s
 
 -- `regex` refuses a text, and not for want of memory
 abbrev pub IsRefused : List ℕ → Type 0

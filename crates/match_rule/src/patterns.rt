@@ -1,15 +1,15 @@
-ghost use Rattle.match_rule.specs.Patterns.{IsFinder, IsRefused, IsWholeId, MayRefuse, first_locations, group_spans, groups_at, pattern_groups, plain_passes, is_kept, is_pattern, is_plain, is_readable, number_of, passes_at, regex_text, with_pattern};
+ghost use Rattle.match_rule.specs.Patterns.{AreCutFrom, IsCutFrom, IsFinder, IsRefused, IsWholeId, MayRefuse, first_spans, group_spans, groups_at, pattern_groups, plain_passes, is_kept, is_pattern, is_plain, is_readable, number_of, passes_at, regex_text, with_pattern};
 ghost use Rattle.std.specs.Option.{option_map};
-ghost use Rattle.std.specs.Prelude.{◌≡◌, ◌<◌, ◌≤◌, ℕ, true, false, [], ◌∷◌, None, Some, Err, if◌then◌else◌, MatchOption, length, is_none, map, position, slice_get, string_bytes, IfOk, IfErr, OnOk, OnErr, IsOk};
+ghost use Rattle.std.specs.Prelude.{◌≡◌, ◌<◌, ◌≤◌, ℕ, true, false, [], ◌∷◌, None, Some, Err, if◌then◌else◌, MatchOption, length, is_none, map, position, slice_get, string_bytes, IfOk, IfErr, IfSome, OnOk, OnErr, IsOk};
 ghost use Rattle.regex.specs.Patterns.{find_str};
-ghost use Rattle.regex.specs.Strings.{regex_names, regex_pattern};
+ghost use Rattle.regex.specs.Strings.{captures_haystack, captures_names, captures_span, regex_names, regex_pattern};
 ghost use Rattle.std.specs.Option.{ForSome};
 
 use crate::matcher::PatternMatcher;
 use crate::plain::{is_plain, plain_passes};
 use crate::spans::Spans;
 use label_set::{PatternId, Text};
-use regex::{CaptureLocations, Regex};
+use regex::{Captures, Regex};
 use std::alloc::{AllocError, AllocFailed, Global};
 use std::marker::Model;
 use thiserror::Error;
@@ -179,8 +179,9 @@ impl Patterns {
     }
 
     /// Whether the pattern under a number passes a value, and what its groups span there: group 0, the whole value, first.
-    /// Where it doesn't pass there are no spans. The pattern must be one of `whole`; a plain text has group 0 alone. The
-    /// only error is want of memory; then the spans are as they were.
+    /// Where it doesn't pass there are no spans. A group that took part spans bytes of the value, cut between characters.
+    /// The pattern must be one of `whole`; a plain text has group 0 alone. The only error is want of memory; then the spans
+    /// are as they were.
     pub fn groups(
         &mut self,
         id: PatternId,
@@ -189,6 +190,7 @@ impl Patterns {
     ) -> Result<bool, AllocError>
         requires { IsWholeId self.old id.0 }
         ensures answer { IfOk result (λ b. MatchOption (groups_at self.old id.0 value.now) ((b ≡ false) × (into.new ≡ [])) (λ spans. (b ≡ true) × (into.new ≡ spans))) }
+        ensures cut { OnOk result (AreCutFrom value.now into.new) }
         ensures err { OnErr result (into.new ≡ into.old) }
         ensures same { self.new ≡ self.old }
     {
@@ -213,7 +215,8 @@ fn pattern_spans(
     value: &str,
 ) -> Result<Option<Vec<Option<(usize, usize)>>>, AllocError>
     requires { kept.now.whole ≡ true }
-    ensures { IfOk result (λ o. option_map (λ v. v.items) o ≡ pattern_groups kept.now.text value.now) }
+    ensures spans { IfOk result (λ o. option_map (λ v. v.items) o ≡ pattern_groups kept.now.text value.now) }
+    ensures cut { IfOk result (λ o. IfSome o (λ v. AreCutFrom value.now v.items)) }
 {
     match &kept.regex {
         None => plain_spans(alloc, kept.text.as_str(), value),
@@ -221,12 +224,14 @@ fn pattern_spans(
     }
 }
 
+#[tactic(auto, using(crate::proofs::Cuts::whole_cut))]
 fn plain_spans(
     alloc: Global,
     text: &str,
     value: &str,
 ) -> Result<Option<Vec<Option<(usize, usize)>>>, AllocError>
-    ensures { IfOk result (λ o. option_map (λ v. v.items) o ≡ (if plain_passes true text.now value.now then Some (Some (0, length value.now) ∷ []) else None)) }
+    ensures spans { IfOk result (λ o. option_map (λ v. v.items) o ≡ (if plain_passes true text.now value.now then Some (Some (0, length value.now) ∷ []) else None)) }
+    ensures cut { IfOk result (λ o. IfSome o (λ v. AreCutFrom value.now v.items)) }
 {
     if !plain_passes(true, text, value) {
         return Ok(None);
@@ -241,28 +246,38 @@ fn regex_spans(
     regex: &Regex,
     value: &str,
 ) -> Result<Option<Vec<Option<(usize, usize)>>>, AllocError>
-    ensures { IfOk result (λ o. option_map (λ v. v.items) o ≡ option_map (group_spans (length (regex_names regex.now))) (find_str (regex_pattern regex.now) value.now 0)) }
+    ensures spans { IfOk result (λ o. option_map (λ v. v.items) o ≡ option_map (group_spans (length (regex_names regex.now))) (find_str (regex_pattern regex.now) value.now 0)) }
+    ensures cut { IfOk result (λ o. IfSome o (λ v. AreCutFrom value.now v.items)) }
 {
     let mut matcher = regex.matcher(alloc)?;
-    let mut locations = regex.capture_locations(alloc)?;
-    match matcher.captures_read(&mut locations, value) {
+    match matcher.captures(value) {
         None => Ok(None),
-        Some(_) => Ok(Some(copied(alloc, &locations, regex.captures_len())?)),
+        Some(captures) => Ok(Some(copied(alloc, &captures)?)),
     }
 }
 
+#[tactic(auto, using(crate::proofs::Cuts::none_cut))]
 fn copied(
     alloc: Global,
-    locations: &CaptureLocations,
-    count: usize,
+    captures: &Captures<'_, '_>,
 ) -> Result<Vec<Option<(usize, usize)>>, AllocError>
-    ensures { IfOk result (λ v. v.items ≡ first_locations locations.now count) }
+    ensures spans { IfOk result (λ v. v.items ≡ first_spans captures.now (length (captures_names captures.now))) }
+    ensures cut { IfOk result (λ v. AreCutFrom (captures_haystack captures.now) v.items) }
 {
     let mut spans = Vec::new(alloc);
-    for i in 0..count {
-        spans.push(locations.get(i))?;
+    for i in 0..captures.len() {
+        spans.push(span_at(captures, i))?;
     }
     Ok(spans)
+}
+
+#[tactic(auto, using(crate::proofs::Cuts::match_cut))]
+fn span_at(captures: &Captures<'_, '_>, i: usize) -> Option<(usize, usize)>
+    ensures span { result ≡ captures_span captures.now i }
+    ensures cut { IfSome result (IsCutFrom (captures_haystack captures.now)) }
+{
+    let group = captures.get(i)?;
+    Some((group.start(), group.end()))
 }
 
 /// The number of a pattern among the kept ones, or how many they are where it is none of them.

@@ -1,6 +1,6 @@
 -- The labels of what is absent, one label further.
 use Rattle.std.proofs.Common.{◌≡◌, ◌∙◌, ℕ, ◌+◌, ◌<◌, ◌≤◌, Bool, true, false, cond, List, [], ◌∷◌, ◌++◌, length, get_or, drop, map, ap, sym, subst, refl, Option, None, Some, arith}
-use Rattle.std.specs.Prelude.{filter, not, bytes_eq, is_some, MatchBool}
+use Rattle.std.specs.Prelude.{◌==◌, filter, not, bytes_eq, is_some, MatchBool}
 use Rattle.std.specs.List.{cons_option, filter_map, last_or}
 use Rattle.std.specs.Option.{option_and_then, option_map, option_to_list}
 use Rattle.std.proofs.lemmas.List.{drop_all}
@@ -158,3 +158,10 @@ counted_all rules label i count last w told =
     let none = ap (λ rs. kinds_on rs label) (drop_all i rules w) in
     let counts = ap (λ ks. count + equalities ks) (sym none) ∙ told.counts in
     (omega (arith, counts), ap (latest last) (sym none) ∙ told.ends_in ∙ latest_of_all (kinds_on rules label))
+
+pub only_one : (rules : List Rule) (label : List ℕ) (i count : ℕ) (last : Option (List ℕ)) → length rules ≤ i → IsCounted rules label i count last → count ≡ 1 → last ≡ absent_value (kinds_on rules label)
+only_one rules label i count last w told e =
+    let all = counted_all rules label i count last w told in
+    let kinds = kinds_on rules label in
+    let one : (equalities kinds == 1) ≡ true = ap (λ n. n == 1) (sym all.0 ∙ e) in
+    all.1 ∙ sym (ap (λ b. cond b (option_and_then equal_text (last_or None kinds)) None) one)

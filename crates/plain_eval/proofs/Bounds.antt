@@ -36,12 +36,12 @@ unsigned (b ∷ text) m p =
     sym (ap (λ t. result_ok (cond t (turned (literal_answer text)) (cond (b == 43) (literal_answer text) (literal_answer (b ∷ text))))) no_minus ∙ ap (λ t. result_ok (cond t (literal_answer text) (literal_answer (b ∷ text)))) no_plus)
   where
     by_test : (t : Bool) → (b == 45) ≡ t → (b ≡ 45 → ⊥) → (b == 45) ≡ false
-    by_test true e no = let is : b ≡ 45 = grind (arith, nat_tests) in absurd (no is)
-    by_test false e no = e
+    by_test true e never = let is : b ≡ 45 = grind (arith, nat_tests) in absurd (never is)
+    by_test false e never = e
 
     plus_test : (t : Bool) → (b == 43) ≡ t → (b ≡ 43 → ⊥) → (b == 43) ≡ false
-    plus_test true e no = let is : b ≡ 43 = grind (arith, nat_tests) in absurd (no is)
-    plus_test false e no = e
+    plus_test true e never = let is : b ≡ 43 = grind (arith, nat_tests) in absurd (never is)
+    plus_test false e never = e
 
 pub noted : (row : Row) → bound_of row ≡ None → bound_note row ≡ Some (BadBucket (bound_text row))
 noted row e = rw e refl

@@ -27,7 +27,7 @@ joined_more separator labels sources i source old gapped new all w is gap put to
     let value = value_of labels source in
     let later = from separator (i + 1) rest in
     ap (λ t. t ++ later) (put ∙ ap (λ t. t ++ value) gap) ∙ append_assoc (old ++ gap_at separator i) value later ∙ append_assoc old (gap_at separator i) (value ++ later)
-    ∙ ap (λ n. old ++ (gap_at separator i ++ (value ++ from separator n rest))) add-one
+    ∙ ap (λ n. old ++ (gap_at separator i ++ (value ++ from separator n rest))) (add-one i)
     ∙ sym (ap (λ t. old ++ t) (ap (λ ss. from separator i (map (value_of labels) ss)) (drop_item sources i source w is) ∙ one_more separator i value rest)) ∙ told
 
 none_left : (separator : List ℕ) (i : ℕ) → from separator i [] ≡ []

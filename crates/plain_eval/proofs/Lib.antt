@@ -18,4 +18,5 @@ pub mod Sorting
 pub mod Stable
 pub mod Taken
 pub mod Templated
+pub mod Turns
 pub mod Walking

@@ -118,16 +118,8 @@ module _ (equal : EqualIsSame) (reversed : OrderIsReversed) (transitive : LessIs
       by Greater e = ap (λ o. ordering_then o (note_cmp (QuantileRange a) (QuantileRange b))) e ∙ sym e
       by Equal e =
           let same : a ≡ b = equal a b na nb e in
-          let tied : note_cmp (QuantileRange a) (QuantileRange b) ≡ Equal = tie (is_eq (note_cmp (QuantileRange a) (QuantileRange a))) (tied_itself note_cmp_total (QuantileRange a)) same in
+          let tied : note_cmp (QuantileRange a) (QuantileRange b) ≡ Equal = ap (λ v. note_cmp (QuantileRange a) (QuantileRange v)) (sym same) ∙ tied_itself note_cmp_total (QuantileRange a) in
           ap (λ o. ordering_then o (note_cmp (QuantileRange a) (QuantileRange b))) e ∙ tied ∙ sym e
-        where
-          equal_if : (o : Ordering) → is_eq o ≡ true → o ≡ Equal
-          equal_if Less h = absurd (cc)
-          equal_if Equal h = refl
-          equal_if Greater h = absurd (cc)
-
-          tie : (t : Bool) → is_eq (note_cmp (QuantileRange a) (QuantileRange a)) ≡ true → a ≡ b → note_cmp (QuantileRange a) (QuantileRange b) ≡ Equal
-          tie t h same = ap (λ v. note_cmp (QuantileRange a) (QuantileRange v)) (sym same) ∙ equal_if (note_cmp (QuantileRange a) (QuantileRange a)) h
 
   pub below_weak : IsStrictWeakOrder below
   below_weak = ranks_by number_total (λ (b : Bucket). b.bound)
@@ -151,7 +143,7 @@ module _ (equal : EqualIsSame) (reversed : OrderIsReversed) (transitive : LessIs
   none_at a (k ∷ ks) all = ap (λ t. t || list_any (is_at (number_order a)) ks) (not_at a k all.0) ∙ none_at a ks all.1
 
   at_itself : (a : XFrac) → is_at (number_order a) a ≡ true
-  at_itself a = tied_itself number_total a
+  at_itself a = ap is_eq (tied_itself number_total a)
 
   strict_same : (ks ls : List XFrac) → IsStrictlySortedBy number_order ks → IsStrictlySortedBy number_order ls
       → ((b : XFrac) → list_any (is_at (number_order b)) ks ≡ list_any (is_at (number_order b)) ls) → ks ≡ ls
@@ -159,7 +151,7 @@ module _ (equal : EqualIsSame) (reversed : OrderIsReversed) (transitive : LessIs
   strict_same [] [] sk sl f = refl
   strict_same [] (l ∷ ls) sk sl f = let t : false ≡ true = f l ∙ ap (λ x. x || list_any (is_at (number_order l)) ls) (at_itself l) in absurd (cc)
   strict_same (k ∷ ks) [] sk sl f = let t : true ≡ false = sym (ap (λ x. x || list_any (is_at (number_order k)) ks) (at_itself k)) ∙ f k in absurd (cc)
-  strict_same (k ∷ ks) (l ∷ ls) sk sl f = by (number_order k l) refl
+  strict_same (k ∷ ks) (l ∷ ls) sk sl f = by (λ g. strict_same ks ls sk.1 sl.1 g) (number_order k l) refl
     where
       absent_in : (a : XFrac) (m : XFrac) (ms : List XFrac) → AllByRecursion (λ y. number_order m y ≡ Less) ms → number_order a m ≡ Less → list_any (is_at (number_order a)) (m ∷ ms) ≡ false
       absent_in a m ms all e = none_at a (m ∷ ms) (e, recursion_map (λ y. number_order m y ≡ Less) (λ y. number_order a y ≡ Less) (λ y h. number_total.trans a m y e h) ms all)
@@ -178,14 +170,14 @@ module _ (equal : EqualIsSame) (reversed : OrderIsReversed) (transitive : LessIs
           equal_from Equal h = refl
           equal_from Greater h = absurd (cc)
 
-      by : (o : Ordering) → number_order k l ≡ o → k ∷ ks ≡ l ∷ ls
-      by Less e = let t : true ≡ false = sym (ap (λ x. x || list_any (is_at (number_order k)) ks) (at_itself k)) ∙ f k ∙ absent_in k l ls sl.0 e in absurd (cc)
-      by Greater e =
+      by : (((b : XFrac) → list_any (is_at (number_order b)) ks ≡ list_any (is_at (number_order b)) ls) → ks ≡ ls) → (o : Ordering) → number_order k l ≡ o → k ∷ ks ≡ l ∷ ls
+      by rest Less e = let t : true ≡ false = sym (ap (λ x. x || list_any (is_at (number_order k)) ks) (at_itself k)) ∙ f k ∙ absent_in k l ls sl.0 e in absurd (cc)
+      by rest Greater e =
           let less : number_order l k ≡ Less = number_total.antisymm l k ∙ ap ordering_reverse e in
           let t : false ≡ true = sym (absent_in l k ks sk.0 less) ∙ f l ∙ ap (λ x. x || list_any (is_at (number_order l)) ls) (at_itself l) in absurd (cc)
-      by Equal e =
+      by rest Equal e =
           let same = number_ties k l e in
-          ap (λ x. x ∷ ks) same ∙ ap (λ xs. l ∷ xs) (strict_same ks ls sk.1 sl.1 (λ b. tails same b (is_at (number_order b) k) refl))
+          ap (λ x. x ∷ ks) same ∙ ap (λ xs. l ∷ xs) (rest (λ b. tails same b (is_at (number_order b) k) refl))
 
   any_kept : (b : XFrac) (bs : List Bucket) → list_any (is_at (number_order b)) (bounds bs) ≡ some (at b bs)
   any_kept b [] = refl
@@ -294,7 +286,12 @@ module _ (equal : EqualIsSame) (reversed : OrderIsReversed) (transitive : LessIs
     parted [] all up = (tt, tt)
     parted (y ∷ ys) all up =
         elim (here x.bound y) as (λ t. here x.bound y ≡ t → Equals (take (cond t (1 + prefix_len (here x.bound) ys) 0) (y ∷ ys)) × Follow (drop (cond t (1 + prefix_len (here x.bound) ys) 0) (y ∷ ys))) [
-          | true ↦ λ h. let rest = parted ys all.1 (rises_tail below below_weak y ys up) in ((is_equal (number_order x.bound y.bound) h, rest.0), rest.1)
+          | true ↦ λ h.
+              let rest = parted ys all.1 (rises_tail below below_weak y ys up) in
+              let P : ℕ → Type 0 = λ n. Equals (take n (y ∷ ys)) × Follow (drop n (y ∷ ys)) in
+              let size : suc (prefix_len (here x.bound) ys) ≡ 1 + prefix_len (here x.bound) ys = omega arith in
+              let first : Equals (y ∷ take (prefix_len (here x.bound) ys) ys) = (is_equal (number_order x.bound y.bound) h, rest.0) in
+              subst P size (first, rest.1)
           | false ↦ λ h.
               let e = less_from (number_order x.bound y.bound) (number_order y.bound x.bound) h (number_total.antisymm y.bound x.bound) all.0 in
               (tt, (e, follow_on y ys e (all_above below below_weak y ys up)))
@@ -392,7 +389,7 @@ module _ (equal : EqualIsSame) (reversed : OrderIsReversed) (transitive : LessIs
 
 -- ---- finite sums
 
-abbrev Finite : List XFrac → Type 0
+abbrev pub Finite : List XFrac → Type 0
 Finite vs = AllByRecursion (λ v. is_finite v ≡ true) vs
 
 none_special : (p : XFrac → Bool) → ((v : XFrac) → is_finite v ≡ true → p v ≡ false) → (vs : List XFrac) → Finite vs → list_any p vs ≡ false

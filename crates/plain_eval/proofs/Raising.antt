@@ -142,16 +142,16 @@ module _ (equal : EqualIsSame) (reversed : OrderIsReversed) (transitive : LessIs
 
   sinks_is : (m : XFrac) (bs : List Bucket) → IsCount m → Counts bs → sinks m bs ≡ (any_below m bs || falls bs)
   sinks_is m [] cm all = refl
-  sinks_is m (b ∷ bs) cm all = by (compares Lt b.count m) refl
+  sinks_is m (b ∷ bs) cm all = by (sinks_is b.count bs all.0 all.1) (compares Lt b.count m) refl
     where
       assoc : (x y z : Bool) → (x || (y || z)) ≡ ((x || y) || z)
       assoc true y z = refl
       assoc false y z = refl
 
-      by : (t : Bool) → compares Lt b.count m ≡ t → sinks m (b ∷ bs) ≡ (any_below m (b ∷ bs) || falls (b ∷ bs))
-      by true e = ap (λ x. x || sinks (count_above m b.count) bs) e ∙ sym (ap (λ x. ((x || any_below m bs) || falls (b ∷ bs))) e)
-      by false e =
-          ap (λ x. x || sinks (cond x m b.count) bs) e ∙ sinks_is b.count bs all.0 all.1
+      by : sinks b.count bs ≡ (any_below b.count bs || falls bs) → (t : Bool) → compares Lt b.count m ≡ t → sinks m (b ∷ bs) ≡ (any_below m (b ∷ bs) || falls (b ∷ bs))
+      by rest true e = ap (λ x. x || sinks (count_above m b.count) bs) e ∙ sym (ap (λ x. ((x || any_below m bs) || falls (b ∷ bs))) e)
+      by rest false e =
+          ap (λ x. x || sinks (cond x m b.count) bs) e ∙ rest
           ∙ sym (ap (λ x. ((x || any_below m bs) || falls (b ∷ bs))) e ∙ ap (λ f. any_below m bs || f) (falls_cons b bs) ∙ assoc (any_below m bs) (any_below b.count bs) (falls bs)
           ∙ ap (λ x. x || falls bs) (more_below m b.count bs cm all.0 all.1 e))
 

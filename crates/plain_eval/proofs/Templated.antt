@@ -213,13 +213,19 @@ beyond [] n w = refl
 beyond (s ∷ spans) zero w = absurd (omega arith)
 beyond (s ∷ spans) (suc n) w = beyond spans n (omega arith)
 
-pub too_far : {E : Type 0} (spans : Spans) (value name : List ℕ) (e : E) (r : Result ℕ E) → length spans ≤ 2 ^ 64 → is_some (group_number name) ≡ true → ParsesUnsigned 64 10 name r → r ≡ Err e → group_text spans value (group_number name) ≡ []
-too_far {E = E} spans value name e r few h p is =
+pub too_far : {E : Type 0} (spans : Spans) (value name : List ℕ) (n : ℕ) (e : E) (r : Result ℕ E) → n ≡ length spans → n ≤ 2 ^ 64 → is_some (group_number name) ≡ true → ParsesUnsigned 64 10 name r → r ≡ Err e
+    → span_text value (slice_get spans n) ≡ group_text spans value (group_number name)
+too_far {E = E} spans value name n e r count few h p is =
     let known = named name h in
     let told = parse_digits (numerals_by_value (AllDigits 10) tells_digits) 64 name r p known.0 in
     let Q : Result ℕ E → Type 0 = λ x. OkIff x ((0 < length name) × (digits_value 10 name < 2 ^ 64)) (digits_value 10 name) in
     let large = subst Q is told in
-    ap (group_text spans value) known.1.1 ∙ ap (span_text value) (beyond spans (digits_value 10 name) (at_least (digits_value 10 name) (λ l. large (known.1.0, l))))
+    ap (span_text value) (beyond spans n (omega (arith, count)))
+    ∙ sym (ap (group_text spans value) known.1.1 ∙ ap (span_text value) (beyond spans (digits_value 10 name) (at_least (digits_value 10 name) (λ l. large (known.1.0, l)))))
   where
-    at_least : (n : ℕ) → (n < 2 ^ 64 → ⊥) → length spans ≤ n
-    at_least n h = omega (arith, h)
+    at_least : (m : ℕ) → (m < 2 ^ 64 → ⊥) → length spans ≤ m
+    at_least m h = omega (arith, h, count, few)
+
+pub brace_boundary : (text : List ℕ) → IsUtf8 text → slice_get text 0 ≡ Some 123 → IsCharBoundary text 1
+brace_boundary [] u e = absurd (cc)
+brace_boundary (b ∷ rest) u e = let is : b ≡ 123 = cc in IsCharBoundary-after_ascii (b ∷ rest) 0 u (omega arith) (omega (arith, is))

@@ -1,10 +1,14 @@
 -- Buckets by their bounds, and their counts. (Our own.)
-use Rattle.std.specs.Prelude.{◌≡◌, true, List, if◌then◌else◌}
+use Rattle.std.specs.Prelude.{◌≡◌, true, List, Result, if◌then◌else◌}
 use Rattle.std.specs.List.{All}
 use Rattle.std.specs.Ordering.{ordering_then}
 use Rattle.std.specs.declared.cmp.Ordering.{Ordering}
+use Rattle.xfrac.specs.Arithmetic.{arithmetic}
 use Rattle.xfrac.specs.Laws.{IsNumber}
 use Rattle.xfrac.specs.Order.{compares, total_order}
+use Rattle.xfrac.specs.Sequencing.{◌>>=◌}
+use Rattle.xfrac.specs.declared.value.ArithOp.TheVariants.{Add, Sub, Mul}
+use Rattle.xfrac.specs.declared.value.NumFault.{NumFault}
 use Rattle.xfrac.specs.declared.value.CompareOp.TheVariants.{Lt}
 use Rattle.xfrac.specs.declared.value.XFrac.{XFrac}
 use Rattle.step_table.specs.Orders.{note_cmp}
@@ -31,3 +35,7 @@ number_order a b = ordering_then (total_order (tidy a) (tidy b)) (note_cmp (Quan
 
 abbrev pub bound_order : Bucket → Bucket → Ordering
 bound_order a b = number_order a.bound b.bound
+
+-- a share of the way from a start to an end
+abbrev pub point_along : XFrac → XFrac → XFrac → Result XFrac NumFault
+point_along start end share = arithmetic Sub end start >>= λ width. arithmetic Mul width share >>= λ way. arithmetic Add start way

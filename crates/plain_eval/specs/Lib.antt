@@ -7,5 +7,4 @@ pub mod Placing
 pub mod Queried
 pub mod Ranked
 pub mod Ready
-pub mod Spanned
 pub mod Walks

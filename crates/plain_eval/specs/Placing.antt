@@ -18,10 +18,10 @@ AreApart [] = ⊤
 AreApart (r ∷ rs) = AllByRecursion (λ (s : Replacement). r.at ≡ s.at → ⊥) rs × AreApart rs
 
 apart_test : (a b : ℕ) → (a ≡ b → ⊥) → (a == b) ≡ false
-apart_test a b no = by (a == b) refl
+apart_test a b differs = by (a == b) refl
   where
     by : (t : Bool) → (a == b) ≡ t → (a == b) ≡ false
-    by true e = let same : a ≡ b = grind (arith, nat_tests) in absurd (no same)
+    by true e = let same : a ≡ b = grind (arith, nat_tests) in absurd (differs same)
     by false e = e
 
 same_test : (a b : ℕ) → a ≡ b → (a == b) ≡ true
@@ -33,23 +33,23 @@ same_test a b e = by (a == b) refl
 
 module _ (kept : List (Bool × List ℕ)) where
   behind : (p : Placed) (ps : List Placed) (s : Replacement) → (p.at ≡ s.at → ⊥) → IsPlaced kept ps s → IsPlaced kept (p ∷ ps) s
-  behind p ps s no is = record {
+  behind p ps s differs is = record {
     id = is.id;
-    told = ap (λ t. cond t (Some p.id) (pattern_at ps s.at)) (apart_test p.at s.at no) ∙ is.told;
+    told = ap (λ t. cond t (Some p.id) (pattern_at ps s.at)) (apart_test p.at s.at differs) ∙ is.told;
     there = is.there;
   }
 
   all_behind : (p : Placed) (ps : List Placed) (rs : List Replacement) → AllByRecursion (λ (s : Replacement). p.at ≡ s.at → ⊥) rs → AllByRecursion (IsPlaced kept ps) rs → AllByRecursion (IsPlaced kept (p ∷ ps)) rs
-  all_behind p ps [] no is = tt
-  all_behind p ps (s ∷ rs) no is = (behind p ps s no.0 is.0, all_behind p ps rs no.1 is.1)
+  all_behind p ps [] differs is = tt
+  all_behind p ps (s ∷ rs) differs is = (behind p ps s differs.0 is.0, all_behind p ps rs differs.1 is.1)
 
   pub placed_from : (rs : List Replacement) (ps : List Placed) → AreApart rs → AreKept kept rs ps → AllByRecursion (IsPlaced kept ps) rs
   placed_from [] ps apart are = tt
   placed_from (r ∷ rs) [] apart are = absurd are
   placed_from (r ∷ rs) (p ∷ ps) apart are =
-      let no = recursion_map (λ (s : Replacement). r.at ≡ s.at → ⊥) (λ (s : Replacement). p.at ≡ s.at → ⊥) (λ s f e. f (sym are.0 ∙ e)) rs apart.0 in (
+      let differs = recursion_map (λ (s : Replacement). r.at ≡ s.at → ⊥) (λ (s : Replacement). p.at ≡ s.at → ⊥) (λ s f e. f (sym are.0 ∙ e)) rs apart.0 in (
         record { id = p.id; told = ap (λ t. cond t (Some p.id) (pattern_at ps r.at)) (same_test p.at r.at are.0); there = are.1 },
-        all_behind p ps rs no (placed_from rs ps apart.1 are.2),
+        all_behind p ps rs differs (placed_from rs ps apart.1 are.2),
       )
 
   pub tree_is_placed : (e : Expr) (ps : List Placed) → AreApart (judged e).replacements → AreKept kept (judged e).replacements ps → ArePlaced kept ps e

@@ -1,6 +1,6 @@
 //! histogram_quantile.
 ghost use Rattle.frac_text.specs.Readings.{turned};
-ghost use Rattle.plain_eval.specs.Counts.{AreCounts, bound_order, count_above};
+ghost use Rattle.plain_eval.specs.Counts.{AreCounts, bound_order, count_above, point_along};
 ghost use Rattle.promql_meaning.specs.Buckets.{are_finite, at_rank, bound_note, bound_or, bucket_of, bucket_quantiles, falls, fixed_note, histogram_outcome, histogram_quantile, histograms, interpolated, is_fixed, is_whole, last_count, merged, quantile_of_merged, quantile_of_rising, raised, signed_number, within_bucket};
 ghost use Rattle.promql_meaning.specs.Outcomes.{is_outside as is_outside_unit};
 ghost use Rattle.std.specs.List.{All, filter_map, prefix_len};
@@ -11,11 +11,10 @@ ghost use Rattle.std.specs.Result.{result_ok};
 ghost use Rattle.step_table.specs.Operators.{some_value};
 ghost use Rattle.step_table.specs.declared.marks.Note.{Note};
 ghost use Rattle.window_fn.specs.Aggregates.{total};
-ghost use Rattle.xfrac.specs.Arithmetic.{arithmetic, whole_number};
+ghost use Rattle.xfrac.specs.Arithmetic.{whole_number};
 ghost use Rattle.xfrac.specs.Kinds.{is_not_a_number, is_zero};
 ghost use Rattle.xfrac.specs.Laws.{IsNumber};
 ghost use Rattle.xfrac.specs.Order.{compares, total_order};
-ghost use Rattle.xfrac.specs.Sequencing.{◌>>=◌};
 
 use frac_text::{NumberRefusal, read_number};
 use label_set::{Items, Labels, Text};
@@ -467,7 +466,7 @@ fn interpolated(start: &XFrac, end: &XFrac, rank: &XFrac, count: &XFrac) -> Resu
 
 /// start + (end - start) * share
 fn along(start: &XFrac, end: &XFrac, share: &XFrac) -> Result<XFrac, NumFault>
-    ensures { result ≡ (arithmetic ArithOp.Sub end.now start.now >>= λ width. arithmetic ArithOp.Mul width share.now >>= λ way. arithmetic ArithOp.Add start.now way) }
+    ensures { result ≡ point_along start.now end.now share.now }
 {
     let width = arith(ArithOp::Sub, end, start)?;
     let way = arith(ArithOp::Mul, &width, share)?;

@@ -7,6 +7,7 @@ ghost use Rattle.std.specs.List.{All};
 ghost use Rattle.std.specs.Option.{option_map};
 ghost use Rattle.std.specs.Prelude.{◌≡◌, [], Some, true, false, fold, map, IfOk};
 ghost use Rattle.window_fn.specs.Aggregates.{inserted};
+ghost use Rattle.xfrac.specs.Laws.{IsNumber};
 
 use func_table::{Aggregate, Func};
 use label_set::{Grouping, Items, Labels};
@@ -98,8 +99,15 @@ fn by_value(
 {
     let ranked = grouped(alloc, &order.by, series)?;
     let sorted = sorted(ranked, order.down)?;
+    series_in(alloc, sorted)
+}
+
+/// The series alone.
+fn series_in(alloc: Global, ranked: Vec<Ranked>) -> Result<Items<ResultSeries>, AllocError>
+    ensures { IfOk result (λ series. series ≡ map (λ r. r.series) ranked.items) }
+{
     let mut series = Items::new(alloc);
-    for one in sorted {
+    for one in ranked {
         series.push(one.series)?;
     }
     Ok(series)
@@ -116,13 +124,25 @@ fn grouped(
 {
     let mut ranked = Vec::new(alloc);
     for series in series.into_vec() {
-        is_number(&value_of(&series));
-        ranked.push(Ranked {
-            group: series.labels.signature(!by.without, &by.names)?,
-            series,
-        })?;
+        ranked.push(in_group(by, series)?)?;
     }
     Ok(ranked)
+}
+
+fn in_group(by: &Grouping, series: ResultSeries) -> Result<Ranked, AllocError>
+    ensures series { IfOk result (λ r. r.series ≡ series) }
+    ensures ranked { IfOk result (IsRanked by.now) }
+{
+    is_valued(&series);
+    let group = series.labels.signature(!by.without, &by.names)?;
+    Ok(Ranked { group, series })
+}
+
+/// The value of a series is a number of the type.
+fn is_valued(series: &ResultSeries)
+    ensures { IsNumber (value_of_series series.now) }
+{
+    is_number(&value_of(series));
 }
 
 /// Each direction has a comparison of its own, since a sort is known to be by one order alone where that takes nothing from

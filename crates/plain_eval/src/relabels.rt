@@ -1,10 +1,9 @@
 //! New values for a label of each row.
 ghost use Rattle.label_set.specs.Labels.{value_of};
 ghost use Rattle.match_rule.specs.Patterns.{IsWholeId};
-ghost use Rattle.plain_eval.specs.Joined.{gap_at};
-ghost use Rattle.promql_meaning.specs.Relabels.{joined_labels, label_joined, label_replaced, replaced_labels, separated};
+ghost use Rattle.plain_eval.specs.Joined.{gap_at, joined_row, replaced_row};
+ghost use Rattle.promql_meaning.specs.Relabels.{label_joined, label_replaced, replaced_labels, separated};
 ghost use Rattle.std.specs.Prelude.{◌≡◌, List, ℕ, true, Some, map, slice_get, string_bytes, IfOk};
-ghost use Rattle.step_table.specs.Matching.{labelled as with_labels};
 
 use crate::templates::expanded;
 use label_set::{Items, Labels, PatternId, Text};
@@ -51,7 +50,7 @@ fn replaced_outcome(
 ) -> Result<Outcome, AllocError>
     requires { IsWholeId patterns.old replacing.now.pattern.0 }
     ensures outcome { IfOk result (λ o. (text : List ℕ) → slice_get patterns.old replacing.now.pattern.0 ≡ Some (true, text)
-        → o ≡ with_labels (replaced_labels replacing.now.target replacing.now.template replacing.now.source text row.labels) row.value) }
+        → o ≡ replaced_row replacing.now.target replacing.now.template replacing.now.source text row) }
     ensures same { patterns.new ≡ patterns.old }
 {
     let labels = replaced_labels(alloc, replacing, row.labels, patterns)?;
@@ -104,7 +103,7 @@ fn joined_outcome(
     sources: &[Text],
     row: Row,
 ) -> Result<Outcome, AllocError>
-    ensures { IfOk result (λ o. o ≡ with_labels (joined_labels target.now separator.now sources.now row.labels) row.value) }
+    ensures { IfOk result (λ o. o ≡ joined_row target.now separator.now sources.now row) }
 {
     let value = joined_values(alloc, separator, sources, &row.labels)?;
     let labels = labels_with(alloc, row.labels, target, value.as_str())?;

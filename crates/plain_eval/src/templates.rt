@@ -1,9 +1,9 @@
 //! The replacement of label_replace, with its references replaced.
-ghost use Rattle.plain_eval.specs.Spanned.{AreCutFrom};
+ghost use Rattle.match_rule.specs.Patterns.{AreCutFrom};
 ghost use Rattle.promql_meaning.specs.Templates.{expanded, group_number, group_text, is_braced, is_word_byte, name_in, reference_size, reference_text, span_text};
 ghost use Rattle.std.specs.Char.{is_ascii_digit};
 ghost use Rattle.std.specs.List.{list_all, prefix_len};
-ghost use Rattle.std.specs.Prelude.{◌≡◌, ◌+◌, ◌≤◌, ◌∷◌, [], drop, is_some, length, slice_get, string_bytes, IfOk, if◌then◌else◌};
+ghost use Rattle.std.specs.Prelude.{◌≡◌, ◌+◌, ◌≤◌, ◌∷◌, [], Some, drop, is_some, length, slice_get, string_bytes, IfOk, if◌then◌else◌};
 
 use match_rule::Spans;
 use std::alloc::{AllocError, Global};
@@ -102,7 +102,7 @@ fn reference_text<'a>(spans: &Spans, value: &'a str, behind: &str) -> &'a str
     match behind.as_bytes() {
         [] => "$",
         [b'$', ..] => "$",
-        [b'{', ..] => braced_text(spans, value, behind.split_at(1).1),
+        [b'{', ..] => braced_text(spans, value, after_brace(behind)),
         [first, ..] => {
             if is_word(*first) {
                 group_text(spans, value, name_in(behind))
@@ -111,6 +111,13 @@ fn reference_text<'a>(spans: &Spans, value: &'a str, behind: &str) -> &'a str
             }
         }
     }
+}
+
+fn after_brace(behind: &str) -> &str
+    requires { slice_get behind.now 0 ≡ Some 123 }
+    ensures { result.now ≡ drop 1 behind.now }
+{
+    behind.split_at(1).1
 }
 
 /// What stands for a reference in braces, behind the first brace.
@@ -135,7 +142,8 @@ fn group_text<'a>(spans: &Spans, value: &'a str, name: &str) -> &'a str
     }
     match name.parse::<usize>() {
         Ok(number) => span_text(spans, value, number),
-        Err(_) => "",
+        // no group has a number of more than 64 bits, and none that of how many there are
+        Err(_) => span_text(spans, value, spans.len()),
     }
 }
 

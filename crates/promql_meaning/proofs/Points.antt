@@ -1,8 +1,8 @@
 -- The points of a subquery are the multiples of its step in its range.
-use Rattle.std.proofs.Common.{◌≡◌, ◌∙◌, ℕ, zero, suc, ◌+◌, ◌-◌, ◌*◌, ◌/◌, ◌<◌, ◌≤◌, true, false, List, [], ◌∷◌, length, refl, sym, ap, subst, arith, add-one, inl, inr}
-use Rattle.std.specs.Prelude.{◌%◌, ◌↔◌, ℤ, pos, negsuc, neg_ℤ, ◌+ℤ◌, ◌-ℤ◌, ◌*ℤ◌, ◌<ℤ◌, ◌≤ℤ◌, int_lt, unsigned_abs, if◌then◌else◌}
+use Rattle.std.proofs.Common.{◌≡◌, ◌∙◌, ℕ, zero, suc, ◌+◌, ◌-◌, ◌*◌, ◌/◌, ◌<◌, ◌≤◌, true, false, [], ◌∷◌, length, refl, sym, ap, subst, arith, add-one, inl, inr}
+use Rattle.std.specs.Prelude.{◌%◌, ℤ, pos, negsuc, ◌+ℤ◌, ◌-ℤ◌, ◌*ℤ◌, ◌<ℤ◌, ◌≤ℤ◌, int_lt, unsigned_abs, if◌then◌else◌}
 use Rattle.std.specs.Int.{int_rem_euclid}
-use Rattle.std.specs.List.{All, AllByRecursion, Contains}
+use Rattle.std.specs.List.{AllByRecursion, Contains}
 use Rattle.std.proofs.lemmas.Bool.{cases_lt}
 use Rattle.std.proofs.lemmas.Int.{ints}
 use Rattle.std.proofs.lemmas.List.Elements.{All-contains, All-from_recursion}
@@ -45,7 +45,7 @@ there first s (suc n) zero less = subst (Contains (first ∷ instants (first +�
 there first s (suc n) (suc k) less =
     let later = there (first +ℤ pos s) s n k (omega (arith, less)) in
     let e : (first +ℤ pos s) +ℤ pos (k * s) ≡ first +ℤ pos (suc k * s) = omega (arith, ints) in
-    subst (Contains (first ∷ instants (first +ℤ pos s) (pos s) n)) e (suc later.0, omega (arith, later.1.0), later.1.1)
+    subst (Contains (first ∷ instants (first +ℤ pos s) (pos s) n)) e (suc later.0, (let l : later.0 < length (instants (first +ℤ pos s) (pos s) n) = later.1 in omega (arith, l)), later.2)
 
 module _ (edge m : ℤ) (s : ℕ) where
   all_in : (first : ℤ) (n : ℕ) → edge <ℤ first → (first +ℤ pos (n * s)) ≤ℤ m → IsMultiple (pos s) first → AllByRecursion (IsMultipleIn edge m (pos s)) (instants first (pos s) (suc n))
@@ -62,7 +62,7 @@ module _ (edge m : ℤ) (s : ℕ) where
         | false ↦ λ h.
             let span : pos (unsigned_abs (m -ℤ first)) ≡ m -ℤ first = omega (arith, ints, h) in
             let within : unsigned_abs (m -ℤ first) / s * s ≤ unsigned_abs (m -ℤ first) = div-mul-le_self (unsigned_abs (m -ℤ first)) s in
-            subst (λ c. AllByRecursion (IsMultipleIn edge m (pos s)) (instants first (pos s) c)) add-one (all_in first (unsigned_abs (m -ℤ first) / s) behind (omega (arith, ints, within, span)) is)
+            subst (λ c. AllByRecursion (IsMultipleIn edge m (pos s)) (instants first (pos s) c)) (sym (add-one (unsigned_abs (m -ℤ first) / s))) (all_in first (unsigned_abs (m -ℤ first) / s) behind (omega (arith, ints, within, span)) is)
       ] refl
 
 -- ---- each multiple is there

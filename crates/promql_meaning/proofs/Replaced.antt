@@ -1,6 +1,6 @@
 -- A part of a sum may be replaced by its own sum.
 use Rattle.std.proofs.Common.{◌≡◌, ◌∙◌, ℕ, ◌+◌, ◌-◌, ◌*◌, ◌/◌, ◌<◌, ◌≤◌, zero, suc, Bool, true, false, List, [], ◌∷◌, ◌++◌, refl, sym, ap, subst, arith, inl, inr, Some, None}
-use Rattle.std.specs.Prelude.{ℤ, pos, ◌-ℤ◌, ◌&&◌, ◌||◌, Option, nat_le, unsigned_abs, if◌then◌else◌}
+use Rattle.std.specs.Prelude.{pos, ◌-ℤ◌, ◌&&◌, ◌||◌, nat_le, if◌then◌else◌}
 use Rattle.std.specs.Int.{IsGcd, ◌∣◌}
 use Rattle.std.specs.List.{AllByRecursion}
 use Rattle.std.proofs.lemmas.Bool.{and_from, and_parts, cases_lt, le-leb, leb-true}
@@ -119,7 +119,7 @@ lowest_of a b m pm =
             positive = positive_quotient m (gcd w m) (is_shared w m pm).1 pm;
             lowest_terms = λ n d. reduced_parts w m (w / gcd w m) (m / gcd w m) pm refl refl n d;
             same = ap (λ z. a + z) t ∙ sym e ∙ added b (m / (m / gcd w m));
-            few = subst (λ z. z ≤ a + b) (sym t) (omega (arith, e));
+            few = subst (λ z. z ≤ a + b) (sym (plain_left (w / gcd w m) (m / (m / gcd w m)) ∙ t)) (omega (arith, e));
           }
       | inr more ↦
           let w : ℕ = a - b in
@@ -140,6 +140,9 @@ lowest_of a b m pm =
   where
     added : (x k : ℕ) → x ≡ x + 0 * k
     added x k = omega arith
+
+    plain_left : (x k : ℕ) → (0 + x) * k ≡ x * k
+    plain_left x k = omega arith
 
     plain : (x k : ℕ) → (x + 0) * k ≡ x * k
     plain x k = omega arith
@@ -313,13 +316,11 @@ module _ (multiple : LcmIsMultiple) (least : LcmIsLeast) where
       let r : IsLowest a b m = lowest_of a b m pm in
       subst (λ f. IsNumber (Fin f)) (sym r.is) (subst (λ z. IsReduced z r.denominator) (sym (unsigned_abs-with_sign r.negative r.numerator)) (r.lowest_terms (few_enough r) (le_limit r)))
     where
-      parts = and_parts _ _ fit
-
       le_limit : (r : IsLowest a b m) → r.denominator ≤ limit
-      le_limit r = let k : r.denominator ≤ m = le_of_dvd pm r.divides in let w : m ≤ limit = leb-true _ _ (and_parts _ _ fit).0 in omega (arith, k, w)
+      le_limit r = let k : r.denominator ≤ m = le_of_dvd pm r.divides in let w : m ≤ limit = leb-true m limit (and_parts (nat_le m limit) (nat_le (a + b) limit) fit).0 in omega (arith, k, w)
 
       one_of : (s : Bool) (x : ℕ) → x ≡ upper s x + lower s x
-      one_of true x = refl
+      one_of true x = omega arith
       one_of false x = omega arith
 
       few_enough : (r : IsLowest a b m) → r.numerator ≤ limit
@@ -327,7 +328,7 @@ module _ (multiple : LcmIsMultiple) (least : LcmIsLeast) where
           let q : 0 < m / r.denominator = positive_quotient m r.denominator r.divides pm in
           let k : r.numerator ≤ r.numerator * (m / r.denominator) = le-mul_of_pos_right r.numerator q in
           let l : r.numerator * (m / r.denominator) ≤ a + b = subst (λ z. z * (m / r.denominator) ≤ a + b) (sym (one_of r.negative r.numerator)) r.few in
-          let w : a + b ≤ limit = leb-true _ _ (and_parts _ _ fit).1 in
+          let w : a + b ≤ limit = leb-true (a + b) limit (and_parts (nat_le m limit) (nat_le (a + b) limit) fit).1 in
           omega (arith, k, l, w)
 
   positive_denominator : (x : XFrac) → IsNumber x → 0 < denominator_of x

@@ -1,26 +1,25 @@
 -- The sum of a vector is the sum of its sums by any grouping.
-use Rattle.std.proofs.Common.{◌≡◌, ◌∙◌, ℕ, ◌<◌, Bool, true, false, cond, List, [], ◌∷◌, ◌++◌, length, map, refl, sym, ap, subst, arith, append_assoc, append-nil, Some, None}
-use Rattle.std.specs.Prelude.{Option, Ok, Result, filter, fold, unwrap_or}
+use Rattle.std.proofs.Common.{◌≡◌, ◌∙◌, ℕ, Bool, true, false, cond, List, [], ◌∷◌, ◌++◌, length, map, refl, sym, ap, subst, arith, append_assoc, append-nil, Some, None}
+use Rattle.std.specs.Prelude.{Option, Ok, filter, fold, unwrap_or}
 use Rattle.std.specs.Option.{ok_or}
 use Rattle.std.specs.BTreeMap.{insert_entry, is_at}
 use Rattle.std.specs.BTreeSet.{insert_key}
-use Rattle.std.specs.List.{All, AllByRecursion, filter_map}
+use Rattle.std.specs.List.{AllByRecursion, filter_map}
 use Rattle.std.specs.List.Sorted.{IsPermutation, IsStrictlySortedBy}
 use Rattle.std.specs.Map.{keys_of, lookup, values_of}
 use Rattle.std.specs.Ordering.{match_ordering}
 use Rattle.std.specs.declared.cmp.Ordering.TheVariants.{Less, Equal, Greater}
 use Rattle.std.proofs.lemmas.List.{map-append}
 use Rattle.std.proofs.lemmas.List.Elements.{All-from_recursion, recursion_from_All}
-use Rattle.std.proofs.lemmas.List.Sorted.{All-permutation, IsPermutation-append_comm, IsPermutation-append_left, IsPermutation-append_right, IsPermutation-cons, IsPermutation-middle, IsPermutation-refl, IsPermutation-sym, IsPermutation-to_front, IsPermutation-trans, length_permutation}
+use Rattle.std.proofs.lemmas.List.Sorted.{All-permutation, IsPermutation-append_comm, IsPermutation-append_left, IsPermutation-append_right, IsPermutation-middle, IsPermutation-refl, IsPermutation-sym, IsPermutation-to_front, IsPermutation-trans, length_permutation}
 use Rattle.std.proofs.lemmas.Map.{lookup-none}
 use Rattle.std.proofs.lemmas.Map.Entries.{none_below_head}
 use Rattle.func_table.specs.declared.table.Aggregate.TheVariants.{Sum}
-use Rattle.label_set.specs.Labels.{is_named, labels_cmp}
+use Rattle.label_set.specs.Labels.{labels_cmp}
 use Rattle.label_set.specs.LabelOrder.{labels_cmp_total}
 use Rattle.label_set.specs.declared.rules.Grouping.{Grouping}
 use Rattle.xfrac.specs.Laws.{AloneStandsForOne, IsNumber, JoinedStandsForBoth, LcmIsLeast, LcmIsMultiple, PartOverflowsWhole, SumIgnoresOrder}
 use Rattle.xfrac.specs.Sums.{sum_of}
-use Rattle.xfrac.specs.declared.value.NumFault.{NumFault}
 use Rattle.xfrac.specs.declared.value.NumFault.TheVariants.{Overflow}
 use Rattle.xfrac.specs.declared.value.XFrac.{XFrac}
 use Rattle.step_table.specs.Gathering.{gathered_more, names_sorted, nothing_more}
@@ -28,7 +27,6 @@ use Rattle.step_table.specs.Groups.{Names, gathered, items_of, names_among, with
 use Rattle.step_table.specs.Operators.{some_value}
 use Rattle.step_table.specs.Outcomes.{mark_of, row_of}
 use Rattle.step_table.specs.Unions.{with_fatal}
-use Rattle.step_table.specs.declared.marks.Marks.{Marks}
 use Rattle.step_table.specs.declared.outcomes.Outcome.{Outcome}
 use Rattle.step_table.specs.declared.step.Row.{Row}
 use Rattle.step_table.specs.declared.step.Step.{Step}
@@ -182,7 +180,8 @@ module _ (ignores : SumIgnoresOrder) (both : JoinedStandsForBoth) (one : AloneSt
   sums_of : (arg : XFrac) (done : List XFrac) (groups : List (Names × List XFrac)) (s : XFrac) → AllByRecursion IsNumber done → AllByRecursion IsNumber (all_in groups)
       → sum_of (done ++ all_in groups) ≡ Some s → AreSummed done (outcomes arg groups) (has_some groups) s
   sums_of arg done [] s nd ng e = record { marks = refl; sum = e; rows = refl }
-  sums_of arg done (group ∷ groups) s nd ng e = by (sum_of group.1) refl
+  sums_of arg done (group ∷ groups) s nd ng e =
+      by (λ x number sum. sums_of arg (done ++ x ∷ []) groups s (all_append done (x ∷ []) nd (number, tt)) (all_right group.1 (all_in groups) ng) sum) (sum_of group.1) refl
     where
       front : sum_of (group.1 ++ (done ++ all_in groups)) ≡ Some s
       front = shuffled (done ++ (group.1 ++ all_in groups)) (group.1 ++ (done ++ all_in groups)) s (all_append done (group.1 ++ all_in groups) nd ng) (to_front done group.1 (all_in groups)) e
@@ -190,17 +189,16 @@ module _ (ignores : SumIgnoresOrder) (both : JoinedStandsForBoth) (one : AloneSt
       rest : AllByRecursion IsNumber (done ++ all_in groups)
       rest = all_append done (all_in groups) nd (all_right group.1 (all_in groups) ng)
 
-      by : (o : Option XFrac) → sum_of group.1 ≡ o → AreSummed done (outcome_of group.0 o ∷ outcomes arg groups) true s
-      by None f =
+      by : ((x : XFrac) → IsNumber x → sum_of ((done ++ x ∷ []) ++ all_in groups) ≡ Some s → AreSummed (done ++ x ∷ []) (outcomes arg groups) (has_some groups) s) → (o : Option XFrac) → sum_of group.1 ≡ o → AreSummed done (outcome_of group.0 o ∷ outcomes arg groups) true s
+      by goes None f =
           no_sum s (sum_of (group.1 ++ (done ++ all_in groups))) front
           (overflows group.1 (done ++ all_in groups) (All-from_recursion IsNumber group.1 (all_left group.1 (all_in groups) ng)) (All-from_recursion IsNumber (done ++ all_in groups) rest) f)
-      by (Some x) f =
+      by goes (Some x) f =
           let r = front_replaced multiple least both one group.1 (done ++ all_in groups) x s (all_left group.1 (all_in groups) ng) rest f front in
           let assoc : (done ++ x ∷ []) ++ all_in groups ≡ done ++ x ∷ all_in groups = append_assoc done (x ∷ []) (all_in groups) in
           let back : IsPermutation (x ∷ (done ++ all_in groups)) (done ++ x ∷ all_in groups) = IsPermutation-sym (done ++ x ∷ all_in groups) (x ∷ (done ++ all_in groups)) (IsPermutation-middle done x (all_in groups)) in
           let sum : sum_of ((done ++ x ∷ []) ++ all_in groups) ≡ Some s = ap sum_of assoc ∙ shuffled (x ∷ (done ++ all_in groups)) (done ++ x ∷ all_in groups) s (r.0, rest) back r.1 in
-          let more : AreSummed (done ++ x ∷ []) (outcomes arg groups) (has_some groups) s =
-          sums_of arg (done ++ x ∷ []) groups s (all_append done (x ∷ []) nd (r.0, tt)) (all_right group.1 (all_in groups) ng) sum in
+          let more : AreSummed (done ++ x ∷ []) (outcomes arg groups) (has_some groups) s = goes x r.0 sum in
           record {
             marks = more.marks;
             sum = ap sum_of (sym (append_assoc done (x ∷ []) (values (filter_map row_of (outcomes arg groups))))) ∙ more.sum;

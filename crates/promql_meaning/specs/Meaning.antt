@@ -25,7 +25,6 @@ use Rattle.step_table.specs.declared.step.Row.{Row}
 use Rattle.step_table.specs.declared.step.Step.{Step}
 use Rattle.promql_meaning.specs.declared.given.Given.{Given}
 use Rattle.promql_meaning.specs.declared.given.Given.TheVariants as given
-use Rattle.promql_meaning.specs.declared.given.Windows.{Windows}
 use Rattle.promql_meaning.specs.Absences.{absence}
 use Rattle.promql_meaning.specs.Aggregations.{aggregated}
 use Rattle.promql_meaning.specs.Buckets.{bucket_quantiles}

@@ -1,7 +1,9 @@
 //! Laws of meanings that users rely on. The functions do nothing: each stands for what its contract says.
 ghost use Rattle.promql_meaning.specs.Laws.{FixedSelectorStays, MinusTwice, MultiplesAreAll, OffsetIsEarlier, RanksArePart, SumOfEachRow, SumsOfSums};
 
-use xfrac::laws::{joined_sums_stand_for_both, lcm_is_least, part_overflows_whole, sum_ignores_order};
+use xfrac::laws::{
+    joined_sums_stand_for_both, lcm_is_least, part_overflows_whole, sum_ignores_order,
+};
 
 /// The sum by a grouping that keeps all labels of each row is each row.
 pub fn sum_of_each_row()

@@ -4,13 +4,14 @@ use Rattle.std.specs.Prelude.{Some, slice_get}
 use Rattle.std.proofs.lemmas.Option.{slice_get_within}
 use Rattle.std.proofs.lemmas.List.{drop_more, take_more, take-append-drop}
 use Rattle.promql_ast.specs.declared.refusal.QueryRefusal.{QueryRefusal}
+use Rattle.match_rule.specs.Gains.{Gains, gains_all}
 use Rattle.match_rule.specs.Patterns.{with_pattern}
 use Rattle.promql_type.specs.declared.replace.Placed.{Placed}
 use Rattle.promql_type.specs.declared.replace.Replacement.{Replacement}
 use Rattle.promql_type.specs.declared.typed_tree.TypeFault.{TypeFault}
 use Rattle.promql_type.specs.declared.typed_tree.TypeFault.TheVariants.{Refused, Memory}
 use Rattle.promql_type.specs.Answers.{MayFault}
-use Rattle.promql_type.specs.Replacements.{AreKept, Gains, HasCause, IsFirstRefused, Kept, kept_with}
+use Rattle.promql_type.specs.Replacements.{AreKept, HasCause, IsFirstRefused, Kept, kept_with}
 
 pub kept_more : (kept : Kept) (front : List Replacement) (r : Replacement) → kept_with kept (front ++ r ∷ []) ≡ with_pattern (true, r.text) (kept_with kept front)
 kept_more kept [] r = refl
@@ -29,15 +30,6 @@ placed_more old kept [] (q ∷ qs) r p are gains is = absurd are
 placed_more old kept (s ∷ front) [] r p are gains is = absurd are
 placed_more old kept (s ∷ front) (q ∷ qs) r p are gains is =
     (are.0, gains.earlier q.id.0 (within old q.id.0 (true, s.text) are.1) ∙ are.1, placed_more old kept front qs r p are.2 gains is)
-
-pub gains_all : (a b c : Kept) → Gains a b → Gains b c → Gains a c
-gains_all a b c ab bc = record {
-  earlier = λ k lt. bc.earlier k (omega (arith, lt, ab.more)) ∙ ab.earlier k lt;
-  more = omega (arith, ab.more, bc.more);
-}
-
-pub gains_none : (a b : Kept) → b ≡ a → Gains a b
-gains_none a b is = subst (λ (x : Kept). Gains a x) (sym is) (record { earlier = λ k lt. refl; more = omega arith })
 
 -- what is kept and placed once those at the front are
 pub record AreSofar (before now : Kept) (done : List Replacement) (numbers : List Placed) : Type 0 where

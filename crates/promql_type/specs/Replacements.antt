@@ -1,6 +1,6 @@
 -- What comes of keeping the patterns of label_replace calls, in the order of the text. Whether a text that isn't plain is a
 -- pattern is what `regex` answers. The limit of patterns is this project's own.
-use Rattle.std.specs.Prelude.{◌≡◌, ℕ, Bool, true, false, List, [], ◌∷◌, ◌++◌, length, ◌<◌, ◌≤◌, slice_get, Some, Option, None, ⊤}
+use Rattle.std.specs.Prelude.{◌≡◌, ℕ, Bool, true, false, List, [], ◌∷◌, ◌++◌, length, slice_get, Some, Option, None, ⊤}
 use Rattle.promql_ast.specs.declared.refusal.QueryRefusal.{QueryRefusal}
 use Rattle.promql_ast.specs.declared.refusal.QueryRefusal.TheVariants.{BadPattern, TooManyPatterns}
 use Rattle.match_rule.specs.Patterns.{IsRefused, is_kept, is_plain, regex_text, with_pattern}
@@ -35,11 +35,6 @@ pub record IsFirstRefused (before : Kept) (wanted : List Replacement) (after : K
 abbrev pub AreBuilt : Kept → List Replacement → Kept → Option QueryRefusal → Type 0
 AreBuilt before wanted after None = after ≡ kept_with before wanted
 AreBuilt before wanted after (Some refusal) = IsFirstRefused before wanted after refusal
-
--- no pattern has lost its number
-pub record Gains (before after : Kept) : Type 0 where
-  pub earlier : (k : ℕ) → k < length before → slice_get after k ≡ slice_get before k
-  pub more : length before ≤ length after
 
 -- each has a number under which its text is kept, in the same order
 abbrev pub AreKept : Kept → List Replacement → List Placed → Type 0

@@ -1,8 +1,9 @@
 //! Checking a tree.
+ghost use Rattle.match_rule.specs.Gains.{Gains};
 ghost use Rattle.promql_type.specs.Answers.{IsLeastRefusal, MayFault, refusals_of};
 ghost use Rattle.promql_type.specs.Judging.{judged};
 ghost use Rattle.promql_type.specs.Refusals.{least, lesser};
-ghost use Rattle.promql_type.specs.Replacements.{AreKept, Gains, kept_with};
+ghost use Rattle.promql_type.specs.Replacements.{AreKept, kept_with};
 ghost use Rattle.promql_type.specs.Settled.{settled};
 ghost use Rattle.promql_type.specs.TypedTrees.{placed_of, tree_of};
 ghost use Rattle.std.specs.Prelude.{◌≡◌, [], Some, IfOk, IfErr, OnOk};

@@ -1,7 +1,8 @@
 //! The patterns of `label_replace` calls.
 ghost use Rattle.promql_type.specs.Judging.{all_replacements, judged, pattern_of};
 ghost use Rattle.promql_type.specs.Answers.{MayFault};
-ghost use Rattle.promql_type.specs.Replacements.{AreKept, Gains, HasCause, IsFirstRefused, kept_with};
+ghost use Rattle.promql_type.specs.Replacements.{AreKept, HasCause, IsFirstRefused, kept_with};
+ghost use Rattle.match_rule.specs.Gains.{Gains};
 ghost use Rattle.match_rule.specs.Patterns.{with_pattern};
 ghost use Rattle.std.specs.Prelude.{◌≡◌, ◌++◌, true, Some, map, slice_get, IfOk, IfErr, OnOk, OnErr};
 
