@@ -1,5 +1,5 @@
 -- Bounds of buckets, and the cases of a histogram's quantile.
-use Rattle.std.proofs.Common.{◌≡◌, ◌∙◌, ℕ, zero, suc, ◌+◌, ◌-◌, ◌<◌, ◌≤◌, Bool, true, false, cond, List, [], ◌∷◌, length, refl, sym, ap, Option, None, Some, Result, Ok, Err, arith}
+use Rattle.std.proofs.Common.{◌≡◌, ◌∙◌, ℕ, zero, suc, ◌+◌, ◌-◌, ◌<◌, ◌≤◌, Bool, true, false, cond, List, [], ◌∷◌, length, get_or, refl, sym, ap, Option, None, Some, Result, Ok, Err, arith}
 use Rattle.std.specs.Prelude.{◌≢◌, ◌==◌, ◌&&◌, ◌||◌, not, nat_lt, slice_get}
 use Rattle.std.specs.List.{last_or}
 use Rattle.std.specs.Result.{result_ok}
@@ -131,3 +131,22 @@ pub rank_short : (rank : XFrac) (earlier : Option Bucket) (buckets : List Bucket
 rank_short rank earlier [] w = refl
 rank_short rank earlier (b ∷ []) w = refl
 rank_short rank earlier (b ∷ c ∷ buckets) w = absurd (omega arith)
+
+-- ---- the same by the item at a place
+
+get_at : {X : Type 0} (xs : List X) (i : ℕ) (x : X) → i < length xs → x ≡ get_or xs i x → slice_get xs i ≡ Some x
+get_at [] i x w is = absurd (omega arith)
+get_at (y ∷ xs) zero x w is = ap Some (sym is)
+get_at (y ∷ xs) (suc i) x w is = get_at xs i x (omega arith) is
+
+pub whole_last : (buckets : List Bucket) (b : Bucket) → 2 ≤ length buckets → b ≡ get_or buckets (length buckets - 1) b → is_whole buckets ≡ is_positive_infinity b.bound
+whole_last buckets b w is = whole_at buckets b w (get_at buckets (length buckets - 1) b (omega arith) is)
+
+pub last_count_is : (buckets : List Bucket) (b : Bucket) → 1 ≤ length buckets → b ≡ get_or buckets (length buckets - 1) b → last_count buckets ≡ b.count
+last_count_is buckets b w is = count_of_last buckets b (get_at buckets (length buckets - 1) b (omega arith) is)
+
+pub not_infinite : (v : XFrac) → (v ≡ PosInf → ⊥) → is_positive_infinity v ≡ false
+not_infinite PosInf differs = absurd (differs refl)
+not_infinite NegInf differs = refl
+not_infinite NaN differs = refl
+not_infinite (Fin f) differs = refl

@@ -276,6 +276,7 @@ fn bound_order(a: &Bucket, b: &Bucket) -> Ordering
 {
     is_number(&a.bound);
     is_number(&b.bound);
+    order_is_total();
     cmp_total(&a.bound, &b.bound)
 }
 

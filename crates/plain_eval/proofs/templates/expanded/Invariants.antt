@@ -3,8 +3,8 @@ use Rattle.std.specs.Prelude.{string_bytes}
 use Rattle.promql_meaning.specs.Templates.{expanded, expanded_from}
 use Rattle.plain_eval.proofs.templates.expanded.Given as goal
 
-abbrev pub invariant-loop-rest : goal.invariant-loop-rest
-invariant-loop-rest l = string_bytes l.text ++ expanded_from 0 l.spans l.value l.rest ≡ expanded l.spans l.value l.template
+abbrev pub invariant-loop-plain : goal.invariant-loop-plain
+invariant-loop-plain l = string_bytes l.text ++ expanded_from 0 l.spans l.value l.rest ≡ expanded l.spans l.value l.template
 
-abbrev pub decreases-loop-rest : goal.decreases-loop-rest
-decreases-loop-rest l = length l.rest
+abbrev pub decreases-loop-plain : goal.decreases-loop-plain
+decreases-loop-plain l = length l.rest
