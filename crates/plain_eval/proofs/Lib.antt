@@ -2,6 +2,7 @@ pub mod Absent
 pub mod Bounds
 pub mod Called
 pub mod Children
+pub mod Each
 pub mod Framed
 pub mod Instants
 pub mod Joined
