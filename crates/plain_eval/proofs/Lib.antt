@@ -2,6 +2,7 @@ pub mod Absent
 pub mod Bounds
 pub mod Called
 pub mod Children
+pub mod Each
 pub mod Framed
 pub mod Instants
 pub mod Joined
@@ -9,6 +10,7 @@ pub mod Literals
 pub mod Meanings
 pub mod Merging
 pub mod Newest
+pub mod Noted
 pub mod Patterned
 pub mod Raising
 pub mod Rests

@@ -24,14 +24,14 @@ abbrev row : Signature
 row = signature (Function LabelReplace)
 
 -- what a place for words takes is words
+words_taken : (at : ℕ) (k : Kind) → argument_refusals (Some Words) (record { at = at; gives = k }) ≡ [] → k ≡ Words
+words_taken at Scalar is = absurd (cc)
+words_taken at Vector is = absurd (cc)
+words_taken at Windows is = absurd (cc)
+words_taken at Words is = refl
+
 takes_words : (j : Judgement) → argument_refusals (Some Words) j.operand ≡ [] → j.operand.gives ≡ Words
-takes_words j is = by j.operand.gives refl
-  where
-    by : (k : Kind) → j.operand.gives ≡ k → j.operand.gives ≡ Words
-    by Scalar e = let f = rw e at is in absurd (omega (arith, ap length f))
-    by Vector e = let f = rw e at is in absurd (omega (arith, ap length f))
-    by Windows e = let f = rw e at is in absurd (omega (arith, ap length f))
-    by Words e = e
+takes_words j is = words_taken j.operand.at j.operand.gives is
 
 -- the fifth argument is a string
 fifth : (items : List Expr) (at : ℕ) → count_refusals row (length (map judged items)) at ≡ [] → arguments_refusals row 0 (map judged items) ≡ [] → (l : Literal) × (literal_at (map judged items) 4 ≡ Some l)

@@ -206,11 +206,24 @@ fn counter_note(
 ) -> Result<Option<Note>, AllocError>
     ensures { IfOk result (λ note. note ≡ (if asks_for_counters f && has_a_value value then name_note (value_of labels.now metric_name) else None)) }
 {
-    if !(asks_counters(f) && has_value(value)) {
+    if !asks_counters(f) {
         return Ok(None);
     }
-    let name = labels.get(METRIC_NAME);
-    if name.is_empty() || is_counter_name(name) {
+    if !has_value(value) {
+        return Ok(None);
+    }
+    name_note(alloc, labels.get(METRIC_NAME))
+}
+
+/// The note of a name that isn't empty and isn't that of a counter.
+#[tactic(auto, using(crate::proofs::Noted::none_of_empty, crate::proofs::Noted::none_of_counter, crate::proofs::Noted::one_of_others))]
+fn name_note(alloc: Global, name: &str) -> Result<Option<Note>, AllocError>
+    ensures { IfOk result (λ note. note ≡ name_note name.now) }
+{
+    if name.is_empty() {
+        return Ok(None);
+    }
+    if is_counter_name(name) {
         return Ok(None);
     }
     Ok(Some(Note::NotCounter(Text::of(alloc, name)?)))

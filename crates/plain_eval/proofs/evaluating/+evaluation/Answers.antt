@@ -160,8 +160,7 @@ value_at-value_at-requires-in-Pair-2 g t c κs within =
     let e = c.args.e.now in
     let get = c.get-in-Pair-2.ensures in
     let d : depth c.get-in-Pair-2.result.now < depth e = subst (λ x. depth x < depth e) (sym get) (depths_Pair e c.in-Pair.op c.in-Pair.left c.in-Pair.right c.in-Pair.pairing c.in-Pair.is).1 in
-    let ready = (ready_Pair asked placed e c.in-Pair.op c.in-Pair.left c.in-Pair.right c.in-Pair.pairing c.args.t.0 c.in-Pair.is c.requires).1 in
-    (
+    let ready = (ready_Pair asked placed e c.in-Pair.op c.in-Pair.left c.in-Pair.right c.in-Pair.pairing c.args.t.0 c.in-Pair.is c.requires).1 in (
       omega (arith, c.decreases),
       (
         within,
@@ -187,8 +186,7 @@ value_at-value_at-requires-in-Set-2 g t c κs within =
     let e = c.args.e.now in
     let get = c.get-in-Set-2.ensures in
     let d : depth c.get-in-Set-2.result.now < depth e = subst (λ x. depth x < depth e) (sym get) (depths_Set e c.in-Set.op c.in-Set.left c.in-Set.right c.in-Set.pairing c.in-Set.is).1 in
-    let ready = (ready_Set asked placed e c.in-Set.op c.in-Set.left c.in-Set.right c.in-Set.pairing c.args.t.0 c.in-Set.is c.requires).1 in
-    (
+    let ready = (ready_Set asked placed e c.in-Set.op c.in-Set.left c.in-Set.right c.in-Set.pairing c.args.t.0 c.in-Set.is c.requires).1 in (
       omega (arith, c.decreases),
       (
         within,
@@ -206,8 +204,8 @@ value_at-returns-in_ok-windows_over-in-Subquery-clause-meaning g t c =
     let get : meaning_step asked c.get-in-Subquery.result.now ≡ meant = ap (meaning_step asked) c.get-in-Subquery.ensures in
     ap Windows c.in_ok-windows_over-in-Subquery.ensures
     ∙ means_Subquery asked c.args.e.now c.args.t.0 inner c.in-Subquery.range c.in-Subquery.step c.in-Subquery.moment c.moment_in-m.result us c.in_ok-points-in-Subquery.points.rows c.in_ok-points-in-Subquery.points.marks c.in-Subquery.is
-        c.moment_in-m.ensures (c.as_slice.ensures ∙ c.in_ok-us-in-Subquery.ensures) (c.in_ok-points-in-Subquery.ensures.rows ∙ ap (λ f. rows_over f us) get)
-        (c.in_ok-points-in-Subquery.ensures.marks ∙ ap (λ f. marks_over f no_marks us) get)
+    c.moment_in-m.ensures (c.as_slice.ensures ∙ c.in_ok-us-in-Subquery.ensures) (c.in_ok-points-in-Subquery.ensures.rows ∙ ap (λ f. rows_over f us) get)
+    (c.in_ok-points-in-Subquery.ensures.marks ∙ ap (λ f. marks_over f no_marks us) get)
 
 pub value_at-returns-in_ok-r-in-Pair-clause-meaning : goal.value_at-returns-in_ok-r-in-Pair-clause-meaning
 value_at-returns-in_ok-r-in-Pair-clause-meaning g t c =
