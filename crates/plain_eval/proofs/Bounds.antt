@@ -1,5 +1,5 @@
 -- Bounds of buckets, and the cases of a histogram's quantile.
-use Rattle.std.proofs.Common.{◌≡◌, ◌∙◌, ℕ, zero, suc, ◌+◌, ◌-◌, ◌<◌, ◌≤◌, Bool, true, false, cond, List, [], ◌∷◌, length, get_or, take, drop, refl, sym, ap, subst, Option, None, Some, Result, Ok, Err, arith}
+use Rattle.std.proofs.Common.{◌≡◌, ◌∙◌, ℕ, zero, suc, ◌+◌, ◌-◌, ◌<◌, ◌≤◌, Bool, true, false, cond, List, [], ◌∷◌, length, get_or, take, drop, refl, sym, ap, subst, Option, None, Some, Result, Ok, arith}
 use Rattle.std.specs.Prelude.{◌≢◌, ◌==◌, ◌&&◌, ◌||◌, not, nat_lt, slice_get}
 use Rattle.std.specs.List.{All, last_or}
 use Rattle.std.specs.Result.{result_ok}
@@ -14,11 +14,10 @@ use Rattle.xfrac.specs.declared.value.CompareOp.TheVariants.{Lt, Gt}
 use Rattle.xfrac.specs.declared.value.NumFault.{NumFault}
 use Rattle.xfrac.specs.declared.value.XFrac.{XFrac}
 use Rattle.xfrac.specs.declared.value.XFrac.TheVariants.{Fin, PosInf, NegInf, NaN}
-use Rattle.step_table.specs.declared.marks.Note.{Note}
 use Rattle.step_table.specs.declared.marks.Note.TheVariants.{BadBucket}
 use Rattle.step_table.specs.declared.step.Row.{Row}
 use Rattle.promql_meaning.specs.declared.buckets.Bucket.{Bucket}
-use Rattle.promql_meaning.specs.Buckets.{are_finite, at_rank, bound_note, bound_of, bound_or, bound_text, falls, histogram_quantile, is_finite, is_fixed, is_fixed_of, is_whole, last_count, merged, quantile_of_merged, signed_number}
+use Rattle.promql_meaning.specs.Buckets.{are_finite, at_rank, bound_note, bound_of, bound_or, bound_text, histogram_quantile, is_finite, is_fixed, is_fixed_of, is_whole, last_count, merged, quantile_of_merged, signed_number}
 use Rattle.promql_meaning.specs.Outcomes.{is_outside}
 use Rattle.plain_eval.proofs.Rests.{drop_item}
 

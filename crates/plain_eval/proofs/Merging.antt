@@ -1,25 +1,25 @@
 -- Buckets in the order of their bounds, and the bucket of each bound.
-use Rattle.std.proofs.Common.{◌≡◌, ◌∙◌, ℕ, zero, suc, ◌+◌, ◌<◌, ◌≤◌, Bool, true, false, cond, List, [], ◌∷◌, ◌++◌, length, take, drop, map, fold, refl, sym, ap, subst, Option, None, Some, Result, Ok, Err, append-nil, append_assoc, arith}
-use Rattle.std.specs.Prelude.{◌||◌, ◌&&◌, not, filter, ⊤}
+use Rattle.std.proofs.Common.{◌≡◌, ◌∙◌, ℕ, zero, suc, ◌+◌, ◌<◌, Bool, true, false, cond, List, [], ◌∷◌, ◌++◌, length, take, drop, map, fold, refl, sym, ap, subst, None, Some, Result, Ok, Err, append-nil, append_assoc, arith}
+use Rattle.std.specs.Prelude.{◌||◌, ◌&&◌, not, filter}
 use Rattle.std.specs.BTreeMap.{is_at}
 use Rattle.std.specs.BTreeSet.{insert_key}
 use Rattle.std.specs.Cmp.{IsStrictWeakOrder, IsTotalOrder}
-use Rattle.std.specs.List.{All, AllByRecursion, list_all, list_any, prefix_len}
-use Rattle.std.specs.List.Sorted.{IsPermutation, IsSortedBy, IsStableBy, IsStrictlySortedBy, ties}
+use Rattle.std.specs.List.{AllByRecursion, list_any, prefix_len}
+use Rattle.std.specs.List.Sorted.{IsStableBy, IsStrictlySortedBy, ties}
 use Rattle.std.specs.Option.{ok_or}
 use Rattle.std.specs.Ordering.{is_eq, is_lt, match_ordering, ordering_reverse, ordering_then}
 use Rattle.std.specs.declared.cmp.Ordering.{Ordering}
 use Rattle.std.specs.declared.cmp.Ordering.TheVariants.{Less, Equal, Greater}
 use Rattle.std.proofs.lemmas.Cmp.{on_total, then_total, tied_itself}
-use Rattle.std.proofs.lemmas.List.Elements.{All-head, All-tail, filter-append}
+use Rattle.std.proofs.lemmas.List.Elements.{filter-append}
 use Rattle.std.proofs.lemmas.List.MinMax.{ranks_by}
 use Rattle.label_set.specs.Entries.{recursion_map}
-use Rattle.window_fn.specs.Aggregates.{inserted, total}
+use Rattle.window_fn.specs.Aggregates.{total}
 use Rattle.xfrac.specs.Kinds.{is_not_a_number, is_negative_infinity, is_positive_infinity}
 use Rattle.xfrac.specs.Laws.{EqualIsSame, IsNumber, LessIsTransitive, OrderIsReversed}
 use Rattle.xfrac.specs.Order.{total_order}
 use Rattle.xfrac.specs.Sequencing.{◌>>=◌}
-use Rattle.xfrac.specs.Sums.{Totals, fits, sum_of, totals, value_of}
+use Rattle.xfrac.specs.Sums.{fits, totals, value_of}
 use Rattle.xfrac.specs.declared.value.NumFault.{NumFault}
 use Rattle.xfrac.specs.declared.value.NumFault.TheVariants.{Overflow}
 use Rattle.xfrac.specs.declared.value.XFrac.{XFrac}
@@ -28,13 +28,12 @@ use Rattle.step_table.specs.KeySets.{any_of_set, sorted_set}
 use Rattle.step_table.specs.OrderLaws.{note_cmp_ties, note_cmp_total}
 use Rattle.step_table.specs.Orders.{note_cmp}
 use Rattle.step_table.specs.Unions.{set_of}
-use Rattle.step_table.specs.declared.marks.Note.{Note}
 use Rattle.step_table.specs.declared.marks.Note.TheVariants.{QuantileRange}
 use Rattle.promql_meaning.specs.declared.buckets.Bucket.{Bucket}
-use Rattle.promql_meaning.specs.Buckets.{are_finite, count_at, each_of, is_finite, merged, merged_at}
-use Rattle.promql_meaning.specs.NumberOrder.{tidy, tidy-same, tidy_order, values_total}
-use Rattle.plain_eval.specs.Counts.{IsCount, bound_order, number_order}
-use Rattle.plain_eval.proofs.Stable.{Rises, all_above, rises_from, rises_tail, sorted_is}
+use Rattle.promql_meaning.specs.Buckets.{each_of, is_finite, merged, merged_at}
+use Rattle.promql_meaning.specs.NumberOrder.{tidy, tidy-same, values_total}
+use Rattle.plain_eval.specs.Counts.{bound_order, number_order}
+use Rattle.plain_eval.proofs.Stable.{Rises, all_above, rises_tail}
 
 abbrev pub below : Bucket → Bucket → Bool
 below a b = is_lt (bound_order a b)

@@ -1,8 +1,8 @@
 -- The buckets of sorted rest, bound by bound.
-use Rattle.std.proofs.Common.{◌≡◌, ◌∙◌, ℕ, zero, suc, ◌+◌, ◌<◌, ◌≤◌, Bool, true, false, List, [], ◌∷◌, ◌++◌, length, get_or, take, drop, map, refl, sym, ap, subst, Result, Ok, Err, arith, length-drop}
+use Rattle.std.proofs.Common.{◌≡◌, ◌∙◌, ℕ, zero, suc, ◌<◌, Bool, true, false, List, [], ◌∷◌, ◌++◌, length, get_or, take, drop, map, refl, sym, ap, subst, Result, Ok, Err, arith, length-drop}
 use Rattle.std.specs.Prelude.{◌&&◌}
 use Rattle.std.specs.BTreeMap.{is_at}
-use Rattle.std.specs.List.{All, AllByRecursion, list_all, prefix_len}
+use Rattle.std.specs.List.{All, AllByRecursion, prefix_len}
 use Rattle.std.specs.List.Sorted.{IsPermutation, IsSortedBy, IsStableBy}
 use Rattle.std.proofs.lemmas.List.Elements.{All-append, All-cons, All-head, All-nil, All-tail}
 use Rattle.std.proofs.lemmas.List.Sorted.{All-permutation}
@@ -14,7 +14,7 @@ use Rattle.xfrac.specs.declared.value.XFrac.{XFrac}
 use Rattle.promql_meaning.specs.declared.buckets.Bucket.{Bucket}
 use Rattle.promql_meaning.specs.Buckets.{are_finite, is_finite, merged}
 use Rattle.plain_eval.specs.Counts.{AreCounts, IsCount}
-use Rattle.plain_eval.proofs.Merging.{Finite, Numbers, all_joined, below, below_weak, joined_same, merged_is, one_bound, prefix_number, then_all, then_fault, then_more, then_none, total_finite, with_first}
+use Rattle.plain_eval.proofs.Merging.{Finite, Numbers, all_joined, below, joined_same, merged_is, one_bound, prefix_number, then_all, then_fault, then_more, then_none, total_finite, with_first}
 use Rattle.plain_eval.proofs.Stable.{Rises, rises_from}
 
 abbrev pub AreFinite : List Bucket → Type 0

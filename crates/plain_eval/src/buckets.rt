@@ -25,7 +25,9 @@ use std::collections::BTreeMap;
 use step_table::{Note, Outcome, Row, Step, gather, settled, taken, without_name};
 use window_fn::aggregates::total;
 use xfrac::laws::{is_number, order_is_total};
-use xfrac::{ArithOp, CompareOp, NumFault, XFrac, arith, cmp_total, compare, is_nan, neg, parts, whole};
+use xfrac::{
+    ArithOp, CompareOp, NumFault, XFrac, arith, cmp_total, compare, is_nan, neg, parts, whole,
+};
 
 /// The label that has a bucket's upper bound.
 const BUCKET_LABEL: &str = "le";
@@ -440,11 +442,7 @@ fn bound_or_nan(bucket: Option<Bucket>) -> XFrac
 }
 
 /// Within a bucket that a rank falls into, behind an earlier one or as the first.
-fn within_bucket(
-    earlier: Option<Bucket>,
-    bucket: &Bucket,
-    rank: &XFrac,
-) -> Result<XFrac, NumFault>
+fn within_bucket(earlier: Option<Bucket>, bucket: &Bucket, rank: &XFrac) -> Result<XFrac, NumFault>
     ensures { result ≡ within_bucket earlier bucket.now rank.now }
 {
     match earlier {
