@@ -23,12 +23,6 @@ use Rattle.plain_eval.proofs.Rests.{drop_item}
 
 -- ---- texts of bounds
 
-pub negative : (text rest : List ℕ) → text ≡ 45 ∷ rest → signed_number text ≡ turned (literal_answer rest)
-negative text rest e = ap signed_number e
-
-pub positive : (text rest : List ℕ) → text ≡ 43 ∷ rest → signed_number text ≡ literal_answer rest
-positive text rest e = ap signed_number e
-
 pub unsigned : (text : List ℕ) → ((rest : List ℕ) → text ≢ 45 ∷ rest) → ((rest : List ℕ) → text ≢ 43 ∷ rest) → result_ok (literal_answer text) ≡ result_ok (signed_number text)
 unsigned [] m p = refl
 unsigned (b ∷ text) m p =

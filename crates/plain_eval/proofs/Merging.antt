@@ -1,5 +1,5 @@
 -- Buckets in the order of their bounds, and the bucket of each bound.
-use Rattle.std.proofs.Common.{◌≡◌, ◌∙◌, ℕ, zero, suc, ◌+◌, ◌<◌, Bool, true, false, cond, List, [], ◌∷◌, ◌++◌, length, take, drop, map, fold, refl, sym, ap, subst, None, Some, Result, Ok, Err, append-nil, append_assoc, arith}
+use Rattle.std.proofs.Common.{◌≡◌, ◌∙◌, ℕ, zero, suc, ◌+◌, Bool, true, false, cond, List, [], ◌∷◌, ◌++◌, take, drop, map, fold, refl, sym, ap, subst, None, Some, Result, Ok, Err, append-nil, append_assoc, arith}
 use Rattle.std.specs.Prelude.{◌||◌, ◌&&◌, not, filter}
 use Rattle.std.specs.BTreeMap.{is_at}
 use Rattle.std.specs.BTreeSet.{insert_key}
@@ -84,10 +84,6 @@ then_more all new x count first whole rest answer is e made told =
     by : (rest : Result (List Bucket) NumFault) → then_all (all ++ record { bound = x.bound; count = count } ∷ []) rest ≡ then_all all (with_first x (Ok count) rest)
     by (Ok more) = ap Ok (append_assoc all (record { bound = x.bound; count = count } ∷ []) more)
     by (Err fault) = refl
-
-pub then_none : (all : List Bucket) (rest : List Bucket) (answer : Result (List Bucket) NumFault) → length rest ≡ 0 → then_all all (all_joined rest) ≡ answer → Ok all ≡ answer
-then_none all [] answer e told = ap Ok (sym (append-nil all)) ∙ told
-then_none all (b ∷ rest) answer e told = absurd (omega arith)
 
 -- ---- the order of bounds
 
@@ -369,7 +365,7 @@ module _ (equal : EqualIsSame) (reversed : OrderIsReversed) (transitive : LessIs
   rises_drop (suc n) (b ∷ bs) up = rises_drop n bs (rises_tail below below_weak b bs up)
 
   pub one_bound : (x : Bucket) (rest : List Bucket) → Rises below (x ∷ rest) → (n : ℕ) → n ≡ prefix_len (here x.bound) (x ∷ rest)
-      → (all_joined (x ∷ rest) ≡ with_first x (total (map (λ (c : Bucket). c.count) (take n (x ∷ rest)))) (all_joined (drop n (x ∷ rest)))) × (Rises below (drop n (x ∷ rest)) × (0 < n))
+      → (all_joined (x ∷ rest) ≡ with_first x (total (map (λ (c : Bucket). c.count) (take n (x ∷ rest)))) (all_joined (drop n (x ∷ rest)))) × Rises below (drop n (x ∷ rest))
   one_bound x rest up n is =
       let inner = prefix_len (here x.bound) rest in
       let size : n ≡ suc inner = is ∙ ap (λ t. cond t (1 + inner) 0) (at_itself x.bound) ∙ (let e : 1 + inner ≡ suc inner = omega arith in e) in
@@ -377,8 +373,8 @@ module _ (equal : EqualIsSame) (reversed : OrderIsReversed) (transitive : LessIs
       let own : number_order x.bound x.bound ≡ Equal = is_equal x (number_order x.bound x.bound) (at_itself x.bound) in
       let told = joined_parted x (take inner rest) (drop inner rest) (own, parts.0) parts.1 in
       let whole = ap all_joined (ap (λ ys. x ∷ ys) (sym (take_drop inner rest))) ∙ told in
-      let P : ℕ → Type 0 = λ m. (all_joined (x ∷ rest) ≡ with_first x (total (map (λ (c : Bucket). c.count) (take m (x ∷ rest)))) (all_joined (drop m (x ∷ rest)))) × (Rises below (drop m (x ∷ rest)) × (0 < m)) in
-      subst P (sym size) (whole, (rises_drop inner rest (rises_tail below below_weak x rest up), omega arith))
+      let P : ℕ → Type 0 = λ m. (all_joined (x ∷ rest) ≡ with_first x (total (map (λ (c : Bucket). c.count) (take m (x ∷ rest)))) (all_joined (drop m (x ∷ rest)))) × Rises below (drop m (x ∷ rest)) in
+      subst P (sym size) (whole, rises_drop inner rest (rises_tail below below_weak x rest up))
 
   pub prefix_number : (b : XFrac) (bs : List Bucket) → IsNumber b → Numbers bs → prefix_len (λ (c : Bucket). is_at (total_order b) c.bound) bs ≡ prefix_len (here b) bs
   prefix_number b [] nb n = refl
