@@ -1,9 +1,10 @@
 -- Bounds of buckets, and the cases of a histogram's quantile.
-use Rattle.std.proofs.Common.{◌≡◌, ◌∙◌, ℕ, zero, suc, ◌+◌, ◌-◌, ◌<◌, ◌≤◌, Bool, true, false, cond, List, [], ◌∷◌, length, get_or, refl, sym, ap, Option, None, Some, Result, Ok, Err, arith}
+use Rattle.std.proofs.Common.{◌≡◌, ◌∙◌, ℕ, zero, suc, ◌+◌, ◌-◌, ◌<◌, ◌≤◌, Bool, true, false, cond, List, [], ◌∷◌, length, get_or, take, drop, refl, sym, ap, subst, Option, None, Some, Result, Ok, arith}
 use Rattle.std.specs.Prelude.{◌≢◌, ◌==◌, ◌&&◌, ◌||◌, not, nat_lt, slice_get}
-use Rattle.std.specs.List.{last_or}
+use Rattle.std.specs.List.{All, last_or}
 use Rattle.std.specs.Result.{result_ok}
 use Rattle.std.proofs.lemmas.Bool.Decides.{nat_tests}
+use Rattle.std.proofs.lemmas.List.{take_all}
 use Rattle.frac_text.specs.Readings.{literal_answer, turned}
 use Rattle.xfrac.specs.Arithmetic.{whole_number}
 use Rattle.xfrac.specs.Kinds.{is_not_a_number, is_positive_infinity}
@@ -13,20 +14,14 @@ use Rattle.xfrac.specs.declared.value.CompareOp.TheVariants.{Lt, Gt}
 use Rattle.xfrac.specs.declared.value.NumFault.{NumFault}
 use Rattle.xfrac.specs.declared.value.XFrac.{XFrac}
 use Rattle.xfrac.specs.declared.value.XFrac.TheVariants.{Fin, PosInf, NegInf, NaN}
-use Rattle.step_table.specs.declared.marks.Note.{Note}
 use Rattle.step_table.specs.declared.marks.Note.TheVariants.{BadBucket}
 use Rattle.step_table.specs.declared.step.Row.{Row}
 use Rattle.promql_meaning.specs.declared.buckets.Bucket.{Bucket}
-use Rattle.promql_meaning.specs.Buckets.{are_finite, at_rank, bound_note, bound_of, bound_or, bound_text, falls, histogram_quantile, is_fixed, is_fixed_of, is_whole, last_count, merged, quantile_of_merged, signed_number}
+use Rattle.promql_meaning.specs.Buckets.{are_finite, at_rank, bound_note, bound_of, bound_or, bound_text, histogram_quantile, is_finite, is_fixed, is_fixed_of, is_whole, last_count, merged, quantile_of_merged, signed_number}
 use Rattle.promql_meaning.specs.Outcomes.{is_outside}
+use Rattle.plain_eval.proofs.Rests.{drop_item}
 
 -- ---- texts of bounds
-
-pub negative : (text rest : List ℕ) → text ≡ 45 ∷ rest → signed_number text ≡ turned (literal_answer rest)
-negative text rest e = ap signed_number e
-
-pub positive : (text rest : List ℕ) → text ≡ 43 ∷ rest → signed_number text ≡ literal_answer rest
-positive text rest e = ap signed_number e
 
 pub unsigned : (text : List ℕ) → ((rest : List ℕ) → text ≢ 45 ∷ rest) → ((rest : List ℕ) → text ≢ 43 ∷ rest) → result_ok (literal_answer text) ≡ result_ok (signed_number text)
 unsigned [] m p = refl
@@ -150,3 +145,11 @@ not_infinite PosInf differs = absurd (differs refl)
 not_infinite NegInf differs = refl
 not_infinite NaN differs = refl
 not_infinite (Fin f) differs = refl
+
+-- ---- counts that are finite
+
+pub finite_behind : (xs : List Bucket) (i : ℕ) (x : Bucket) → i < length xs → x ≡ get_or xs i x → is_finite x.count ≡ true → are_finite (drop (i + 1) xs) ≡ are_finite (drop i xs)
+finite_behind xs i x w is h = sym (ap are_finite (drop_item xs i x w is) ∙ ap (λ t. t && are_finite (drop (i + 1) xs)) h)
+
+pub all_taken : {X : Type 0} (P : X → Type 0) (xs : List X) (n : ℕ) → length xs ≤ n → All P (take n xs) → All P xs
+all_taken P xs n w a = subst (All P) (take_all n xs w) a

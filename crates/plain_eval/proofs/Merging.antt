@@ -1,25 +1,25 @@
 -- Buckets in the order of their bounds, and the bucket of each bound.
-use Rattle.std.proofs.Common.{◌≡◌, ◌∙◌, ℕ, zero, suc, ◌+◌, ◌<◌, ◌≤◌, Bool, true, false, cond, List, [], ◌∷◌, ◌++◌, length, take, drop, map, fold, refl, sym, ap, subst, Option, None, Some, Result, Ok, Err, append-nil, append_assoc, arith}
-use Rattle.std.specs.Prelude.{◌||◌, ◌&&◌, not, filter, ⊤}
+use Rattle.std.proofs.Common.{◌≡◌, ◌∙◌, ℕ, zero, suc, ◌+◌, Bool, true, false, cond, List, [], ◌∷◌, ◌++◌, take, drop, map, fold, refl, sym, ap, subst, None, Some, Result, Ok, Err, append-nil, append_assoc, arith}
+use Rattle.std.specs.Prelude.{◌||◌, ◌&&◌, not, filter}
 use Rattle.std.specs.BTreeMap.{is_at}
 use Rattle.std.specs.BTreeSet.{insert_key}
 use Rattle.std.specs.Cmp.{IsStrictWeakOrder, IsTotalOrder}
-use Rattle.std.specs.List.{All, AllByRecursion, list_all, list_any, prefix_len}
-use Rattle.std.specs.List.Sorted.{IsPermutation, IsSortedBy, IsStableBy, IsStrictlySortedBy, ties}
+use Rattle.std.specs.List.{AllByRecursion, list_any, prefix_len}
+use Rattle.std.specs.List.Sorted.{IsStableBy, IsStrictlySortedBy, ties}
 use Rattle.std.specs.Option.{ok_or}
 use Rattle.std.specs.Ordering.{is_eq, is_lt, match_ordering, ordering_reverse, ordering_then}
 use Rattle.std.specs.declared.cmp.Ordering.{Ordering}
 use Rattle.std.specs.declared.cmp.Ordering.TheVariants.{Less, Equal, Greater}
 use Rattle.std.proofs.lemmas.Cmp.{on_total, then_total, tied_itself}
-use Rattle.std.proofs.lemmas.List.Elements.{All-head, All-tail, filter-append}
+use Rattle.std.proofs.lemmas.List.Elements.{filter-append}
 use Rattle.std.proofs.lemmas.List.MinMax.{ranks_by}
 use Rattle.label_set.specs.Entries.{recursion_map}
-use Rattle.window_fn.specs.Aggregates.{inserted, total}
+use Rattle.window_fn.specs.Aggregates.{total}
 use Rattle.xfrac.specs.Kinds.{is_not_a_number, is_negative_infinity, is_positive_infinity}
 use Rattle.xfrac.specs.Laws.{EqualIsSame, IsNumber, LessIsTransitive, OrderIsReversed}
 use Rattle.xfrac.specs.Order.{total_order}
 use Rattle.xfrac.specs.Sequencing.{◌>>=◌}
-use Rattle.xfrac.specs.Sums.{Totals, fits, sum_of, totals, value_of}
+use Rattle.xfrac.specs.Sums.{fits, totals, value_of}
 use Rattle.xfrac.specs.declared.value.NumFault.{NumFault}
 use Rattle.xfrac.specs.declared.value.NumFault.TheVariants.{Overflow}
 use Rattle.xfrac.specs.declared.value.XFrac.{XFrac}
@@ -28,13 +28,12 @@ use Rattle.step_table.specs.KeySets.{any_of_set, sorted_set}
 use Rattle.step_table.specs.OrderLaws.{note_cmp_ties, note_cmp_total}
 use Rattle.step_table.specs.Orders.{note_cmp}
 use Rattle.step_table.specs.Unions.{set_of}
-use Rattle.step_table.specs.declared.marks.Note.{Note}
 use Rattle.step_table.specs.declared.marks.Note.TheVariants.{QuantileRange}
 use Rattle.promql_meaning.specs.declared.buckets.Bucket.{Bucket}
-use Rattle.promql_meaning.specs.Buckets.{are_finite, count_at, each_of, is_finite, merged, merged_at}
-use Rattle.promql_meaning.specs.NumberOrder.{tidy, tidy-same, tidy_order, values_total}
-use Rattle.plain_eval.specs.Counts.{IsCount, bound_order, number_order}
-use Rattle.plain_eval.proofs.Stable.{Rises, all_above, rises_from, rises_tail, sorted_is}
+use Rattle.promql_meaning.specs.Buckets.{each_of, is_finite, merged, merged_at}
+use Rattle.promql_meaning.specs.NumberOrder.{tidy, tidy-same, values_total}
+use Rattle.plain_eval.specs.Counts.{bound_order, number_order}
+use Rattle.plain_eval.proofs.Stable.{Rises, all_above, rises_tail}
 
 abbrev pub below : Bucket → Bucket → Bool
 below a b = is_lt (bound_order a b)
@@ -85,10 +84,6 @@ then_more all new x count first whole rest answer is e made told =
     by : (rest : Result (List Bucket) NumFault) → then_all (all ++ record { bound = x.bound; count = count } ∷ []) rest ≡ then_all all (with_first x (Ok count) rest)
     by (Ok more) = ap Ok (append_assoc all (record { bound = x.bound; count = count } ∷ []) more)
     by (Err fault) = refl
-
-pub then_none : (all : List Bucket) (rest : List Bucket) (answer : Result (List Bucket) NumFault) → length rest ≡ 0 → then_all all (all_joined rest) ≡ answer → Ok all ≡ answer
-then_none all [] answer e told = ap Ok (sym (append-nil all)) ∙ told
-then_none all (b ∷ rest) answer e told = absurd (omega arith)
 
 -- ---- the order of bounds
 
@@ -370,7 +365,7 @@ module _ (equal : EqualIsSame) (reversed : OrderIsReversed) (transitive : LessIs
   rises_drop (suc n) (b ∷ bs) up = rises_drop n bs (rises_tail below below_weak b bs up)
 
   pub one_bound : (x : Bucket) (rest : List Bucket) → Rises below (x ∷ rest) → (n : ℕ) → n ≡ prefix_len (here x.bound) (x ∷ rest)
-      → (all_joined (x ∷ rest) ≡ with_first x (total (map (λ (c : Bucket). c.count) (take n (x ∷ rest)))) (all_joined (drop n (x ∷ rest)))) × (Rises below (drop n (x ∷ rest)) × (0 < n))
+      → (all_joined (x ∷ rest) ≡ with_first x (total (map (λ (c : Bucket). c.count) (take n (x ∷ rest)))) (all_joined (drop n (x ∷ rest)))) × Rises below (drop n (x ∷ rest))
   one_bound x rest up n is =
       let inner = prefix_len (here x.bound) rest in
       let size : n ≡ suc inner = is ∙ ap (λ t. cond t (1 + inner) 0) (at_itself x.bound) ∙ (let e : 1 + inner ≡ suc inner = omega arith in e) in
@@ -378,8 +373,8 @@ module _ (equal : EqualIsSame) (reversed : OrderIsReversed) (transitive : LessIs
       let own : number_order x.bound x.bound ≡ Equal = is_equal x (number_order x.bound x.bound) (at_itself x.bound) in
       let told = joined_parted x (take inner rest) (drop inner rest) (own, parts.0) parts.1 in
       let whole = ap all_joined (ap (λ ys. x ∷ ys) (sym (take_drop inner rest))) ∙ told in
-      let P : ℕ → Type 0 = λ m. (all_joined (x ∷ rest) ≡ with_first x (total (map (λ (c : Bucket). c.count) (take m (x ∷ rest)))) (all_joined (drop m (x ∷ rest)))) × (Rises below (drop m (x ∷ rest)) × (0 < m)) in
-      subst P (sym size) (whole, (rises_drop inner rest (rises_tail below below_weak x rest up), omega arith))
+      let P : ℕ → Type 0 = λ m. (all_joined (x ∷ rest) ≡ with_first x (total (map (λ (c : Bucket). c.count) (take m (x ∷ rest)))) (all_joined (drop m (x ∷ rest)))) × Rises below (drop m (x ∷ rest)) in
+      subst P (sym size) (whole, rises_drop inner rest (rises_tail below below_weak x rest up))
 
   pub prefix_number : (b : XFrac) (bs : List Bucket) → IsNumber b → Numbers bs → prefix_len (λ (c : Bucket). is_at (total_order b) c.bound) bs ≡ prefix_len (here b) bs
   prefix_number b [] nb n = refl

@@ -1,18 +1,18 @@
 -- Counts that are raised to the greatest so far.
-use Rattle.std.proofs.Common.{◌≡◌, ◌∙◌, Bool, true, false, cond, List, [], ◌∷◌, ◌++◌, map, refl, sym, ap, subst}
+use Rattle.std.proofs.Common.{◌≡◌, ◌∙◌, Bool, true, false, cond, List, [], ◌∷◌, ◌++◌, map, refl, sym, ap, append-nil}
 use Rattle.std.specs.Prelude.{◌||◌}
-use Rattle.std.specs.Cmp.{IsStrictWeakOrder, IsTotalOrder}
-use Rattle.std.specs.List.{All, AllByRecursion, list_any}
+use Rattle.std.specs.Cmp.{IsStrictWeakOrder}
+use Rattle.std.specs.List.{AllByRecursion, list_any}
 use Rattle.std.specs.Ordering.{is_lt}
 use Rattle.std.proofs.lemmas.List.Elements.{All-head, All-tail}
 use Rattle.std.proofs.lemmas.List.MinMax.{ranks_by}
-use Rattle.xfrac.specs.Laws.{EqualIsSame, IsNumber, LessIsTransitive, OrderIsReversed}
+use Rattle.xfrac.specs.Laws.{EqualIsSame, LessIsTransitive, OrderIsReversed}
 use Rattle.xfrac.specs.Order.{compares, total_order}
 use Rattle.xfrac.specs.declared.value.CompareOp.TheVariants.{Lt}
 use Rattle.xfrac.specs.declared.value.XFrac.{XFrac}
 use Rattle.xfrac.specs.declared.value.XFrac.TheVariants.{Fin, PosInf, NegInf, NaN}
 use Rattle.promql_meaning.specs.declared.buckets.Bucket.{Bucket}
-use Rattle.promql_meaning.specs.Buckets.{at_least, falls, is_finite, raised}
+use Rattle.promql_meaning.specs.Buckets.{at_least, falls, raised}
 use Rattle.promql_meaning.specs.NumberOrder.{tidy, tidy-same, tidy_order, values_total}
 use Rattle.plain_eval.specs.Counts.{AreCounts, IsCount, count_above}
 
@@ -174,3 +174,14 @@ module _ (equal : EqualIsSame) (reversed : OrderIsReversed) (transitive : LessIs
 
   pub sinks_all : (bs : List Bucket) → AreCounts bs → sinks NegInf bs ≡ falls bs
   sinks_all bs a = from_none bs (counts_from bs a)
+
+  -- what was made, and whether one was raised, where no bucket is left
+  pub all_risen : (bs start left made : List Bucket) (most : XFrac) → AreCounts bs → start ≡ bs → left ≡ [] → made ++ rise most left ≡ rise NegInf start → made ≡ raised bs
+  all_risen bs start left made most a is none told = sym (append-nil made) ∙ ap (λ l. made ++ rise most l) (sym none) ∙ told ∙ ap (rise NegInf) is ∙ rise_all bs a
+
+  pub all_sunk : (bs start left : List Bucket) (fixed : Bool) (most : XFrac) → AreCounts bs → start ≡ bs → left ≡ [] → (fixed || sinks most left) ≡ sinks NegInf start → fixed ≡ falls bs
+  all_sunk bs start left fixed most a is none told = sym (by fixed) ∙ ap (λ l. fixed || sinks most l) (sym none) ∙ told ∙ ap (sinks NegInf) is ∙ sinks_all bs a
+    where
+      by : (f : Bool) → (f || false) ≡ f
+      by true = refl
+      by false = refl

@@ -1,8 +1,8 @@
 -- The buckets of sorted rest, bound by bound.
-use Rattle.std.proofs.Common.{◌≡◌, ◌∙◌, ℕ, zero, suc, ◌+◌, ◌<◌, ◌≤◌, Bool, true, false, List, [], ◌∷◌, ◌++◌, length, get_or, take, drop, map, refl, sym, ap, subst, Result, Ok, Err, arith, length-drop}
+use Rattle.std.proofs.Common.{◌≡◌, ◌∙◌, ℕ, zero, suc, ◌<◌, Bool, true, false, List, [], ◌∷◌, ◌++◌, length, get_or, take, drop, map, refl, sym, ap, subst, Result, Ok, Err, arith}
 use Rattle.std.specs.Prelude.{◌&&◌}
 use Rattle.std.specs.BTreeMap.{is_at}
-use Rattle.std.specs.List.{All, AllByRecursion, list_all, prefix_len}
+use Rattle.std.specs.List.{All, AllByRecursion, prefix_len}
 use Rattle.std.specs.List.Sorted.{IsPermutation, IsSortedBy, IsStableBy}
 use Rattle.std.proofs.lemmas.List.Elements.{All-append, All-cons, All-head, All-nil, All-tail}
 use Rattle.std.proofs.lemmas.List.Sorted.{All-permutation}
@@ -14,7 +14,7 @@ use Rattle.xfrac.specs.declared.value.XFrac.{XFrac}
 use Rattle.promql_meaning.specs.declared.buckets.Bucket.{Bucket}
 use Rattle.promql_meaning.specs.Buckets.{are_finite, is_finite, merged}
 use Rattle.plain_eval.specs.Counts.{AreCounts, IsCount}
-use Rattle.plain_eval.proofs.Merging.{Finite, Numbers, all_joined, below, below_weak, joined_same, merged_is, one_bound, prefix_number, then_all, then_fault, then_more, then_none, total_finite, with_first}
+use Rattle.plain_eval.proofs.Merging.{Finite, Numbers, all_joined, below, joined_same, merged_is, one_bound, prefix_number, then_all, then_fault, then_more, total_finite, with_first}
 use Rattle.plain_eval.proofs.Stable.{Rises, rises_from}
 
 abbrev pub AreFinite : List Bucket → Type 0
@@ -86,7 +86,7 @@ module _ (equal : EqualIsSame) (reversed : OrderIsReversed) (transitive : LessIs
     numbers : Numbers (x ∷ rest)
     numbers = by_recursion (λ (b : Bucket). IsNumber b.bound) (x ∷ rest) left.bounds
 
-    parted : (all_joined (x ∷ rest) ≡ with_first x (total (map (λ (c : Bucket). c.count) (take n (x ∷ rest)))) (all_joined (drop n (x ∷ rest)))) × (Rises below (drop n (x ∷ rest)) × (0 < n))
+    parted : (all_joined (x ∷ rest) ≡ with_first x (total (map (λ (c : Bucket). c.count) (take n (x ∷ rest)))) (all_joined (drop n (x ∷ rest)))) × Rises below (drop n (x ∷ rest))
     parted = one_bound equal reversed transitive x rest left.rises n (size ∙ prefix_number equal reversed transitive x.bound (x ∷ rest) numbers.0 numbers)
 
     whole : all_joined (x ∷ rest) ≡ with_first x (total counts) (all_joined behind)
@@ -107,16 +107,13 @@ module _ (equal : EqualIsSame) (reversed : OrderIsReversed) (transitive : LessIs
     pub count_goes_on : (count : XFrac) (new : List Bucket) → total counts ≡ Ok count → IsNumber count → new ≡ all ++ record { bound = x.bound; count = count } ∷ [] → AreLeft answer new behind
     count_goes_on count new e number made = record {
       whole = then_more all new x count (total counts) (all_joined (x ∷ rest)) (all_joined behind) answer whole e made left.whole;
-      rises = subst (Rises below) (sym back) parted.1.0;
+      rises = subst (Rises below) (sym back) parted.1;
       finite = subst AreFinite (sym back) (all_drop (λ (b : Bucket). is_finite b.count ≡ true) n (x ∷ rest) left.finite);
       bounds = subst HaveBounds (sym back) (all_drop (λ (b : Bucket). IsNumber b.bound) n (x ∷ rest) left.bounds);
       counts = subst AreCounts (sym made)
           (All-append (λ (b : Bucket). IsCount b.count) all (record { bound = x.bound; count = count } ∷ []) left.counts
           (All-cons (λ (b : Bucket). IsCount b.count) (record { bound = x.bound; count = count }) [] (record { number = number; finite = finite_sum count e }) (All-nil (λ (b : Bucket). IsCount b.count))));
     }
-
-    pub fewer : length behind < length (x ∷ rest)
-    fewer = let gone : 0 < n = parted.1.1 in omega (arith, ap length back, length-drop n (x ∷ rest), gone)
 
 -- the same of a list that has a first bucket
 front_is : (rest : List Bucket) (x : Bucket) → 0 < length rest → x ≡ get_or rest 0 x → rest ≡ x ∷ drop 1 rest
@@ -147,11 +144,3 @@ module _ (equal : EqualIsSame) (reversed : OrderIsReversed) (transitive : LessIs
 
   pub turn_goes_on : (count : XFrac) (new : List Bucket) → total (map (λ (b : Bucket). b.count) same) ≡ Ok count → IsNumber count → new ≡ all ++ record { bound = x.bound; count = count } ∷ [] → AreLeft answer new behind
   turn_goes_on count new e number made = count_goes_on equal reversed transitive answer all x (drop 1 rest) same behind n left_now size_now front_now back_now count new e number made
-
-  pub turn_takes : length behind < length rest
-  turn_takes =
-      let less : length behind < length (x ∷ drop 1 rest) = fewer equal reversed transitive answer all x (drop 1 rest) same behind n left_now size_now front_now back_now in
-      omega (arith, less, ap length whole_rest)
-
-pub none_left : (answer : Result (List Bucket) NumFault) (all rest : List Bucket) → length rest ≡ 0 → AreLeft answer all rest → Ok all ≡ answer
-none_left answer all rest e left = then_none all rest answer e left.whole

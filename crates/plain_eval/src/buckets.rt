@@ -1,7 +1,7 @@
 //! histogram_quantile.
 ghost use Rattle.frac_text.specs.Readings.{turned};
 ghost use Rattle.plain_eval.specs.Counts.{AreCounts, bound_order, count_above, point_along};
-ghost use Rattle.promql_meaning.specs.Buckets.{are_finite, at_rank, bound_note, bound_or, bucket_of, bucket_quantiles, falls, fixed_note, histogram_outcome, histogram_quantile, histograms, interpolated, is_fixed, is_whole, last_count, merged, quantile_of_merged, quantile_of_rising, raised, signed_number, within_bucket};
+ghost use Rattle.promql_meaning.specs.Buckets.{are_finite, at_rank, bound_note, bound_or, bucket_of, bucket_quantiles, falls, fixed_note, histogram_outcome, histogram_quantile, histograms, interpolated, is_finite, is_fixed, is_whole, last_count, merged, quantile_of_merged, quantile_of_rising, raised, signed_number, within_bucket};
 ghost use Rattle.promql_meaning.specs.Outcomes.{is_outside as is_outside_unit};
 ghost use Rattle.std.specs.List.{All, filter_map, prefix_len};
 ghost use Rattle.std.specs.BTreeMap.{is_at};
@@ -25,7 +25,9 @@ use std::collections::BTreeMap;
 use step_table::{Note, Outcome, Row, Step, gather, settled, taken, without_name};
 use window_fn::aggregates::total;
 use xfrac::laws::{is_number, order_is_total};
-use xfrac::{ArithOp, CompareOp, NumFault, XFrac, arith, cmp_total, compare, is_nan, neg, parts, whole};
+use xfrac::{
+    ArithOp, CompareOp, NumFault, XFrac, arith, cmp_total, compare, is_nan, neg, parts, whole,
+};
 
 /// The label that has a bucket's upper bound.
 const BUCKET_LABEL: &str = "le";
@@ -229,12 +231,17 @@ fn are_finite(buckets: &[Bucket]) -> bool
 {
     for bucket in buckets {
         is_number(&bucket.bound);
-        let finite = matches!(bucket.count, XFrac::Fin(_));
-        if !finite {
+        if !is_finite(&bucket.count) {
             return false;
         }
     }
     true
+}
+
+fn is_finite(v: &XFrac) -> bool
+    ensures { result ≡ is_finite v.now }
+{
+    matches!(v, XFrac::Fin(_))
 }
 
 // ---- the buckets of each bound
@@ -435,11 +442,7 @@ fn bound_or_nan(bucket: Option<Bucket>) -> XFrac
 }
 
 /// Within a bucket that a rank falls into, behind an earlier one or as the first.
-fn within_bucket(
-    earlier: Option<Bucket>,
-    bucket: &Bucket,
-    rank: &XFrac,
-) -> Result<XFrac, NumFault>
+fn within_bucket(earlier: Option<Bucket>, bucket: &Bucket, rank: &XFrac) -> Result<XFrac, NumFault>
     ensures { result ≡ within_bucket earlier bucket.now rank.now }
 {
     match earlier {
