@@ -2,7 +2,7 @@
 use Rattle.std.proofs.Common.{◌≡◌, ◌∙◌, ℕ, ◌+◌, ◌<◌, ◌≤◌, List, [], ◌∷◌, ◌++◌, length, get_or, drop, map, ap, sym, refl, Option, None, Some, append_assoc, append-nil}
 use Rattle.std.specs.List.{cons_option, filter_map}
 use Rattle.std.specs.Option.{option_to_list}
-use Rattle.std.proofs.lemmas.List.{drop_all}
+use Rattle.std.proofs.lemmas.List.{drop_all, map-append}
 use Rattle.plain_eval.proofs.Rests.{drop_item}
 
 put_first : {Y : Type 0} (o : Option Y) (ys : List Y) → option_to_list o ++ ys ≡ cons_option o ys
@@ -28,3 +28,9 @@ module _ {X Y : Type 0} where
 
   pub filtered_all : (f : X → Option Y) (xs : List X) (i : ℕ) (old all : List Y) → length xs ≤ i → old ++ filter_map f (drop i xs) ≡ all → old ≡ all
   filtered_all f xs i old all w told = sym (append-nil old) ∙ ap (λ ys. old ++ filter_map f ys) (sym (drop_all i xs w)) ∙ told
+
+  -- what is held of those that were taken, and those that are to come
+  pub held_more : (f : X → Y) (old new : List X) (x : X) (y : Y) (left rest all : List Y) → left ≡ y ∷ rest → new ≡ old ++ x ∷ [] → f x ≡ y → map f old ++ left ≡ all → map f new ++ rest ≡ all
+  held_more f old new x y left rest all front made value told =
+      ap (λ xs. map f xs ++ rest) made ∙ ap (λ ys. ys ++ rest) (map-append f old (x ∷ [])) ∙ append_assoc (map f old) (f x ∷ []) rest ∙ ap (λ z. map f old ++ (z ∷ rest)) value
+      ∙ sym (ap (λ ys. map f old ++ ys) front) ∙ told
