@@ -11,6 +11,7 @@ pub mod Merging
 pub mod Newest
 pub mod Patterned
 pub mod Raising
+pub mod Replaced
 pub mod Rests
 pub mod Scalars
 pub mod Sorting
