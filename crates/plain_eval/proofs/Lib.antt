@@ -13,6 +13,7 @@ pub mod Newest
 pub mod Noted
 pub mod Patterned
 pub mod Raising
+pub mod Replaced
 pub mod Rests
 pub mod Scalars
 pub mod Sorting
