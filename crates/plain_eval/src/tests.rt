@@ -584,7 +584,15 @@ fn outcome_over<W: Ledger>(
     let mut patterns = Patterns::new(alloc);
     let typed = query(alloc, words.next().ok_or("no query")?, &mut patterns)?;
     let mut work = Work::<W>::new(blank);
-    let found = range(alloc, &typed, &store, &mut patterns, &grid, instant, &mut work)?;
+    let found = range(
+        alloc,
+        &typed,
+        &store,
+        &mut patterns,
+        &grid,
+        instant,
+        &mut work,
+    )?;
     let kind = words.next().ok_or("no kind")?;
     let text = words.next().ok_or("no outcome")?;
     Ok((found, outcome(alloc, kind, text)?))

@@ -24,7 +24,7 @@ pub returns : goal.returns
 returns c =
     let all = c.args.arguments in
     let taken : label_joined c.as_str.result.now c.as_str-2.result.now c.as_slice.result.now c.in_ok-step.step ≡ label_joined (words_at all 1) (words_at all 2) (map words_of (drop 3 all)) (step_at all 0) =
-        of_arguments all _ _ _ c.in_ok-step.step c.as_str.result.now c.as_str-2.result.now c.as_slice.result.now c.in_ok-step.ensures.step
-        c.in_ok-step.ensures.rest (c.as_str.ensures ∙ c.in_ok-target.ensures.text) c.in_ok-target.ensures.rest (c.as_str-2.ensures ∙ c.in_ok-separator.ensures.text) c.in_ok-separator.ensures.rest
-        (c.as_slice.ensures ∙ c.in_ok-sources.ensures) in
+    of_arguments all _ _ _ c.in_ok-step.step c.as_str.result.now c.as_str-2.result.now c.as_slice.result.now c.in_ok-step.ensures.step
+    c.in_ok-step.ensures.rest (c.as_str.ensures ∙ c.in_ok-target.ensures.text) c.in_ok-target.ensures.rest (c.as_str-2.ensures ∙ c.in_ok-separator.ensures.text) c.in_ok-separator.ensures.rest
+    (c.as_slice.ensures ∙ c.in_ok-sources.ensures) in
     subst (λ x. IfOk c.label_joined.result (λ s. s ≡ x)) taken c.label_joined.ensures

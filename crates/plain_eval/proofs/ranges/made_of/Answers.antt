@@ -18,12 +18,12 @@ loop-row-preserved c =
     let i = c.loop-row.row-index in
     let v = c.in_ok-value.value in
     let is : v ≡ window_value f (frame_of c.args.t.0 windows) arg row.samples =
-        c.in_ok-value.ensures ∙ ap (λ s. window_value f (frame_of c.args.t.0 windows) arg s) c.as_slice.ensures in
+    c.in_ok-value.ensures ∙ ap (λ s. window_value f (frame_of c.args.t.0 windows) arg s) c.as_slice.ensures in
     let outcome : Outcome = record { labels = c.in_ok-labels.labels; value = v } in
     let same : outcome ≡ window_outcome f c.args.t.0 arg windows row =
-        ap (λ l. record { labels = l; value = v }) c.in_ok-labels.ensures ∙ ap (λ w. record { labels = window_labels f row.labels; value = w }) is in
+    ap (λ l. record { labels = l; value = v }) c.in_ok-labels.ensures ∙ ap (λ w. record { labels = window_labels f row.labels; value = w }) is in
     let note : c.in_ok-counter_note.field-0 ≡ counter_note f c.args.t.0 arg windows row =
-        c.in_ok-counter_note.ensures ∙ ap (λ (w : Result (Option XFrac) NumFault). if asks_counters f && has_value w then name_note (value_of row.labels metric_name) else None) is in
+    c.in_ok-counter_note.ensures ∙ ap (λ (w : Result (Option XFrac) NumFault). if asks_counters f && has_value w then name_note (value_of row.labels metric_name) else None) is in
     record {
       outcomes = mapped_more (window_outcome f c.args.t.0 arg windows) items i row outcome _ _ _ c.loop-row-test.true c.row-item.is c.in_ok-push.ensures.ok same c.loop-row.invariant.outcomes;
       notes = filtered_more (counter_note f c.args.t.0 arg windows) items i row c.in_ok-counter_note.field-0 _ _ _ c.loop-row-test.true c.row-item.is c.in_ok-add_note.ensures note c.loop-row.invariant.notes;

@@ -16,4 +16,4 @@ returns-clause-labels c =
     let filled : c.as_str-4.result.now ≡ expanded spans value asked.template = search rules in
     let target : c.as_str-3.result.now ≡ asked.target = search rules in
     replaced_when c.labels_with.result c.args.patterns.now asked.pattern.0 c.in_ok-matches.matches spans names value c.as_str-3.result.now c.as_str-4.result.now asked.target asked.template asked.source
-        read matches c.in_ok-matches.ensures.answer filled target c.labels_with.ensures
+    read matches c.in_ok-matches.ensures.answer filled target c.labels_with.ensures
