@@ -1,6 +1,6 @@
 -- A template, one reference further.
-use Rattle.std.proofs.Common.{◌≡◌, ◌∙◌, ℕ, zero, suc, ◌+◌, ◌-◌, ◌*◌, ◌<◌, ◌≤◌, ◌^◌, Bool, true, false, cond, List, [], ◌∷◌, ◌++◌, length, get_or, take, drop, ap, sym, subst, refl, Option, None, Some, Ok, Err, Result, arith, add-one, append_assoc, append-nil, length-append, length-drop}
-use Rattle.std.specs.Prelude.{◌==◌, ◌&&◌, ◌||◌, not, is_some, slice_get}
+use Rattle.std.proofs.Common.{◌≡◌, ◌∙◌, ℕ, zero, suc, ◌+◌, ◌-◌, ◌*◌, ◌<◌, ◌≤◌, ◌^◌, Bool, true, false, cond, List, [], ◌∷◌, ◌++◌, length, get_or, take, drop, ap, sym, subst, refl, Option, None, Some, Ok, Err, Result, arith, add-one, append_assoc, length-append, length-drop}
+use Rattle.std.specs.Prelude.{◌==◌, ◌&&◌, not, is_some, slice_get}
 use Rattle.std.specs.Char.{digit_value, is_ascii_digit}
 use Rattle.std.specs.List.{list_all, prefix_len}
 use Rattle.std.specs.Result.{OkIff}
@@ -138,7 +138,7 @@ up_to spans value [] behind none = ap (λ t. reference_text spans value behind +
 up_to spans value (b ∷ plain) behind none =
     let rest = up_to spans value plain behind (λ i w e. none (suc i) (omega arith) e) in
     elim (b == 36) as (λ t. (b == 36) ≡ t → cond t (reference_text spans value (plain ++ 36 ∷ behind) ++ expanded_from (reference_size (plain ++ 36 ∷ behind)) spans value (plain ++ 36 ∷ behind)) (b ∷ expanded_from 0 spans value (plain ++ 36 ∷ behind))
-        ≡ b ∷ (plain ++ (reference_text spans value behind ++ expanded_from 0 spans value (drop (reference_size behind) behind)))) [
+    ≡ b ∷ (plain ++ (reference_text spans value behind ++ expanded_from 0 spans value (drop (reference_size behind) behind)))) [
       | true ↦ λ h. let is : b ≡ 36 = grind (arith, nat_tests) in absurd (none 0 (omega arith) is)
       | false ↦ λ h. ap (λ t. b ∷ t) rest
     ] refl
@@ -188,7 +188,7 @@ named (d ∷ []) h =
     ] refl h
 named (d ∷ c ∷ ds) h =
     elim (list_all is_ascii_digit (d ∷ c ∷ ds) && not (d == 48)) as (λ t. (list_all is_ascii_digit (d ∷ c ∷ ds) && not (d == 48)) ≡ t → is_some (cond t (Some (digits_value 10 (d ∷ c ∷ ds))) None) ≡ true
-        → AllDigits 10 (d ∷ c ∷ ds) × ((0 < length (d ∷ c ∷ ds)) × (cond t (Some (digits_value 10 (d ∷ c ∷ ds))) None ≡ Some (digits_value 10 (d ∷ c ∷ ds))))) [
+    → AllDigits 10 (d ∷ c ∷ ds) × ((0 < length (d ∷ c ∷ ds)) × (cond t (Some (digits_value 10 (d ∷ c ∷ ds))) None ≡ Some (digits_value 10 (d ∷ c ∷ ds))))) [
       | true ↦ λ e f. (all_digits (d ∷ c ∷ ds) (first_true (list_all is_ascii_digit (d ∷ c ∷ ds)) (not (d == 48)) e), (omega arith, refl))
       | false ↦ λ e f. absurd (cc)
     ] refl h

@@ -52,7 +52,11 @@ fn reference_size(behind: &[u8]) -> usize
 fn braced_size(rest: &[u8]) -> usize
     ensures { result ≡ (if is_braced rest.now then length (name_in rest.now) + 2 else 0) }
 {
-    if is_braced(rest) { name_size(rest) + 2 } else { 0 }
+    if is_braced(rest) {
+        name_size(rest) + 2
+    } else {
+        0
+    }
 }
 
 /// Whether a text is a name and the brace that closes it.

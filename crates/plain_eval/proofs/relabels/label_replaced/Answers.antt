@@ -27,5 +27,5 @@ returns-clause-step c =
     λ (text : List ℕ) (there : slice_get c.args.patterns.now asked.pattern.0 ≡ Some (true, text)).
     let f = replaced_row asked.target asked.template asked.source text in
     let made : c.loop-row.outcomes ≡ map f c.args.step.table.rows =
-        sym (append-nil c.loop-row.outcomes) ∙ ap (λ r. c.loop-row.outcomes ++ map f r) (sym nil) ∙ c.loop-row.invariant.outcomes text there ∙ ap (map f) items in
+    sym (append-nil c.loop-row.outcomes) ∙ ap (λ r. c.loop-row.outcomes ++ map f r) (sym nil) ∙ c.loop-row.invariant.outcomes text there ∙ ap (map f) items in
     ap settled (c.in_ok-taken.ensures ∙ ap (taken c.args.step.marks) made)

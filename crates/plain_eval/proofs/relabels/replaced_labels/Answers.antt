@@ -1,5 +1,4 @@
 use Rattle.std.proofs.Common.{◌≡◌, true, rules}
-use Rattle.std.specs.Prelude.{string_bytes}
 use Rattle.label_set.specs.Labels.{value_of}
 use Rattle.promql_meaning.specs.Templates.{expanded}
 use Rattle.plain_eval.proofs.Replaced.{replaced_when}
@@ -16,4 +15,4 @@ returns-clause-labels c =
     let filled : c.as_str-4.result.now ≡ expanded spans value asked.template = search rules in
     let target : c.as_str-3.result.now ≡ asked.target = search rules in
     replaced_when c.labels_with.result c.args.patterns.now asked.pattern.0 c.in_ok-matches.matches spans names value c.as_str-3.result.now c.as_str-4.result.now asked.target asked.template asked.source
-        read matches c.in_ok-matches.ensures.answer filled target c.labels_with.ensures
+    read matches c.in_ok-matches.ensures.answer filled target c.labels_with.ensures

@@ -1,4 +1,4 @@
-use Rattle.std.proofs.Common.{◌≡◌, ◌++◌, ◌<◌, Some, None, length, arith, rules}
+use Rattle.std.proofs.Common.{◌≡◌, ◌++◌, Some, None, arith, rules}
 use Rattle.std.specs.Prelude.{string_bytes}
 use Rattle.std.proofs.lemmas.Str.Pattern.{split_parts}
 use Rattle.promql_meaning.specs.Templates.{expanded}
@@ -15,9 +15,11 @@ loop-plain-preserved c =
     let new = string_bytes c.push_str-in-Some.new.self in
     let parts = split_parts 36 c.loop-plain.rest.now (Some (c.in-Some.plain, c.in-Some.behind)) c.in-Some.ensures.cases (omega arith) in
     let plain_put : first ≡ old ++ c.in-Some.plain.now = search rules in
-    let text_put : new ≡ first ++ second = search rules in
-    (search rules, expanded_more spans value c.loop-plain.rest.now c.in-Some.plain.now c.in-Some.behind.now old first second new c.after_reference-rest.result.now (expanded spans value c.args.template.now)
-        parts.0 parts.1 plain_put text_put c.reference_text.ensures c.after_reference-rest.ensures c.loop-plain.invariant.1)
+    let text_put : new ≡ first ++ second = search rules in (
+      search rules,
+      expanded_more spans value c.loop-plain.rest.now c.in-Some.plain.now c.in-Some.behind.now old first second new c.after_reference-rest.result.now (expanded spans value c.args.template.now)
+          parts.0 parts.1 plain_put text_put c.reference_text.ensures c.after_reference-rest.ensures c.loop-plain.invariant.1,
+    )
 
 pub returns : goal.returns
 returns c =
