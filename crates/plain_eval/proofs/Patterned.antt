@@ -1,7 +1,6 @@
 -- A ready call of label_replace has its pattern at its place.
-use Rattle.std.proofs.Common.{◌≡◌, ◌∙◌, ℕ, ◌+◌, Bool, true, false, List, [], ◌∷◌, ◌++◌, map, length, ap, sym, subst, refl, Option, None, Some, arith}
+use Rattle.std.proofs.Common.{◌≡◌, ◌∙◌, ℕ, List, [], ◌∷◌, ◌++◌, map, length, ap, sym, refl, Some, arith}
 use Rattle.std.specs.Prelude.{ℤ}
-use Rattle.std.specs.List.{AllByRecursion}
 use Rattle.func_table.specs.declared.table.Func.TheVariants.{LabelReplace}
 use Rattle.promql_ast.specs.declared.tree.Expr.{Expr}
 use Rattle.promql_ast.specs.declared.tree.Node.TheVariants.{Call}
@@ -9,9 +8,8 @@ use Rattle.promql_ast.specs.Folds.{fold-Call}
 use Rattle.promql_type.specs.declared.kind.Kind.{Kind}
 use Rattle.promql_type.specs.declared.kind.Kind.TheVariants.{Scalar, Vector, Windows, Words}
 use Rattle.promql_type.specs.declared.replace.Placed.{Placed}
-use Rattle.promql_type.specs.declared.signature.Callee.{Callee}
 use Rattle.promql_type.specs.declared.signature.Callee.TheVariants.{Function}
-use Rattle.promql_type.specs.Judging.{Judgement, arguments_refusals, call_refusals, expr_step, judged, literal_at, node_step, strings_refusals}
+use Rattle.promql_type.specs.Judging.{Judgement, arguments_refusals, expr_step, judged, literal_at, node_step, strings_refusals}
 use Rattle.promql_type.specs.Rules.{Literal, argument_refusals, count_refusals}
 use Rattle.promql_type.specs.Signatures.{Signature, argument, signature}
 use Rattle.promql_meaning.specs.Meaning.{given_at, meaning, words_at}

@@ -1,5 +1,4 @@
 use Rattle.std.proofs.Common.{◌≡◌, true, rules}
-use Rattle.std.specs.Prelude.{string_bytes}
 use Rattle.label_set.specs.Labels.{value_of}
 use Rattle.promql_meaning.specs.Templates.{expanded}
 use Rattle.plain_eval.proofs.Replaced.{replaced_when}

@@ -1,4 +1,4 @@
-use Rattle.std.proofs.Common.{◌≡◌, ◌++◌, ◌<◌, Some, None, length, arith, rules}
+use Rattle.std.proofs.Common.{◌≡◌, ◌++◌, Some, None, arith, rules}
 use Rattle.std.specs.Prelude.{string_bytes}
 use Rattle.std.proofs.lemmas.Str.Pattern.{split_parts}
 use Rattle.promql_meaning.specs.Templates.{expanded}
