@@ -1,5 +1,5 @@
 -- The note of a name.
-use Rattle.std.proofs.Common.{◌≡◌, ℕ, ◌<◌, Bool, true, false, List, [], ◌∷◌, length, Option, None, Some, ap, refl, arith}
+use Rattle.std.proofs.Common.{◌≡◌, ℕ, ◌<◌, true, false, List, [], ◌∷◌, length, None, Some, ap, refl, arith}
 use Rattle.std.specs.Prelude.{if◌then◌else◌}
 use Rattle.step_table.specs.declared.marks.Note.TheVariants.{NotCounter}
 use Rattle.promql_meaning.specs.Ranges.{is_counter_name, name_note}

@@ -1,5 +1,5 @@
 -- Windows whose samples lie in their ranges, as functions of windows ask for. (Our own.)
-use Rattle.std.specs.Prelude.{ℤ, List, ⊤}
+use Rattle.std.specs.Prelude.{ℤ, ⊤}
 use Rattle.std.specs.List.{All}
 use Rattle.ticks.specs.declared.moment.Ms.{Ms}
 use Rattle.window_fn.specs.Windows.{IsFrame, IsInFrame}
