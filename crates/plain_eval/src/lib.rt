@@ -21,6 +21,3 @@ mod times;
 pub use evaluating::at;
 pub use results::range;
 pub use std::alloc::AllocError as Memory;
-
-#[cfg(test)]
-mod tests;
