@@ -107,6 +107,7 @@ impl Patterns {
         ensures ok { OnOk result (self.new ≡ with_pattern (true, text.now) self.old) }
         ensures err { OnErr result (self.new ≡ self.old) }
         ensures refused { IfErr result (MayRefuse ((is_plain text.now ≡ false) × IsRefused (regex_text true text.now)) ((is_readable true text.now ≡ true) × (is_kept (true, text.now) self.old ≡ false) × (length self.old ≡ 32))) }
+        ensures fresh { IfErr result (λ _. is_kept (true, text.now) self.old ≡ false) }
         ensures readable { OnOk result (is_readable true text.now ≡ true) }
         ensures within { IfOk result (λ id. id.0 < length self.new) }
         ensures earlier { (k : ℕ) → k < length self.old → slice_get self.new k ≡ slice_get self.old k }
@@ -123,6 +124,7 @@ impl Patterns {
         ensures ok { OnOk result (self.new ≡ with_pattern (false, text.now) self.old) }
         ensures err { OnErr result (self.new ≡ self.old) }
         ensures refused { IfErr result (MayRefuse ((is_plain text.now ≡ false) × IsRefused (regex_text false text.now)) ((is_readable false text.now ≡ true) × (is_kept (false, text.now) self.old ≡ false) × (length self.old ≡ 32))) }
+        ensures fresh { IfErr result (λ _. is_kept (false, text.now) self.old ≡ false) }
         ensures readable { OnOk result (is_readable false text.now ≡ true) }
         ensures within { IfOk result (λ id. id.0 < length self.new) }
         ensures earlier { (k : ℕ) → k < length self.old → slice_get self.new k ≡ slice_get self.old k }
@@ -138,6 +140,7 @@ impl Patterns {
         ensures ok { OnOk result (self.new ≡ with_pattern (whole, text.now) self.old) }
         ensures err { OnErr result (self.new ≡ self.old) }
         ensures refused { IfErr result (MayRefuse ((is_plain text.now ≡ false) × IsRefused (regex_text whole text.now)) ((is_readable whole text.now ≡ true) × (is_kept (whole, text.now) self.old ≡ false) × (length self.old ≡ 32))) }
+        ensures fresh { IfErr result (λ _. is_kept (whole, text.now) self.old ≡ false) }
         ensures readable { OnOk result (is_readable whole text.now ≡ true) }
         ensures within { IfOk result (λ id. id.0 < length self.new) }
         ensures earlier { (k : ℕ) → k < length self.old → slice_get self.new k ≡ slice_get self.old k }

@@ -16,7 +16,7 @@ pub struct Grid {
     pub start: Ms,
     pub end: Ms,
     pub step: Ms,
-    ghost in_range: { IsInRange start.0 end.0 step.0 },
+    pub ghost in_range: { IsInRange start.0 end.0 step.0 },
     ghost short: { step_count start.0 end.0 step.0 ≤ 11000 },
 }
 
