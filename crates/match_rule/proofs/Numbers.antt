@@ -61,7 +61,34 @@ number_there q (p ∷ ps) w = go (is_pattern q p) refl (number_there q ps) w
     go true e rest w = ap Some (is_pattern_same q p e)
     go false e rest w = let one : 1 + number_of q ps ≡ suc (number_of q ps) = omega arith in rw one (rest (omega arith))
 
+own_flag : (a : Bool) → cond a a (not a) ≡ true
+own_flag true = refl
+own_flag false = refl
+
+own_pattern : (q : Bool × List ℕ) → is_pattern q q ≡ true
+own_pattern q = rw (own_flag q.0) ((bytes_eq-Decides q.1 q.1).1 refl)
+
+-- where no place is found, no number is the pattern's
+absent : (q : Bool × List ℕ) (ps : List (Bool × List ℕ)) → length ps ≤ number_of q ps → (k : ℕ) → slice_get ps k ≡ Some q → ⊥
+absent q [] w k e = absurd (cc)
+absent q (p ∷ ps) w zero e =
+    let own : is_pattern q p ≡ true = subst (λ (o : Option (Bool × List ℕ)). is_pattern_in o ≡ true) (sym e) (own_pattern q) in
+    let none : suc (length ps) ≤ 0 = subst (λ b. suc (length ps) ≤ cond (not b) (1 + number_of q ps) 0) own w in
+    absurd (omega arith)
+  where
+    is_pattern_in : Option (Bool × List ℕ) → Bool
+    is_pattern_in None = true
+    is_pattern_in (Some p) = is_pattern q p
+absent q (p ∷ ps) w (suc k) e = go (is_pattern q p) w (λ v. absent q ps v k e)
+  where
+    go : (b : Bool) → suc (length ps) ≤ cond (not b) (1 + number_of q ps) 0 → (length ps ≤ number_of q ps → ⊥) → ⊥
+    go true w rest = absurd (omega arith)
+    go false w rest = rest (omega arith)
+
 module _ (q : Bool × List ℕ) (ks : List Kept) where
+  pub absent_among : length ks ≤ number_of q (map pattern_of ks) → (k : ℕ) → slice_get (map pattern_of ks) k ≡ Some q → ⊥
+  absent_among w = absent q (map pattern_of ks) (let e = length-map ks pattern_of in omega arith)
+
   pub there_among : number_of q (map pattern_of ks) < length ks → slice_get (map pattern_of ks) (number_of q (map pattern_of ks)) ≡ Some q
   there_among w = number_there q (map pattern_of ks) (let e = length-map ks pattern_of in omega arith)
 

@@ -1,6 +1,6 @@
 ghost use Rattle.match_rule.specs.Patterns.{AreCutFrom, IsCutFrom, IsFinder, IsRefused, IsWholeId, MayRefuse, first_spans, group_spans, groups_at, pattern_groups, plain_passes, is_kept, is_pattern, is_plain, is_readable, number_of, passes_at, regex_text, with_pattern};
 ghost use Rattle.std.specs.Option.{option_map};
-ghost use Rattle.std.specs.Prelude.{◌≡◌, ◌<◌, ◌≤◌, ℕ, true, false, [], ◌∷◌, None, Some, Err, if◌then◌else◌, MatchOption, length, is_none, map, position, slice_get, string_bytes, IfOk, IfErr, IfSome, OnOk, OnErr, IsOk};
+ghost use Rattle.std.specs.Prelude.{◌≡◌, ◌<◌, ◌≤◌, ℕ, true, false, [], ◌∷◌, None, Some, Err, if◌then◌else◌, MatchOption, length, is_none, map, position, slice_get, string_bytes, IfOk, IfErr, IfNone, IfSome, OnOk, OnErr, IsOk};
 ghost use Rattle.regex.specs.Patterns.{find_str};
 ghost use Rattle.regex.specs.Strings.{captures_haystack, captures_names, captures_span, regex_names, regex_pattern};
 ghost use Rattle.std.specs.Option.{ForSome};
@@ -96,6 +96,18 @@ impl Patterns {
         ensures { option_map (λ p. p.1) (slice_get self.now id.0) ≡ Some result.now }
     {
         self.kept[id.0 as usize].text.as_str()
+    }
+
+    /// The number of a pattern, if it is kept. It takes no memory.
+    pub fn find(&self, whole: bool, text: &str) -> Option<PatternId>
+        ensures there { IfSome result (λ id. slice_get self.now id.0 ≡ Some (whole, text.now)) }
+        ensures none { IfNone result ((k : ℕ) → slice_get self.now k ≡ Some (whole, text.now) → ⊥) }
+    {
+        let place = number_of(self.kept.as_slice(), whole, text);
+        if place < self.kept.len() {
+            return Some(PatternId(place as u32));
+        }
+        None
     }
 
     /// Keeps a pattern that has to match the whole value, and answers its number; an equal one is kept once. It refuses

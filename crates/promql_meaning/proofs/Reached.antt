@@ -18,7 +18,7 @@ use Rattle.ticks.specs.Walks.{IsTime}
 use Rattle.ticks.specs.declared.moment.Ms.{Ms}
 use Rattle.promql_meaning.specs.Conditions.{AreMet, IsMet, Need, needs_at, needs_of, needs_over, node_needs}
 use Rattle.promql_meaning.specs.Laws.{IsMultipleIn}
-use Rattle.promql_meaning.specs.Parts.{AreWithin, IsAtMost, IsFixedWithin, IsWithin, Part, all_of as all_parts, node_parts, parts_of}
+use Rattle.promql_ast.specs.Parts.{AreWithin, IsAtMost, IsFixedWithin, IsWithin, Part, all_of as all_parts, node_parts, parts_of}
 use Rattle.promql_meaning.specs.Reaches.{EndsWithin, NeedsAreMet, reach}
 use Rattle.promql_meaning.specs.Selecting.{Asked, base_of, lookback, moment_of}
 use Rattle.promql_meaning.specs.Subqueries.{as_times, multiple_after, multiples}

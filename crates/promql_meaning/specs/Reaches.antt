@@ -4,7 +4,7 @@ use Rattle.match_rule.specs.Patterns.{HaveTheirPatterns}
 use Rattle.promql_ast.specs.Depth.{depth}
 use Rattle.promql_ast.specs.declared.tree.Expr.{Expr}
 use Rattle.promql_meaning.specs.Conditions.{AreMet, needs_of}
-use Rattle.promql_meaning.specs.Parts.{AreWithin, IsAtMost, parts_of}
+use Rattle.promql_ast.specs.Parts.{AreWithin, IsAtMost, parts_of}
 use Rattle.promql_meaning.specs.Selecting.{Asked}
 
 -- how far beyond its instants a tree of so many levels reaches: an offset, a range and a step a level
