@@ -5,3 +5,6 @@ mod evaluating;
 
 pub use evaluating::evaluate;
 pub use std::alloc::AllocError as Memory;
+
+#[cfg(test)]
+mod tests;
