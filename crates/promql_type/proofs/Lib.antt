@@ -6,3 +6,4 @@ pub mod Judged
 pub mod Leasts
 pub mod Settles
 pub mod Taken
+pub mod Unpaired

@@ -19,7 +19,7 @@ At = ℕ → Judgement
 abbrev node_judged : Node → At
 node_judged = fold-Node At Judgement node_step expr_step
 
-abbrev node_settled : Node → Node
+abbrev pub node_settled : Node → Node
 node_settled = fold-Node Node Expr settled_step settled_expr
 
 abbrev IsKept : Expr → Type 0

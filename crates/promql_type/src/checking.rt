@@ -1,5 +1,7 @@
 //! Checking a tree.
 ghost use Rattle.match_rule.specs.Gains.{Gains};
+ghost use Rattle.promql_ast.specs.Depth.{depth};
+ghost use Rattle.promql_ast.specs.Parts.{parts_of};
 ghost use Rattle.promql_type.specs.Answers.{IsLeastRefusal, MayFault, refusals_of};
 ghost use Rattle.promql_type.specs.Judging.{judged};
 ghost use Rattle.promql_type.specs.Refusals.{least, lesser};
@@ -53,13 +55,16 @@ fn typed(alloc: Global, expr: Expr, placed: Items<Placed>) -> Result<Typed, Allo
 /// The typed tree of a tree: each node is of the kind that is wanted in its place, the pairing of an operator is dropped
 /// beside a number, and the pattern of each `label_replace` call is kept. Else it is refused, by the one of all its refusals
 /// that has the least place and, of those, the least number; the tree is dropped. The patterns that were there keep their
-/// numbers, and after any answer further ones may be there.
+/// numbers, and after any answer further ones may be there. Typing changes no rules, moments or lengths of time of a tree, nor
+/// its depth.
 pub fn check(alloc: Global, expr: Expr, patterns: &mut Patterns) -> Result<Typed, TypeFault>
     // a tree is taken where nothing refuses it
     ensures tree { IfOk result (λ t. tree_of t ≡ settled expr) }
     ensures taken { OnOk result (refusals_of expr ≡ []) }
     ensures kept { OnOk result (patterns.new ≡ kept_with patterns.old (judged expr).replacements) }
     ensures placed { IfOk result (λ t. AreKept patterns.new (judged (tree_of t)).replacements (placed_of t)) }
+    ensures parts { IfOk result (λ t. parts_of (tree_of t) ≡ parts_of expr) }
+    ensures depth { IfOk result (λ t. depth (tree_of t) ≡ depth expr) }
 
     ensures refused { IfErr result (MayFault (IsLeastRefusal expr patterns.old patterns.new)) }
     ensures gains { Gains patterns.old patterns.new }

@@ -1,5 +1,7 @@
 use Rattle.std.proofs.Common.{rules, ◌∙◌, ◌≡◌, List, [], ◌∷◌, ap, sym, subst}
 use Rattle.std.specs.Prelude.{Some}
+use Rattle.promql_ast.specs.Depth.{depth}
+use Rattle.promql_ast.specs.Parts.{parts_of}
 use Rattle.promql_type.specs.declared.replace.Replacement.{Replacement}
 use Rattle.promql_type.specs.Answers.{MayFault, refusals_of}
 use Rattle.promql_type.specs.Judging.{judged}
@@ -9,6 +11,7 @@ use Rattle.promql_type.specs.TypedTrees.{tree_of}
 use Rattle.promql_type.proofs.Leasts.{least_append}
 use Rattle.promql_type.proofs.Settles.{settled_is_judged}
 use Rattle.promql_type.proofs.Taken.{least_none}
+use Rattle.promql_type.proofs.Unpaired.{settled_depth, settled_parts}
 use Rattle.promql_type.proofs.checking.check.Goals as goal
 
 pub typed-requires : goal.typed-requires
@@ -24,6 +27,12 @@ returns-clause-placed c =
     ap (λ j. j.replacements) (ap judged c.in_ok-typed-in-None.ensures.tree ∙ settled_is_judged c.args.expr) in
     subst (λ ps. AreKept c.build.new.kept (judged (tree_of c.in_ok-typed-in-None.field-0)).replacements ps) (sym c.in_ok-typed-in-None.ensures.placed)
     (subst (λ (rs : List Replacement). AreKept c.build.new.kept rs c.in-Ok.placed) (wanted ∙ sym same) c.in-Ok.ensures.placed)
+
+pub returns-clause-parts : goal.returns-clause-parts
+returns-clause-parts c = ap parts_of c.in_ok-typed-in-None.ensures.tree ∙ settled_parts c.args.expr
+
+pub returns-clause-depth : goal.returns-clause-depth
+returns-clause-depth c = ap depth c.in_ok-typed-in-None.ensures.tree ∙ settled_depth c.args.expr
 
 pub returns-in-Err-Refused-clause-refused : goal.returns-in-Err-Refused-clause-refused
 returns-in-Err-Refused-clause-refused c =
