@@ -18,7 +18,6 @@ use Rattle.promql_ast.specs.declared.tree.Node.TheOpen.{Node-F, Expr-F}
 use Rattle.promql_ast.specs.Depth.{depth, greatest, node_depth}
 use Rattle.promql_ast.specs.Folds.{fold-Paren, fold-Negate, fold-Select, fold-Range, fold-Subquery, fold-Call, fold-Aggregate, fold-Pair, fold-Set}
 use Rattle.promql_type.specs.declared.kind.Kind.TheVariants.{Vector}
-use Rattle.promql_type.specs.declared.replace.Placed.{Placed}
 use Rattle.promql_type.specs.declared.signature.Callee.{Callee}
 use Rattle.promql_type.specs.declared.signature.Callee.TheVariants.{Function, Aggregation}
 use Rattle.promql_type.specs.Judging.{Judgement, all_replacements, arguments_refusals, call_refusals, judged, node_step, expr_step, pattern_of, strings_refusals}
@@ -27,7 +26,7 @@ use Rattle.promql_type.specs.Signatures.{Signature, argument, signature}
 use Rattle.promql_meaning.specs.Selecting.{Asked, moment_of}
 use Rattle.promql_meaning.specs.Subqueries.{as_times, multiples}
 use Rattle.promql_meaning.specs.Conditions.{Need, IsMet, AreMet, needs_of, needs_at, needs_over, node_needs}
-use Rattle.plain_eval.specs.Ready.{IsPlaced, IsReady}
+use Rattle.plain_eval.specs.Ready.{IsPatternKept, IsReady}
 
 module _ {X : Type 0} where
   pub front_none : (xs ys : List X) → xs ++ ys ≡ [] → xs ≡ []
@@ -50,14 +49,14 @@ module _ {X : Type 0} (P : X → Type 0) where
 abbrev own : {A : Type 0} → Expr-F A A → A
 own e = e.node
 
-module _ (asked : Asked) (placed : List Placed) where
+module _ (asked : Asked) where
   abbrev Kept : Judgement → Type 0
-  Kept j = AllByRecursion (IsPlaced asked.kept placed) j.replacements
+  Kept j = AllByRecursion (IsPatternKept asked.kept) j.replacements
 
   abbrev refused : Judgement → List QueryRefusal
   refused j = j.refusals
 
-  pub ready_Paren : (e inner : Expr) (t : ℤ) → e.node ≡ Paren inner → IsReady asked placed e t → IsReady asked placed inner t
+  pub ready_Paren : (e inner : Expr) (t : ℤ) → e.node ≡ Paren inner → IsReady asked e t → IsReady asked inner t
   ready_Paren e inner t is r =
       let j = fold-Paren node_step expr_step e inner is in
       record {
@@ -66,7 +65,7 @@ module _ (asked : Asked) (placed : List Placed) where
         patterns = subst Kept j r.patterns;
       }
 
-  pub ready_Negate : (e inner : Expr) (t : ℤ) → e.node ≡ Negate inner → IsReady asked placed e t → IsReady asked placed inner t
+  pub ready_Negate : (e inner : Expr) (t : ℤ) → e.node ≡ Negate inner → IsReady asked e t → IsReady asked inner t
   ready_Negate e inner t is r =
       let j = fold-Negate node_step expr_step e inner is in
       record {
@@ -75,19 +74,19 @@ module _ (asked : Asked) (placed : List Placed) where
         patterns = subst Kept j r.patterns;
       }
 
-  pub met_Select : (e : Expr) (selector : Selector) (t : ℤ) → e.node ≡ Select selector → IsReady asked placed e t → AreMet asked (node_needs asked (Node-F.Select selector) t)
+  pub met_Select : (e : Expr) (selector : Selector) (t : ℤ) → e.node ≡ Select selector → IsReady asked e t → AreMet asked (node_needs asked (Node-F.Select selector) t)
   met_Select e selector t is r = subst (λ f. AreMet asked (f t)) (fold-Select (node_needs asked) (λ e. e.node) e selector is) r.met
 
-  pub met_Range : (e : Expr) (selector : Selector) (range : Ms) (t : ℤ) → e.node ≡ Range selector range → IsReady asked placed e t → AreMet asked (node_needs asked (Node-F.Range selector range) t)
+  pub met_Range : (e : Expr) (selector : Selector) (range : Ms) (t : ℤ) → e.node ≡ Range selector range → IsReady asked e t → AreMet asked (node_needs asked (Node-F.Range selector range) t)
   met_Range e selector range t is r = subst (λ f. AreMet asked (f t)) (fold-Range (node_needs asked) (λ e. e.node) e selector range is) r.met
 
   -- what a subquery asks for at an instant: of its times, and of its inner part at each of its instants
-  pub met_Subquery : (e inner : Expr) (range step : Ms) (moment : Moment) (t : ℤ) → e.node ≡ Subquery inner range step moment → IsReady asked placed e t
+  pub met_Subquery : (e inner : Expr) (range step : Ms) (moment : Moment) (t : ℤ) → e.node ≡ Subquery inner range step moment → IsReady asked e t
       → AreMet asked (node_needs asked (Node-F.Subquery (needs_of asked inner) range step moment) t)
   met_Subquery e inner range step moment t is r = subst (λ f. AreMet asked (f t)) (fold-Subquery (node_needs asked) (λ e. e.node) e inner range step moment is) r.met
 
   ready_over : (inner : Expr) (us : List Ms) → AreMet asked (needs_over (needs_of asked inner) us) → (judged inner).refusals ≡ [] → Kept (judged inner)
-      → AllByRecursion (λ (u : Ms). IsReady asked placed inner u.0) us
+      → AllByRecursion (λ (u : Ms). IsReady asked inner u.0) us
   ready_over inner [] met typed patterns = tt
   ready_over inner (u ∷ us) met typed patterns =
       let first = needs_of asked inner u.0 in
@@ -96,8 +95,8 @@ module _ (asked : Asked) (placed : List Placed) where
         ready_over inner us (all_back (IsMet asked.kept) first rest met) typed patterns,
       )
 
-  pub ready_Subquery : (e inner : Expr) (range step : Ms) (moment : Moment) (t : ℤ) → e.node ≡ Subquery inner range step moment → IsReady asked placed e t
-      → AllByRecursion (λ (u : Ms). IsReady asked placed inner u.0) (as_times (multiples (moment_of asked moment t) range.0 step.0))
+  pub ready_Subquery : (e inner : Expr) (range step : Ms) (moment : Moment) (t : ℤ) → e.node ≡ Subquery inner range step moment → IsReady asked e t
+      → AllByRecursion (λ (u : Ms). IsReady asked inner u.0) (as_times (multiples (moment_of asked moment t) range.0 step.0))
   ready_Subquery e inner range step moment t is r =
       let j = fold-Subquery node_step expr_step e inner range step moment is in
       ready_over inner (as_times (multiples (moment_of asked moment t) range.0 step.0))
@@ -107,8 +106,8 @@ module _ (asked : Asked) (placed : List Placed) where
 
   -- arguments, the first of which has a number in its row
   ready_each : (row : Signature) (n : ℕ) (items : List Expr) (t : ℤ) → AreMet asked (needs_at (map (needs_of asked) items) t)
-      → arguments_refusals row n (map judged items) ≡ [] → AllByRecursion (IsPlaced asked.kept placed) (all_replacements (map judged items))
-      → AllByRecursion (λ e. IsReady asked placed e t) items
+      → arguments_refusals row n (map judged items) ≡ [] → AllByRecursion (IsPatternKept asked.kept) (all_replacements (map judged items))
+      → AllByRecursion (λ e. IsReady asked e t) items
   ready_each row n [] t met typed patterns = tt
   ready_each row n (e ∷ items) t met typed patterns =
       let own_needs = needs_of asked e t in
@@ -120,35 +119,35 @@ module _ (asked : Asked) (placed : List Placed) where
         record {
           met = all_front (IsMet asked.kept) own_needs rest_needs met;
           typed = front_none (judged e).refusals (argument_refusals (argument row n) (judged e).operand) (front_none own_refusals rest_refusals typed);
-          patterns = all_front (IsPlaced asked.kept placed) own_patterns rest_patterns patterns;
+          patterns = all_front (IsPatternKept asked.kept) own_patterns rest_patterns patterns;
         },
-        ready_each row (n + 1) items t (all_back (IsMet asked.kept) own_needs rest_needs met) (back_none own_refusals rest_refusals typed) (all_back (IsPlaced asked.kept placed) own_patterns rest_patterns patterns),
+        ready_each row (n + 1) items t (all_back (IsMet asked.kept) own_needs rest_needs met) (back_none own_refusals rest_refusals typed) (all_back (IsPatternKept asked.kept) own_patterns rest_patterns patterns),
       )
 
   ready_call : (callee : Callee) (items : List Expr) (at : ℕ) (t : ℤ) → AreMet asked (needs_at (map (needs_of asked) items) t)
-      → call_refusals callee (map judged items) at ≡ [] → AllByRecursion (IsPlaced asked.kept placed) (all_replacements (map judged items))
-      → AllByRecursion (λ e. IsReady asked placed e t) items
+      → call_refusals callee (map judged items) at ≡ [] → AllByRecursion (IsPatternKept asked.kept) (all_replacements (map judged items))
+      → AllByRecursion (λ e. IsReady asked e t) items
   ready_call callee items at t met typed patterns =
       let js = map judged items in
       let row = signature callee in
       let inner = back_none (count_refusals row (length js) at) (arguments_refusals row 0 js ++ strings_refusals callee js) typed in
       ready_each row 0 items t met (front_none (arguments_refusals row 0 js) (strings_refusals callee js) inner) patterns
 
-  pub ready_Call : (e : Expr) (f : Func) (items : List Expr) (t : ℤ) → e.node ≡ Call f items → IsReady asked placed e t → AllByRecursion (λ x. IsReady asked placed x t) items
+  pub ready_Call : (e : Expr) (f : Func) (items : List Expr) (t : ℤ) → e.node ≡ Call f items → IsReady asked e t → AllByRecursion (λ x. IsReady asked x t) items
   ready_Call e f items t is r =
       let j = fold-Call node_step expr_step e f items is in
       ready_call (Function f) items e.at t
       (subst (λ g. AreMet asked (g t)) (fold-Call (node_needs asked) (λ e. e.node) e f items is) r.met)
       (sym (ap refused j) ∙ r.typed)
-      (all_front (IsPlaced asked.kept placed) (all_replacements (map judged items)) (pattern_of f (map judged items) e.at) (subst Kept j r.patterns))
+      (all_front (IsPatternKept asked.kept) (all_replacements (map judged items)) (pattern_of f (map judged items) e.at) (subst Kept j r.patterns))
 
-  pub placed_Call : (e : Expr) (f : Func) (items : List Expr) (t : ℤ) → e.node ≡ Call f items → IsReady asked placed e t
-      → AllByRecursion (IsPlaced asked.kept placed) (pattern_of f (map judged items) e.at)
-  placed_Call e f items t is r =
-      all_back (IsPlaced asked.kept placed) (all_replacements (map judged items)) (pattern_of f (map judged items) e.at)
+  pub pattern_Call : (e : Expr) (f : Func) (items : List Expr) (t : ℤ) → e.node ≡ Call f items → IsReady asked e t
+      → AllByRecursion (IsPatternKept asked.kept) (pattern_of f (map judged items) e.at)
+  pattern_Call e f items t is r =
+      all_back (IsPatternKept asked.kept) (all_replacements (map judged items)) (pattern_of f (map judged items) e.at)
       (subst Kept (fold-Call node_step expr_step e f items is) r.patterns)
 
-  pub ready_Aggregate : (e : Expr) (f : Aggregate) (by : Grouping) (items : List Expr) (t : ℤ) → e.node ≡ Aggregated f by items → IsReady asked placed e t → AllByRecursion (λ x. IsReady asked placed x t) items
+  pub ready_Aggregate : (e : Expr) (f : Aggregate) (by : Grouping) (items : List Expr) (t : ℤ) → e.node ≡ Aggregated f by items → IsReady asked e t → AllByRecursion (λ x. IsReady asked x t) items
   ready_Aggregate e f by items t is r =
       let j = fold-Aggregate node_step expr_step e f by items is in
       ready_call (Aggregation f) items e.at t
@@ -157,22 +156,22 @@ module _ (asked : Asked) (placed : List Placed) where
       (subst Kept j r.patterns)
 
   both_ready : (left right : Expr) (t : ℤ) → AreMet asked (needs_of asked left t ++ needs_of asked right t) → (judged left).refusals ++ (judged right).refusals ≡ []
-      → AllByRecursion (IsPlaced asked.kept placed) ((judged left).replacements ++ (judged right).replacements) → IsReady asked placed left t × IsReady asked placed right t
+      → AllByRecursion (IsPatternKept asked.kept) ((judged left).replacements ++ (judged right).replacements) → IsReady asked left t × IsReady asked right t
   both_ready left right t met typed patterns = (
     record {
       met = all_front (IsMet asked.kept) (needs_of asked left t) (needs_of asked right t) met;
       typed = front_none (judged left).refusals (judged right).refusals typed;
-      patterns = all_front (IsPlaced asked.kept placed) (judged left).replacements (judged right).replacements patterns;
+      patterns = all_front (IsPatternKept asked.kept) (judged left).replacements (judged right).replacements patterns;
     },
     record {
       met = all_back (IsMet asked.kept) (needs_of asked left t) (needs_of asked right t) met;
       typed = back_none (judged left).refusals (judged right).refusals typed;
-      patterns = all_back (IsPlaced asked.kept placed) (judged left).replacements (judged right).replacements patterns;
+      patterns = all_back (IsPatternKept asked.kept) (judged left).replacements (judged right).replacements patterns;
     },
   )
 
-  pub ready_Pair : (e : Expr) (op : PairOp) (left right : Expr) (pairing : Pairing) (t : ℤ) → e.node ≡ Pair op left right pairing → IsReady asked placed e t
-      → IsReady asked placed left t × IsReady asked placed right t
+  pub ready_Pair : (e : Expr) (op : PairOp) (left right : Expr) (pairing : Pairing) (t : ℤ) → e.node ≡ Pair op left right pairing → IsReady asked e t
+      → IsReady asked left t × IsReady asked right t
   ready_Pair e op left right pairing t is r =
       let j = fold-Pair node_step expr_step e op left right pairing is in
       both_ready left right t
@@ -180,8 +179,8 @@ module _ (asked : Asked) (placed : List Placed) where
       (front_none ((judged left).refusals ++ (judged right).refusals) (pair_refusals op pairing (judged left).operand (judged right).operand e.at) (sym (ap refused j) ∙ r.typed))
       (subst Kept j r.patterns)
 
-  pub ready_Set : (e : Expr) (op : SetOp) (left right : Expr) (pairing : Pairing) (t : ℤ) → e.node ≡ Set op left right pairing → IsReady asked placed e t
-      → IsReady asked placed left t × IsReady asked placed right t
+  pub ready_Set : (e : Expr) (op : SetOp) (left right : Expr) (pairing : Pairing) (t : ℤ) → e.node ≡ Set op left right pairing → IsReady asked e t
+      → IsReady asked left t × IsReady asked right t
   ready_Set e op left right pairing t is r =
       let j = fold-Set node_step expr_step e op left right pairing is in
       both_ready left right t

@@ -1,8 +1,8 @@
 -- What is made of each of a list, or of some, one further.
-use Rattle.std.proofs.Common.{◌≡◌, ◌∙◌, ℕ, ◌+◌, ◌<◌, ◌≤◌, List, [], ◌∷◌, ◌++◌, length, get_or, drop, map, ap, sym, refl, Option, None, Some, append_assoc, append-nil}
+use Rattle.std.proofs.Common.{◌≡◌, ◌∙◌, ℕ, ◌+◌, ◌<◌, List, [], ◌∷◌, ◌++◌, length, get_or, drop, map, ap, sym, refl, Option, None, Some, append_assoc}
 use Rattle.std.specs.List.{cons_option, filter_map}
 use Rattle.std.specs.Option.{option_to_list}
-use Rattle.std.proofs.lemmas.List.{drop_all, map-append}
+use Rattle.std.proofs.lemmas.List.{map-append}
 use Rattle.plain_eval.proofs.Rests.{drop_item}
 
 put_first : {Y : Type 0} (o : Option Y) (ys : List Y) → option_to_list o ++ ys ≡ cons_option o ys
@@ -16,18 +16,12 @@ module _ {X Y : Type 0} where
       let rest = map f (drop (i + 1) xs) in
       ap (λ ys. ys ++ rest) made ∙ append_assoc old (y ∷ []) rest ∙ ap (λ z. old ++ (z ∷ rest)) value ∙ ap (λ ys. old ++ map f ys) (sym (drop_item xs i x w is)) ∙ told
 
-  pub mapped_all : (f : X → Y) (xs : List X) (i : ℕ) (old all : List Y) → length xs ≤ i → old ++ map f (drop i xs) ≡ all → old ≡ all
-  mapped_all f xs i old all w told = sym (append-nil old) ∙ ap (λ ys. old ++ map f ys) (sym (drop_all i xs w)) ∙ told
-
   pub filtered_more : (f : X → Option Y) (xs : List X) (i : ℕ) (x : X) (o : Option Y) (old new all : List Y) → i < length xs → x ≡ get_or xs i x → new ≡ old ++ option_to_list o → o ≡ f x
       → old ++ filter_map f (drop i xs) ≡ all → new ++ filter_map f (drop (i + 1) xs) ≡ all
   filtered_more f xs i x o old new all w is made value told =
       let rest = filter_map f (drop (i + 1) xs) in
       ap (λ ys. ys ++ rest) made ∙ append_assoc old (option_to_list o) rest ∙ ap (λ ys. old ++ ys) (put_first o rest) ∙ ap (λ p. old ++ cons_option p rest) value
       ∙ ap (λ ys. old ++ filter_map f ys) (sym (drop_item xs i x w is)) ∙ told
-
-  pub filtered_all : (f : X → Option Y) (xs : List X) (i : ℕ) (old all : List Y) → length xs ≤ i → old ++ filter_map f (drop i xs) ≡ all → old ≡ all
-  filtered_all f xs i old all w told = sym (append-nil old) ∙ ap (λ ys. old ++ filter_map f ys) (sym (drop_all i xs w)) ∙ told
 
   -- what is held of those that were taken, and those that are to come
   pub held_more : (f : X → Y) (old new : List X) (x : X) (y : Y) (left rest all : List Y) → left ≡ y ∷ rest → new ≡ old ++ x ∷ [] → f x ≡ y → map f old ++ left ≡ all → map f new ++ rest ≡ all

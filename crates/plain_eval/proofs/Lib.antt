@@ -6,6 +6,7 @@ pub mod Each
 pub mod Framed
 pub mod Instants
 pub mod Joined
+pub mod Keeping
 pub mod Literals
 pub mod Meanings
 pub mod Merging

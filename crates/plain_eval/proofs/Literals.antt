@@ -21,12 +21,11 @@ use Rattle.promql_ast.specs.declared.tree.Node.TheViews.{roll-Node, roll-Expr}
 use Rattle.promql_ast.specs.declared.tree.Node.TheFolds.{map-Node, fold-Node, fold-roll-Node, fold-roll-Expr, ind-Expr}
 use Rattle.promql_type.specs.Judging.{Judgement, expr_step, judged, literal_at, node_step, pattern_of}
 use Rattle.promql_type.specs.Rules.{Literal}
-use Rattle.promql_type.specs.declared.replace.Placed.{Placed}
 use Rattle.promql_meaning.specs.declared.given.Given.{Given}
 use Rattle.promql_meaning.specs.declared.given.Given.TheVariants.{Words}
 use Rattle.promql_meaning.specs.Meaning.{argument, given_at, meaning, node_meaning, words_at}
 use Rattle.promql_meaning.specs.Selecting.{Asked}
-use Rattle.plain_eval.specs.Ready.{IsPatternAt, IsPlaced}
+use Rattle.plain_eval.specs.Ready.{IsKeptWhole, IsPatternKept}
 
 module _ (asked : Asked) where
   abbrev Meant : Type 0
@@ -92,11 +91,11 @@ module _ (asked : Asked) where
   words_are (e ∷ items) (suc n) l t is = words_are items n l t is
 
   -- the pattern of a call whose fifth argument is a string
-  pub pattern_there : (placed : List Placed) (items : List Expr) (at : ℕ) (l : Literal) (t : ℤ) → literal_at (map judged items) 4 ≡ Some l
-      → AllByRecursion (IsPlaced asked.kept placed) (pattern_of LabelReplace (map judged items) at) → IsPatternAt asked.kept placed at (words_at (given_at (map (meaning asked) items) t) 4)
-  pattern_there placed items at l t is all =
+  pub pattern_there : (items : List Expr) (at : ℕ) (l : Literal) (t : ℤ) → literal_at (map judged items) 4 ≡ Some l
+      → AllByRecursion (IsPatternKept asked.kept) (pattern_of LabelReplace (map judged items) at) → IsKeptWhole asked.kept (words_at (given_at (map (meaning asked) items) t) 4)
+  pattern_there items at l t is all =
       let own : pattern_of LabelReplace (map judged items) at ≡ record { at = at; place = l.0; text = l.1 } ∷ [] = rw is refl in
-      subst (IsPatternAt asked.kept placed at) (sym (words_are items 4 l t is)) (subst (AllByRecursion (IsPlaced asked.kept placed)) own all).0
+      subst (IsKeptWhole asked.kept) (sym (words_are items 4 l t is)) (subst (AllByRecursion (IsPatternKept asked.kept)) own all).0
 
 -- ---- what is a string has a text
 

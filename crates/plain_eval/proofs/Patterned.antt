@@ -1,4 +1,4 @@
--- A ready call of label_replace has its pattern at its place.
+-- The pattern of a ready call of label_replace is kept.
 use Rattle.std.proofs.Common.{◌≡◌, ◌∙◌, ℕ, List, [], ◌∷◌, ◌++◌, map, length, ap, sym, refl, Some, arith}
 use Rattle.std.specs.Prelude.{ℤ}
 use Rattle.func_table.specs.declared.table.Func.TheVariants.{LabelReplace}
@@ -7,15 +7,14 @@ use Rattle.promql_ast.specs.declared.tree.Node.TheVariants.{Call}
 use Rattle.promql_ast.specs.Folds.{fold-Call}
 use Rattle.promql_type.specs.declared.kind.Kind.{Kind}
 use Rattle.promql_type.specs.declared.kind.Kind.TheVariants.{Scalar, Vector, Windows, Words}
-use Rattle.promql_type.specs.declared.replace.Placed.{Placed}
 use Rattle.promql_type.specs.declared.signature.Callee.TheVariants.{Function}
 use Rattle.promql_type.specs.Judging.{Judgement, arguments_refusals, expr_step, judged, literal_at, node_step, strings_refusals}
 use Rattle.promql_type.specs.Rules.{Literal, argument_refusals, count_refusals}
 use Rattle.promql_type.specs.Signatures.{Signature, argument, signature}
 use Rattle.promql_meaning.specs.Meaning.{given_at, meaning, words_at}
 use Rattle.promql_meaning.specs.Selecting.{Asked}
-use Rattle.plain_eval.specs.Ready.{IsPatternAt, IsReady}
-use Rattle.plain_eval.proofs.Children.{back_none, front_none, placed_Call}
+use Rattle.plain_eval.specs.Ready.{IsKeptWhole, IsReady}
+use Rattle.plain_eval.proofs.Children.{back_none, front_none, pattern_Call}
 use Rattle.plain_eval.proofs.Literals.{pattern_there, words_have_text}
 
 abbrev row : Signature
@@ -47,12 +46,12 @@ fifth (a ∷ b ∷ c ∷ d ∷ e ∷ items) at count fit =
     let own_e = front_none (own (judged e) 4) (arguments_refusals row 5 (map judged items)) behind_d in
     words_have_text e (takes_words (judged e) (back_none (judged e).refusals (argument_refusals (argument row 4) (judged e).operand) own_e))
 
-pub pattern_at_call : (asked : Asked) (placed : List Placed) (e : Expr) (items : List Expr) (t : ℤ) → e.node ≡ Call LabelReplace items → IsReady asked placed e t
-    → IsPatternAt asked.kept placed e.at (words_at (given_at (map (meaning asked) items) t) 4)
-pattern_at_call asked placed e items t is ready =
+pub pattern_of_call : (asked : Asked) (e : Expr) (items : List Expr) (t : ℤ) → e.node ≡ Call LabelReplace items → IsReady asked e t
+    → IsKeptWhole asked.kept (words_at (given_at (map (meaning asked) items) t) 4)
+pattern_of_call asked e items t is ready =
     let js = map judged items in
     let typed = sym (ap (λ (j : Judgement). j.refusals) (fold-Call node_step expr_step e LabelReplace items is)) ∙ ready.typed in
     let inner = back_none (count_refusals row (length js) e.at) (arguments_refusals row 0 js ++ strings_refusals (Function LabelReplace) js) typed in
     let found = fifth items e.at (front_none (count_refusals row (length js) e.at) (arguments_refusals row 0 js ++ strings_refusals (Function LabelReplace) js) typed)
     (front_none (arguments_refusals row 0 js) (strings_refusals (Function LabelReplace) js) inner) in
-    pattern_there asked placed items e.at found.0 t found.1 (placed_Call asked placed e LabelReplace items t is ready)
+    pattern_there asked items e.at found.0 t found.1 (pattern_Call asked e LabelReplace items t is ready)

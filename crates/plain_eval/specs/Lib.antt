@@ -1,9 +1,9 @@
 pub mod Absent
+pub mod Checked
 pub mod Counts
 pub mod Frames
 pub mod Joined
 pub mod Numbered
-pub mod Placing
 pub mod Queried
 pub mod Ranked
 pub mod Ready

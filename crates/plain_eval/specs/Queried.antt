@@ -1,13 +1,11 @@
 -- A typed query with what it is asked over. (Our own.)
 use Rattle.std.specs.Prelude.{ℕ, ℤ, Bool, List, []}
 use Rattle.promql_ast.specs.declared.tree.Moment.{Moment}
-use Rattle.promql_type.specs.declared.replace.Placed.{Placed}
 use Rattle.ticks.specs.declared.grid.Grid.{Grid}
 use Rattle.promql_meaning.specs.Selecting.{AllSeries, Asked, asked_over, moment_of}
 
--- the numbers of the patterns of its label_replace calls, the samples, and the grid that it is asked over
+-- the samples, and the grid that it is asked over
 pub record Queried : Type 0 where
-  pub placed : List Placed
   pub samples : AllSeries
   pub span : Grid
 

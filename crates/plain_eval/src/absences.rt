@@ -7,7 +7,7 @@ ghost use Rattle.std.specs.Prelude.{◌≡◌, ◌∷◌, [], map, filter, lengt
 ghost use Rattle.step_table.specs.Operators.{all_put};
 ghost use Rattle.step_table.specs.Unions.{set_of};
 
-use crate::givens::{barren, into_step, no_marks};
+use crate::givens::{barren, no_marks};
 use label_set::{Items, Labels, METRIC_NAME, Rule, RuleKind, Text};
 use promql_meaning::{Given, Selection, Windows, labelled, put_one};
 use std::alloc::{AllocError, Global};
@@ -34,7 +34,7 @@ pub fn absent(alloc: Global, given: Given) -> Result<Step, AllocError>
             absence(alloc, rules.as_slice(), rows.as_slice(), marks)
         }
         other => {
-            let Step { table, marks } = into_step(alloc, other)?;
+            let Step { table, marks } = other.into_step(alloc)?;
             absence(alloc, &[], table.rows.as_slice(), marks)
         }
     }

@@ -1,21 +1,21 @@
 //! The recursion over the tree.
 ghost use Rattle.plain_eval.specs.Frames.{IsFramed};
 ghost use Rattle.plain_eval.specs.Queried.{asked_of, moment_in};
-ghost use Rattle.plain_eval.specs.Ready.{ArePlaced, IsPatternAt, IsReady};
+ghost use Rattle.plain_eval.specs.Ready.{ArePatternsKept, IsKeptWhole, IsReady};
 ghost use Rattle.promql_ast.specs.declared.tree.Node.TheOpen.{Node-F};
 ghost use Rattle.promql_meaning.specs.Conditions.{AreMet, needs_of, node_needs};
 ghost use Rattle.promql_meaning.specs.Givens.{no_marks as no_marks_at_all};
 ghost use Rattle.promql_meaning.specs.Meaning.{called as called_of, given_at, meaning, meaning_step, node_meaning, words_at};
 ghost use Rattle.promql_meaning.specs.Selecting.{asked_over};
 ghost use Rattle.promql_meaning.specs.Subqueries.{marks_over, rows_over};
-ghost use Rattle.promql_type.specs.TypedTrees.{placed_of, tree_of};
+ghost use Rattle.promql_type.specs.TypedTrees.{tree_of};
 ghost use Rattle.std.specs.List.{AllByRecursion};
 ghost use Rattle.std.specs.Prelude.{◌≡◌, map, IfOk};
 ghost use Rattle.ticks.specs.Walks.{IsTime};
 
 use crate::aggregates::aggregation;
 use crate::calls::{called, replaced};
-use crate::givens::{into_step, no_marks, scalar_step};
+use crate::givens::{no_marks, scalar_step, words_at};
 use crate::operators::{negation, operation, set_operation};
 use crate::points::{Points, add_step, multiples, windows_over};
 use crate::selecting::{moment_at, newest_rows, window_rows};
@@ -32,21 +32,19 @@ use std::sync::ledger::Ledger;
 use step_table::Step;
 use ticks::{Grid, Ms, Work};
 
-/// A typed query with the samples and the grid that it is asked over.
+/// The samples and the grid that a query is asked over.
 #[derive(Drop)]
 struct Query<'a> {
-    typed: &'a Typed,
     store: &'a Store,
     span: &'a Grid,
 }
 
 impl<'a> Model for Query<'a> {
     ghost use Rattle.plain_eval.specs.Queried.{Queried};
-    ghost use Rattle.promql_type.specs.TypedTrees.{placed_of};
 
     ghost Value = { Queried };
 
-    ghost view = { λ q. record { placed = placed_of q.typed.now; samples = q.store.now; span = q.span.now } };
+    ghost view = { λ q. record { samples = q.store.now; span = q.span.now } };
 }
 
 /// What a typed query means at an instant, in milliseconds, over the samples of a store. `span` has the start and the end
@@ -61,19 +59,16 @@ pub fn at<W: Ledger>(
     span: &Grid,
     work: &mut Work<W>,
 ) -> Result<Step, AllocError>
-    // each time that the tree leads to is at most 2^60 in magnitude, its steps are positive, and its patterns are kept
+    // each time that the tree leads to is at most 2^60 in magnitude, its steps are positive, and its rules' patterns are kept
     requires met { AreMet (asked_over s.now p.old span.now) (needs_of (asked_over s.now p.old span.now) (tree_of e.now) t.0) }
-    requires placed { ArePlaced p.old (placed_of e.now) (tree_of e.now) }
+    // the pattern of each label_replace call is kept as one that has to match the whole value, as `check` keeps it
+    requires kept { ArePatternsKept p.old (tree_of e.now) }
     ensures meaning { IfOk result (λ step. step ≡ meaning_step (asked_over s.now p.old span.now) (tree_of e.now) t.0) }
     ensures same { p.new ≡ p.old }
 {
-    let query = Query {
-        typed: e,
-        store: s,
-        span,
-    };
+    let query = Query { store: s, span };
     let given = value_at(alloc, &query, e.expr(), p, t, work)?;
-    into_step(alloc, given)
+    given.into_step(alloc)
 }
 
 /// What a part of a typed tree gives at an instant.
@@ -86,7 +81,7 @@ fn value_at<W: Ledger>(
     t: Ms,
     work: &mut Work<W>,
 ) -> Result<Given, AllocError>
-    requires { IsReady (asked_of query.now patterns.old) query.now.placed e.now t.0 }
+    requires { IsReady (asked_of query.now patterns.old) e.now t.0 }
     ensures meaning { IfOk result (λ given. given ≡ meaning (asked_of query.now patterns.old) e.now t.0) }
     ensures same { patterns.new ≡ patterns.old }
 {
@@ -113,7 +108,7 @@ fn value_at<W: Ledger>(
         }
         Node::Call(f, arguments) => {
             let givens = values_at(alloc, query, arguments.as_slice(), patterns, t, work)?;
-            call(alloc, query, *f, givens, e.at, patterns, t)
+            call(alloc, *f, givens, patterns, t)
         }
         Node::Aggregate(f, by, arguments) => {
             let givens = values_at(alloc, query, arguments.as_slice(), patterns, t, work)?;
@@ -142,7 +137,7 @@ fn values_at<W: Ledger>(
     t: Ms,
     work: &mut Work<W>,
 ) -> Result<Items<Given>, AllocError>
-    requires { AllByRecursion (λ e. IsReady (asked_of query.now patterns.old) query.now.placed e t.0) arguments.now }
+    requires { AllByRecursion (λ e. IsReady (asked_of query.now patterns.old) e t.0) arguments.now }
     ensures meaning { IfOk result (λ givens. givens ≡ given_at (map (meaning (asked_of query.now patterns.old)) arguments.now) t.0) }
     ensures same { patterns.new ≡ patterns.old }
 {
@@ -163,7 +158,7 @@ fn points_at<W: Ledger>(
     patterns: &mut Patterns,
     work: &mut Work<W>,
 ) -> Result<Points, AllocError>
-    requires { AllByRecursion (λ u. IsReady (asked_of query.now patterns.old) query.now.placed inner.now u.0) us.now }
+    requires { AllByRecursion (λ u. IsReady (asked_of query.now patterns.old) inner.now u.0) us.now }
     ensures rows { IfOk result (λ points. points.rows ≡ rows_over (meaning_step (asked_of query.now patterns.old) inner.now) us.now) }
     ensures marks { IfOk result (λ points. points.marks ≡ marks_over (meaning_step (asked_of query.now patterns.old) inner.now) no_marks_at_all us.now) }
     ensures same { patterns.new ≡ patterns.old }
@@ -174,7 +169,7 @@ fn points_at<W: Ledger>(
     };
     for u in us {
         let given = value_at(alloc, query, inner, patterns, *u, work)?;
-        add_step(&mut points, *u, into_step(alloc, given)?)?;
+        add_step(&mut points, *u, given.into_step(alloc)?)?;
     }
     Ok(points)
 }
@@ -241,24 +236,23 @@ fn windows<W: Ledger>(
     }))
 }
 
-/// What the call at a place gives; the pattern of label_replace is the one that the typed tree tells.
+/// What a call gives; the pattern of label_replace is the one that is kept with the text of its fifth argument.
 fn call(
     alloc: Global,
-    query: &Query<'_>,
     f: Func,
     givens: Items<Given>,
-    at: u32,
     patterns: &mut Patterns,
     t: Ms,
 ) -> Result<Given, AllocError>
     requires framed { AllByRecursion (IsFramed t.0) givens }
-    requires placed { f ≡ Func.LabelReplace → IsPatternAt patterns.old query.now.placed at (words_at givens 4) }
+    requires kept { f ≡ Func.LabelReplace → IsKeptWhole patterns.old (words_at givens 4) }
     ensures given { IfOk result (λ given. given ≡ called_of f givens t.0) }
     ensures same { patterns.new ≡ patterns.old }
 {
     match f {
         Func::LabelReplace => {
-            let pattern = query.typed.pattern(at).unwrap();
+            let text = words_at(givens.as_slice(), 4);
+            let pattern = patterns.find(true, text).unwrap();
             replaced(alloc, givens, pattern, patterns, t)
         }
         _ => called(alloc, f, givens, t),

@@ -1,6 +1,6 @@
 //! What expressions give, taken apart and put together.
 ghost use Rattle.promql_meaning.specs.Givens.{marked, scalar_step, step_of, value_in, words_of};
-ghost use Rattle.promql_meaning.specs.Meaning.{argument};
+ghost use Rattle.promql_meaning.specs.Meaning.{argument, words_at};
 ghost use Rattle.std.specs.Prelude.{◌≡◌, drop, IfOk};
 
 use label_set::{Items, Labels, Text};
@@ -22,13 +22,6 @@ pub fn scalar_step(alloc: Global, value: &XFrac) -> Result<Step, AllocError>
     Ok(step_of_rows(rows, no_marks(alloc)))
 }
 
-/// The step of a scalar or a vector. The only error is want of memory.
-pub fn into_step(alloc: Global, given: Given) -> Result<Step, AllocError>
-    ensures { IfOk result (λ step. step ≡ step_of given) }
-{
-    given.into_step(alloc)
-}
-
 /// The text of words. The only error is want of memory.
 pub fn into_words(alloc: Global, given: Given) -> Result<Text, AllocError>
     ensures { IfOk result (λ text. text ≡ words_of given) }
@@ -39,6 +32,16 @@ pub fn into_words(alloc: Global, given: Given) -> Result<Text, AllocError>
         Given::Vector(_) => Text::of(alloc, ""),
         Given::Selected(_) => Text::of(alloc, ""),
         Given::Windows(_) => Text::of(alloc, ""),
+    }
+}
+
+/// The text of the argument of a number; a missing one has none.
+pub fn words_at(arguments: &[Given], n: usize) -> &str
+    ensures { result.now ≡ words_at arguments.now n }
+{
+    match arguments.get(n) {
+        Some(Given::Words(text)) => text.as_str(),
+        _ => "",
     }
 }
 
@@ -79,7 +82,7 @@ pub fn take_step(alloc: Global, arguments: &mut Items<Given>) -> Result<Step, Al
     ensures rest { arguments.new ≡ drop 1 arguments.old }
 {
     let given = take_first(alloc, arguments);
-    into_step(alloc, given)
+    given.into_step(alloc)
 }
 
 /// Takes the text of the first argument. The only error is want of memory.

@@ -8,6 +8,7 @@ mod calls;
 mod elements;
 mod evaluating;
 mod givens;
+mod laws;
 mod operators;
 mod orders;
 mod points;
@@ -19,5 +20,6 @@ mod templates;
 mod times;
 
 pub use evaluating::at;
+pub use laws::{checked_patterns_are_kept, kept_patterns_stay};
 pub use results::range;
 pub use std::alloc::AllocError as Memory;

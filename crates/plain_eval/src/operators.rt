@@ -6,7 +6,6 @@ ghost use Rattle.std.specs.Prelude.{◌≡◌, IfOk};
 ghost use Rattle.step_table.specs.Sets.{combined};
 
 use crate::elements::with_operand;
-use crate::givens::into_step;
 use func_table::{Element, SetOp};
 use label_set::Pairing;
 use promql_meaning::{Given, map_rows};
@@ -20,7 +19,7 @@ pub fn negation(alloc: Global, given: Given) -> Result<Given, AllocError>
 {
     match given {
         Given::Scalar(step) => Ok(Given::Scalar(negated(alloc, &step)?)),
-        other => Ok(Given::Vector(negated(alloc, &into_step(alloc, other)?)?)),
+        other => Ok(Given::Vector(negated(alloc, &other.into_step(alloc)?)?)),
     }
 }
 
@@ -44,11 +43,11 @@ pub fn operation(
         Given::Scalar(l) => match right {
             Given::Scalar(r) => Ok(Given::Scalar(with_operand(alloc, op, false, &r, l)?)),
             other => {
-                let r = into_step(alloc, other)?;
+                let r = other.into_step(alloc)?;
                 Ok(Given::Vector(with_operand(alloc, op, true, &l, r)?))
             }
         },
-        left => beside_vector(alloc, op, pairing, into_step(alloc, left)?, right),
+        left => beside_vector(alloc, op, pairing, left.into_step(alloc)?, right),
     }
 }
 
@@ -65,7 +64,7 @@ fn beside_vector(
     match right {
         Given::Scalar(r) => Ok(Given::Vector(with_operand(alloc, op, false, &r, left)?)),
         other => {
-            let right = into_step(alloc, other)?;
+            let right = other.into_step(alloc)?;
             Ok(Given::Vector(pair(alloc, &left, &right, op, pairing)?))
         }
     }
@@ -81,7 +80,7 @@ pub fn set_operation(
 ) -> Result<Step, AllocError>
     ensures { IfOk result (λ s. s ≡ combined (step_of left) (step_of right) op pairing.now) }
 {
-    let left = into_step(alloc, left)?;
-    let right = into_step(alloc, right)?;
+    let left = left.into_step(alloc)?;
+    let right = right.into_step(alloc)?;
     combine(alloc, &left, &right, op, pairing)
 }

@@ -1,13 +1,13 @@
 //! The result of a query over a grid.
 ghost use Rattle.plain_eval.specs.Ranked.{order_of};
-ghost use Rattle.plain_eval.specs.Ready.{ArePlaced};
+ghost use Rattle.plain_eval.specs.Ready.{ArePatternsKept};
 ghost use Rattle.plain_eval.specs.Walks.{IsWalked};
 ghost use Rattle.promql_meaning.specs.Conditions.{AreMet, needs_of, needs_over};
 ghost use Rattle.promql_meaning.specs.Meaning.{meaning_step};
 ghost use Rattle.promql_meaning.specs.Orders.{in_order as series_in_order};
 ghost use Rattle.promql_meaning.specs.Results.{gives_scalar, grid_times, order_asked, points_at, result_of, series_of_group, steps_over, stop_at as stop_of};
 ghost use Rattle.promql_meaning.specs.Selecting.{asked_over};
-ghost use Rattle.promql_type.specs.TypedTrees.{placed_of, tree_of};
+ghost use Rattle.promql_type.specs.TypedTrees.{tree_of};
 ghost use Rattle.std.specs.Option.{option_map};
 ghost use Rattle.std.specs.Prelude.{◌≡◌, ◌≤◌, ◌++◌, map, IfOk, OnOk};
 ghost use Rattle.step_table.specs.Groups.{gathered};
@@ -60,10 +60,11 @@ pub fn range<W: Ledger>(
     instant: bool,
     work: &mut Work<W>,
 ) -> Result<Outcome, AllocError>
-    // at each instant each time that the tree leads to is at most 2^60 in magnitude, its steps are positive, and its patterns
-    // are kept
+    // at each instant each time that the tree leads to is at most 2^60 in magnitude, its steps are positive, and its rules'
+    // patterns are kept
     requires met { AreMet (asked_over s.now p.old grid.now) (needs_over (needs_of (asked_over s.now p.old grid.now) (tree_of e.now)) (grid_times grid.now)) }
-    requires placed { ArePlaced p.old (placed_of e.now) (tree_of e.now) }
+    // the pattern of each label_replace call is kept as one that has to match the whole value, as `check` keeps it
+    requires kept { ArePatternsKept p.old (tree_of e.now) }
     ensures result { IfOk result (λ outcome. outcome ≡ result_of (asked_over s.now p.old grid.now) (tree_of e.now) grid.now instant) }
     ensures same { p.new ≡ p.old }
 {
@@ -83,7 +84,7 @@ fn walk<W: Ledger>(
     work: &mut Work<W>,
 ) -> Result<Walked, AllocError>
     requires met { AreMet (asked_over s.now p.old grid.now) (needs_over (needs_of (asked_over s.now p.old grid.now) (tree_of e.now)) (grid_times grid.now)) }
-    requires placed { ArePlaced p.old (placed_of e.now) (tree_of e.now) }
+    requires kept { ArePatternsKept p.old (tree_of e.now) }
     ensures walked { IfOk result (IsWalked (steps_over (meaning_step (asked_over s.now p.old grid.now) (tree_of e.now)) (grid_times grid.now))) }
     ensures same { p.new ≡ p.old }
 {

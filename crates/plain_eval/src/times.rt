@@ -4,7 +4,7 @@ ghost use Rattle.promql_meaning.specs.Givens.{no_marks as no_marks_at_all};
 ghost use Rattle.std.specs.Prelude.{◌≡◌, map, IfOk};
 ghost use Rattle.step_table.specs.Outcomes.{settled as settled_step, taken as taken_step};
 
-use crate::givens::{into_step, no_marks};
+use crate::givens::no_marks;
 use label_set::{Items, Labels};
 use promql_meaning::{Given, Stamped};
 use std::alloc::{AllocError, Global};
@@ -40,7 +40,7 @@ pub fn timestamps(alloc: Global, given: Given, t: Ms) -> Result<Step, AllocError
 {
     match given {
         Given::Selected(selection) => stamps(alloc, selection.rows),
-        other => instant_of_each(alloc, into_step(alloc, other)?, t),
+        other => instant_of_each(alloc, other.into_step(alloc)?, t),
     }
 }
 

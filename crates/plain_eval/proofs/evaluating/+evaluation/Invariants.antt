@@ -18,7 +18,7 @@ invariant-points_at-loop-u g l =
     record {
       rows : l.points.rows ++ rows_over inner (drop l.u-index l.us) ≡ rows_over inner l.us;
       marks : marks_over inner l.points.marks (drop l.u-index l.us) ≡ marks_over inner no_marks l.us;
-      ready : AllByRecursion (λ (u : Ms). IsReady asked l.query.placed l.inner u.0) (drop l.u-index l.us);
+      ready : AllByRecursion (λ (u : Ms). IsReady asked l.inner u.0) (drop l.u-index l.us);
       same : l.patterns ≡ l.fn.patterns;
     }
 
@@ -27,7 +27,7 @@ invariant-values_at-loop-e g l =
     let asked = asked_of l.query l.fn.patterns in
     record {
       given : l.givens ++ given_at (map (meaning asked) (drop l.e-index l.arguments)) l.t.0 ≡ given_at (map (meaning asked) l.arguments) l.t.0;
-      ready : AllByRecursion (λ (e : Expr). IsReady asked l.query.placed e l.t.0) (drop l.e-index l.arguments);
+      ready : AllByRecursion (λ (e : Expr). IsReady asked e l.t.0) (drop l.e-index l.arguments);
       same : l.patterns ≡ l.fn.patterns;
     }
 
