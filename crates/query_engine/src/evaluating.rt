@@ -6,7 +6,7 @@ ghost use Rattle.query_engine.specs.Readiness.{IsReadyTree};
 ghost use Rattle.std.specs.Prelude.{◌≡◌, [], IfErr, IfOk};
 
 use match_rule::Patterns;
-use plain_eval::range;
+use plain_eval::{checked_patterns_are_kept, range};
 use promql_lex::LexFault;
 use promql_meaning::Outcome;
 use promql_meaning::laws::needs_are_met;
@@ -45,6 +45,7 @@ pub fn evaluate<W: Ledger>(
     ensures idle { IfOk result (λ outcome. IsRefused outcome → work.new ≡ work.old) }
 {
     needs_are_met();
+    checked_patterns_are_kept();
     let mut patterns = Patterns::new(alloc);
     match typed_tree(alloc, text, &mut patterns) {
         Ok(typed) => range(alloc, &typed, store, &mut patterns, grid, instant, work),

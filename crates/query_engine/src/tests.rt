@@ -116,7 +116,7 @@ fn add_note(note: &Note, into: &mut Vec<u8>) -> Result<(), AllocError> {
             into.extend_from_slice(b"counter ")?;
             into.extend_from_slice(name.as_str().as_bytes())
         }
-        Note::FixedBuckets => into.extend_from_slice(b"fixed "),
+        Note::FixedBuckets => into.extend_from_slice(b"fixed"),
     }
 }
 
@@ -206,7 +206,7 @@ fn texts_come_to(rt: HostRuntime) -> Result<(), Fail> {
     for table in [rows::WORKED, rows::RANGES] {
         for line in table.lines() {
             let (got, wanted) = row_of::<Brand>(rt.alloc(), line, Blank::new(3))?;
-            if got.as_slice() != wanted.as_bytes() { let g = std::str::from_utf8(&got).unwrap_or("?"); println!(rt; "DIFF {line} GOT {g}")?; }
+            assert_eq!(rt; got.as_slice(), wanted.as_bytes(), "{line}");
         }
     }
     Ok(())
@@ -227,7 +227,7 @@ fn vectors_stand_in_each_place(rt: HostRuntime) -> Result<(), Fail> {
                 Blank::new(3),
             )?;
             let wanted = outcomes.next().ok_or("no outcome")?;
-            if got.as_slice() != wanted.as_bytes() { let g = std::str::from_utf8(&got).unwrap_or("?"); println!(rt; "DIFF {query} WANT {wanted} GOT {g}")?; }
+            assert_eq!(rt; got.as_slice(), wanted.as_bytes(), "{query}");
         }
     }
     Ok(())
