@@ -5,6 +5,7 @@ pub mod Found
 pub mod Levels
 pub mod Operands
 pub mod PhrasesRead
+pub mod QueriesWithin
 pub mod Quiet
 pub mod Stand
 pub mod Whole

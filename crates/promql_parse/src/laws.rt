@@ -1,7 +1,9 @@
 //! Laws of the reader and the grammar.
-ghost use Rattle.promql_parse.specs.Laws.{DeepIsRefused, InGrammarIsRead, NoQueryBeginsSo, OneTree, ReadIsInGrammar, RefusalStands};
+ghost use Rattle.promql_parse.specs.Laws.{DeepIsRefused, DepthsAreTold, InGrammarIsRead, NoQueryBeginsSo, OneTree, QueriesAreWithin, ReadIsInGrammar, RefusalStands};
 
-use promql_parts::{each_part_is_read, refusals_of_parts_stand, what_is_read_is_a_part};
+use promql_parts::{
+    each_part_is_read, parts_lie_within_limits, refusals_of_parts_stand, what_is_read_is_a_part,
+};
 
 /// A tree that is read is a query's by the grammar, with at most 128 nodes on its longest path.
 pub fn what_is_read_is_a_query()
@@ -29,4 +31,13 @@ pub fn refusals_stand()
     what_is_read_is_a_part();
     each_part_is_read();
     refusals_of_parts_stand();
+}
+
+/// The parts of each query of the grammar lie within the limits, and the nodes on its longest path are as many as the grammar
+/// tells.
+pub fn queries_lie_within_limits()
+    ensures within { QueriesAreWithin }
+    ensures depths { DepthsAreTold }
+{
+    parts_lie_within_limits();
 }

@@ -7,7 +7,9 @@ mod number;
 mod query;
 mod reader;
 
-pub use laws::{each_query_is_read, refusals_stand, what_is_read_is_a_query};
+pub use laws::{
+    each_query_is_read, queries_lie_within_limits, refusals_stand, what_is_read_is_a_query,
+};
 pub use query::parse;
 
 #[cfg(test)]

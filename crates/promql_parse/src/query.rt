@@ -1,11 +1,17 @@
 //! The tree of a query's text.
+ghost use Rattle.frac_text.specs.Times.{time_limit};
 ghost use Rattle.match_rule.specs.Gains.{Gains};
+ghost use Rattle.match_rule.specs.Patterns.{HaveTheirPatterns};
+ghost use Rattle.promql_ast.specs.Depth.{depth};
+ghost use Rattle.promql_ast.specs.Parts.{AreWithin, parts_of};
 ghost use Rattle.promql_parse.specs.Parsing.{Parses, Refuses};
 ghost use Rattle.promql_parse.specs.Reading.{reading};
 ghost use Rattle.promql_parts.specs.Reads.{Gives};
-ghost use Rattle.std.specs.Prelude.{◌≡◌, Ok, IfOk, IfErr};
+ghost use Rattle.std.specs.Prelude.{◌≡◌, ◌≤◌, Ok, IfOk, IfErr};
+ghost use Rattle.ticks.specs.Durations.{hundred_years};
 
 use crate::build::Built;
+use crate::laws::{queries_lie_within_limits, what_is_read_is_a_query};
 use crate::reader::{LOOSEST, Source, level_at};
 use match_rule::Patterns;
 use promql_ast::{Expr, QueryRefusal};
@@ -36,11 +42,15 @@ fn read(source: Source, lexemes: &[Lexeme]) -> Result<Expr, LexFault>
 
 /// The tree of a query's text, or its one refusal with its place. The only other error is want of memory. The patterns of
 /// its rules are kept in `patterns`: those that were there, and those that are kept before the end, stay under their numbers,
-/// after each error too.
+/// after each error too. A tree has at most 128 nodes on a path, its ranges and steps are positive and at most 100 years, its
+/// offsets are at most 100 years of either sign, its fixed times are at most 10^14 ms from 0, and each of its rules with a
+/// pattern has it kept.
 pub fn parse(alloc: Global, text: &str, patterns: &mut Patterns) -> Result<Expr, LexFault>
     ensures tree { IfOk result (λ e. Parses text.now patterns.old patterns.new (Ok e)) }
     ensures refusal { IfErr result (Refuses text.now patterns.old patterns.new) }
     ensures gains { Gains patterns.old patterns.new }
+    ensures within { IfOk result (λ e. AreWithin (HaveTheirPatterns patterns.new) hundred_years time_limit (parts_of e)) }
+    ensures shallow { IfOk result (λ e. depth e ≤ 128) }
 {
     if text.len() > MOST_BYTES {
         return Err(LexFault::Refused(QueryRefusal::TooLong(0)));
@@ -48,5 +58,7 @@ pub fn parse(alloc: Global, text: &str, patterns: &mut Patterns) -> Result<Expr,
     let end = text.len() as u32;
     let tokens = tokens(alloc, text)?;
     let lexemes = lexemes_of(alloc, text.as_bytes(), tokens.as_slice(), patterns)?;
+    what_is_read_is_a_query();
+    queries_lie_within_limits();
     read(Source { alloc, end }, lexemes.as_slice())
 }

@@ -6,6 +6,7 @@ pub mod ModifiersFound
 pub mod ModifiersRead
 pub mod PartsRead
 pub mod PartsStand
+pub mod PartsWithin
 pub mod Patterning
 pub mod Shrinks
 pub mod SpansFound

@@ -1,6 +1,8 @@
+pub mod Joins
 pub mod Labels
 pub mod Laws
 pub mod Lexemes
+pub mod Limits
 pub mod Operators
 pub mod Patterned
 pub mod Productions

@@ -1,7 +1,8 @@
 -- Patterns come first: each string right behind `=~` or `!~` stands for its pattern, under its number, and what the pattern
 -- says of the empty text. That they are built before the text is read, and how many may be, is this project's own.
-use Rattle.std.specs.Prelude.{◌≡◌, ℕ, Bool, true, false, List, [], ◌∷◌, length}
-use Rattle.match_rule.specs.Patterns.{IsRefused, is_kept, is_plain, is_readable, number_of, pattern_passes, regex_text, with_pattern}
+use Rattle.std.specs.Prelude.{◌≡◌, ℕ, Bool, true, false, List, [], ◌∷◌, length, ⊤}
+use Rattle.std.specs.List.{AllByRecursion}
+use Rattle.match_rule.specs.Patterns.{IsRefused, IsWholeId, is_kept, is_plain, is_readable, number_of, pattern_passes, regex_text, with_pattern}
 use Rattle.label_set.specs.declared.rules.PatternId.{PatternId}
 use Rattle.promql_ast.specs.declared.refusal.QueryRefusal.TheVariants.{BadPattern, TooManyPatterns}
 use Rattle.promql_parts.specs.declared.lexeme.Sign.TheVariants.{Matches, Unmatched}
@@ -51,3 +52,11 @@ pub data Patterned : Bool → Kept → List Lexeme → Kept → List Lexeme → 
       → Patterned behind kept (l ∷ ls) after (m ∷ [])
   more : {behind : Bool} {kept : Kept} (l m : Lexeme) (ls ms : List Lexeme) (then after : Kept) → Becomes behind kept l then m → is_bad m.kind ≡ false
       → Patterned (takes_pattern l.kind) then ls after ms → Patterned behind kept (l ∷ ls) after (m ∷ ms)
+
+-- a lexeme that is a pattern has it kept under its number, for whole values
+abbrev pub HasPattern : Kept → LexemeKind → Type 0
+HasPattern known (kinds.Pattern id passes_empty) = IsWholeId known id.0
+HasPattern known _ = ⊤
+
+abbrev pub HavePatterns : Kept → List Lexeme → Type 0
+HavePatterns known ls = AllByRecursion (λ l. HasPattern known l.kind) ls

@@ -1,5 +1,6 @@
 //! Laws of the readers of parts and their grammar.
 ghost use Rattle.promql_parts.specs.Laws.{BracedIsRead, BracesAreMatchers, BracketsAreRead, BracketsAreSpans, GroupedIsRead, GroupingsAreGrouped, MatchingsAreModifiers, ModifierIsRead, OffsetIsRead, OffsetsAreSigned, TimeIsRead, TimesStandBehind};
+ghost use Rattle.promql_parts.specs.Limits.{OffsetsAreWithin, RangesAreWithin, RulesHaveTheirs, StepsAreWithin, TimesAreWithin};
 ghost use Rattle.promql_parts.specs.Stands.{BracesStand, BracketsStand, GroupingBehindStands, GroupingStands, MatchingStands, OffsetStands, TimeStands};
 
 /// Each part that is read is that part by its productions.
@@ -31,4 +32,14 @@ pub fn refusals_of_parts_stand()
     ensures offset { OffsetStands }
     ensures time { TimeStands }
     ensures matching { MatchingStands }
+{}
+
+/// Each part lies within the limits: lengths are positive and at most 100 years, offsets are at most 100 years of either sign,
+/// fixed times are at most 10^14 ms from 0, and each rule with a pattern has it kept where the lexemes have theirs.
+pub fn parts_lie_within_limits()
+    ensures ranges { RangesAreWithin }
+    ensures steps { StepsAreWithin }
+    ensures offsets { OffsetsAreWithin }
+    ensures times { TimesAreWithin }
+    ensures rules { RulesHaveTheirs }
 {}

@@ -14,7 +14,9 @@ mod span;
 mod taken;
 
 pub use labels::{grouping_at, grouping_begun, grouping_behind};
-pub use laws::{each_part_is_read, refusals_of_parts_stand, what_is_read_is_a_part};
+pub use laws::{
+    each_part_is_read, parts_lie_within_limits, refusals_of_parts_stand, what_is_read_is_a_part,
+};
 pub use lexeme::{Lexeme, LexemeKind, Sign, Word};
 pub use operator::{BinaryOp, Matching, matching_at, op_at};
 pub use pattern::lexemes_of;

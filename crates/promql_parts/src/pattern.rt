@@ -1,7 +1,7 @@
 //! Patterns in place of the strings behind `=~` and `!~`.
 ghost use Rattle.match_rule.specs.Gains.{Gains};
 ghost use Rattle.promql_parts.specs.Lexemes.{lexemes_of};
-ghost use Rattle.promql_parts.specs.Patterned.{Becomes, IsPattern, Patterned, is_bad, takes_pattern};
+ghost use Rattle.promql_parts.specs.Patterned.{Becomes, HasPattern, HavePatterns, IsPattern, Patterned, is_bad, takes_pattern};
 ghost use Rattle.std.specs.Prelude.{◌≡◌, false, IfOk};
 
 use crate::cut::lexeme_of;
@@ -26,6 +26,7 @@ fn takes_pattern(kind: &LexemeKind) -> bool
 /// patterns that were there keep their numbers.
 fn pattern_of(at: u32, text: &Text, patterns: &mut Patterns) -> Result<LexemeKind, AllocError>
     ensures pattern { IfOk result (λ kind. IsPattern at text.now patterns.old patterns.new kind) }
+    ensures kept { IfOk result (λ kind. HasPattern patterns.new kind) }
     ensures gains { Gains patterns.old patterns.new }
 {
     match patterns.whole(text.as_str()) {
@@ -54,6 +55,7 @@ fn is_bad(kind: &LexemeKind) -> bool
 /// that were there keep their numbers.
 fn with_pattern(behind: bool, lexeme: Lexeme, patterns: &mut Patterns) -> Result<Lexeme, AllocError>
     ensures becomes { IfOk result (λ l. Becomes behind patterns.old lexeme patterns.new l) }
+    ensures kept { IfOk result (λ l. HasPattern patterns.old lexeme.kind → HasPattern patterns.new l.kind) }
     ensures gains { Gains patterns.old patterns.new }
 {
     if !behind {
@@ -71,7 +73,7 @@ fn with_pattern(behind: bool, lexeme: Lexeme, patterns: &mut Patterns) -> Result
 
 /// The lexemes of a text's tokens, with the patterns of the strings right behind `=~` and `!~`, which are kept, up to the
 /// first that is refused. The only error is want of memory. The patterns that were there and those that were kept before
-/// the end stay under their numbers, after an error too.
+/// the end stay under their numbers, after an error too; each lexeme that is a pattern has it kept.
 pub fn lexemes_of(
     alloc: Global,
     text: &[u8],
@@ -79,6 +81,7 @@ pub fn lexemes_of(
     patterns: &mut Patterns,
 ) -> Result<Items<Lexeme>, AllocError>
     ensures lexemes { IfOk result (λ found. Patterned false patterns.old (lexemes_of text.now tokens.now) patterns.new found) }
+    ensures kept { IfOk result (λ found. HavePatterns patterns.new found) }
     ensures gains { Gains patterns.old patterns.new }
 {
     let mut found = Items::new(alloc);
