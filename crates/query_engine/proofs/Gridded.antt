@@ -1,5 +1,5 @@
 -- The instants of a grid lie from its start to its end, and at each of them a tree's needs are met.
-use Rattle.std.proofs.Common.{◌≡◌, ℕ, zero, suc, ◌+◌, ◌-◌, ◌*◌, ◌/◌, ◌≤◌, true, false, List, [], ◌∷◌, ◌++◌, map, refl, sym, subst, arith, add-one}
+use Rattle.std.proofs.Common.{◌≡◌, ℕ, Bool, zero, suc, ◌+◌, ◌-◌, ◌*◌, ◌/◌, ◌≤◌, true, false, List, [], ◌∷◌, ◌++◌, map, refl, sym, subst, arith, add-one}
 use Rattle.std.specs.Prelude.{◌^◌, ℤ, pos, negsuc, ◌+ℤ◌, ◌-ℤ◌, ◌≤ℤ◌, int_lt, unsigned_abs, if◌then◌else◌}
 use Rattle.std.specs.List.{AllByRecursion}
 use Rattle.std.proofs.lemmas.Int.{ints}
@@ -49,8 +49,11 @@ all_between start end (negsuc s) r = absurd (omega (arith, ints, r.forward))
 -- ---- how far a tree reaches
 
 reach_rises : (longest d more : ℕ) → reach longest d ≤ reach longest (more + d)
-reach_rises longest d zero = omega arith
-reach_rises longest d (suc more) = let h = reach_rises longest d more in omega (arith, h)
+reach_rises longest d zero = let e : 0 + d ≡ d = omega arith in subst (λ n. reach longest d ≤ reach longest n) (sym e) (omega arith)
+reach_rises longest d (suc more) =
+    let h = reach_rises longest d more in
+    let e : suc more + d ≡ suc (more + d) = omega arith in
+    subst (λ n. reach longest d ≤ reach longest n) (sym e) (omega (arith, h))
 
 reach_few : (d : ℕ) → d ≤ 128 → time_limit + reach hundred_years d ≤ 2 ^ 60
 reach_few d few =

@@ -1,2 +1,4 @@
 pub mod Gridded
+pub mod Ready
+pub mod Results
 pub mod Stays

@@ -1,6 +1,6 @@
 -- What the text of a query comes to: the query is read, then typed, then answered over the samples. (Prometheus' instant and
 -- range queries; the refusals and their order are this project's own.)
-use Rattle.std.specs.Prelude.{◌≡◌, ℕ, Bool, List, [], None, Ok, Err, ⊤, ⊥}
+use Rattle.std.specs.Prelude.{◌≡◌, ℕ, Bool, List, [], None, Ok, Err, ⊤}
 use Rattle.promql_ast.specs.declared.refusal.QueryRefusal.{QueryRefusal}
 use Rattle.promql_ast.specs.declared.tree.Expr.{Expr}
 use Rattle.promql_meaning.specs.Results.{result_of}
