@@ -1,5 +1,5 @@
 -- The tree of a query lies within the limits, and its depth is the number of nodes that the grammar tells.
-use Rattle.std.proofs.Common.{◌≡◌, ◌≤◌, ℕ, suc, ◌+◌, max, refl, ◌∙◌, sym, subst, List, [], ◌∷◌, ◌++◌, map, arith}
+use Rattle.std.proofs.Common.{◌≡◌, ℕ, ◌+◌, max, refl, ◌∙◌, sym, subst, List, [], ◌∷◌, ◌++◌, map, arith}
 use Rattle.std.proofs.lemmas.Int.{ints}
 use Rattle.std.specs.List.{AllByRecursion}
 use Rattle.std.specs.Prelude.{Option, Some, None, ⊤}
