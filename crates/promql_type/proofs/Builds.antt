@@ -1,5 +1,5 @@
 -- Patterns that are kept one after another.
-use Rattle.std.proofs.Common.{◌≡◌, ◌<◌, ◌+◌, ℕ, refl, ap, ◌∙◌, sym, subst, take, drop, get_or, length, List, [], ◌∷◌, ◌++◌, arith, Bool, true}
+use Rattle.std.proofs.Common.{◌≡◌, ◌<◌, ◌+◌, ℕ, refl, ap, ◌∙◌, sym, subst, take, drop, get_or, length, List, [], ◌∷◌, ◌++◌, Bool, true}
 use Rattle.std.specs.Prelude.{Some, slice_get}
 use Rattle.std.proofs.lemmas.Option.{slice_get_within}
 use Rattle.std.proofs.lemmas.List.{drop_more, take_more, take-append-drop}

@@ -1,8 +1,11 @@
 //! The type of a tree, and the refusal that is answered of it.
 ghost use Rattle.promql_type.specs.Judging.{arguments_refusals, call_refusals, judged, literal_at, strings_refusals};
-ghost use Rattle.promql_type.specs.Refusals.{least};
+ghost use Rattle.promql_type.specs.Kinds.{both};
+ghost use Rattle.promql_type.specs.Refusals.{least, lesser};
+ghost use Rattle.promql_type.specs.Rules.{argument_refusals, operand_refusals, pair_refusals, set_refusals};
 ghost use Rattle.promql_type.specs.Signatures.{signature};
-ghost use Rattle.std.specs.Prelude.{◌≡◌, map};
+ghost use Rattle.promql_type.specs.declared.kind.Kind.TheVariants.{Vector, Windows};
+ghost use Rattle.std.specs.Prelude.{◌≡◌, map, Some};
 
 use crate::kind::{Kind, Operand, both};
 use crate::least::lesser;
@@ -13,23 +16,15 @@ use crate::rules::{
 };
 use crate::signature::{Callee, argument, signature};
 use func_table::{Aggregate, Func};
+use label_set::Pairing;
 use promql_ast::{Expr, Node, QueryRefusal};
+use xfrac::PairOp;
 
 /// Where a tree begins and what it gives, and the least of its refusals.
 #[derive(Drop)]
 pub struct Judged {
     pub operand: Operand,
     pub least: Option<QueryRefusal>,
-}
-
-/// What a node at a place gives that nothing refuses.
-const fn plain(at: u32, gives: Kind) -> Judged
-    ensures { result ≡ record { operand = record { at = at; gives = gives }; least = None } }
-{
-    Judged {
-        operand: Operand { at, gives },
-        least: None,
-    }
 }
 
 /// The string that a tree is, parentheses dropped.
@@ -72,6 +67,62 @@ fn strings_refusal(callee: Callee, arguments: &[Expr]) -> Option<QueryRefusal>
     }
 }
 
+/// What a node at a place gives, and its least refusal.
+const fn placed(at: u32, gives: Kind, least: Option<QueryRefusal>) -> Judged
+    ensures { result ≡ record { operand = record { at = at; gives = gives }; least = least } }
+{
+    Judged {
+        operand: Operand { at, gives },
+        least,
+    }
+}
+
+/// A sign before an operand.
+fn judged_sign(inner: Judged, at: u32) -> Judged
+    ensures operand { result.operand ≡ record { at = at; gives = both inner.operand.gives inner.operand.gives } }
+    ensures least { result.least ≡ lesser inner.least (least (operand_refusals inner.operand)) }
+{
+    let gives = both(inner.operand.gives, inner.operand.gives);
+    placed(
+        at,
+        gives,
+        lesser(inner.least, operand_refusal(inner.operand)),
+    )
+}
+
+/// A subquery over an operand.
+fn judged_subquery(inner: Judged, at: u32) -> Judged
+    ensures operand { result.operand ≡ record { at = at; gives = Windows } }
+    ensures least { result.least ≡ lesser inner.least (least (argument_refusals (Some Vector) inner.operand)) }
+{
+    let wrong = argument_refusal(Some(Kind::Vector), inner.operand);
+    placed(at, Kind::Windows, lesser(inner.least, wrong))
+}
+
+/// An arithmetic or a comparison operator between two operands.
+fn judged_pair(op: PairOp, pairing: &Pairing, left: Judged, right: Judged, at: u32) -> Judged
+    ensures operand { result.operand ≡ record { at = at; gives = both left.operand.gives right.operand.gives } }
+    ensures least { result.least
+        ≡ lesser (lesser left.least right.least) (least (pair_refusals op pairing.now left.operand right.operand at)) }
+{
+    let own = pair_refusal(op, pairing, left.operand, right.operand, at);
+    let gives = both(left.operand.gives, right.operand.gives);
+    placed(at, gives, lesser(lesser(left.least, right.least), own))
+}
+
+/// A set operator between two operands.
+fn judged_set(pairing: &Pairing, left: Judged, right: Judged, at: u32) -> Judged
+    ensures operand { result.operand ≡ record { at = at; gives = Vector } }
+    ensures least { result.least ≡ lesser (lesser left.least right.least) (least (set_refusals pairing.now left.operand right.operand at)) }
+{
+    let own = set_refusal(pairing, left.operand, right.operand, at);
+    placed(
+        at,
+        Kind::Vector,
+        lesser(lesser(left.least, right.least), own),
+    )
+}
+
 /// The type of a tree, and the least of its refusals. It takes no memory.
 #[tactic(auto, using(crate::proofs::Judged::least_negate, crate::proofs::Judged::least_subquery, crate::proofs::Judged::least_call, crate::proofs::Judged::least_aggregate, crate::proofs::Judged::least_pair, crate::proofs::Judged::least_set))]
 #[cycle(judging)]
@@ -80,28 +131,16 @@ pub fn judge(e: &Expr) -> Judged
     ensures least { result.least ≡ least (judged e.now).refusals }
 {
     match &e.node {
-        Node::Number(_) => plain(e.at, Kind::Scalar),
-        Node::Words(_) => plain(e.at, Kind::Words),
-        Node::Select(_) => plain(e.at, Kind::Vector),
-        Node::Range(_, _) => plain(e.at, Kind::Windows),
+        Node::Number(_) => placed(e.at, Kind::Scalar, None),
+        Node::Words(_) => placed(e.at, Kind::Words, None),
+        Node::Select(_) => placed(e.at, Kind::Vector, None),
+        Node::Range(_, _) => placed(e.at, Kind::Windows, None),
         Node::Paren(inner) => {
             let inner = judge(inner.get());
             placed(e.at, inner.operand.gives, inner.least)
         }
-        Node::Negate(inner) => {
-            let inner = judge(inner.get());
-            let gives = both(inner.operand.gives, inner.operand.gives);
-            placed(
-                e.at,
-                gives,
-                lesser(inner.least, operand_refusal(inner.operand)),
-            )
-        }
-        Node::Subquery { inner, .. } => {
-            let inner = judge(inner.get());
-            let wrong = argument_refusal(Some(Kind::Vector), inner.operand);
-            placed(e.at, Kind::Windows, lesser(inner.least, wrong))
-        }
+        Node::Negate(inner) => judged_sign(judge(inner.get()), e.at),
+        Node::Subquery { inner, .. } => judged_subquery(judge(inner.get()), e.at),
         Node::Call(function, arguments) => {
             judge_call(Callee::Function(*function), arguments.as_slice(), e.at)
         }
@@ -110,31 +149,12 @@ pub fn judge(e: &Expr) -> Judged
         }
         Node::Pair(op, left, right, pairing) => {
             let left = judge(left.get());
-            let right = judge(right.get());
-            let own = pair_refusal(*op, pairing, left.operand, right.operand, e.at);
-            let gives = both(left.operand.gives, right.operand.gives);
-            placed(e.at, gives, lesser(lesser(left.least, right.least), own))
+            judged_pair(*op, pairing, left, judge(right.get()), e.at)
         }
         Node::Set(_, left, right, pairing) => {
             let left = judge(left.get());
-            let right = judge(right.get());
-            let own = set_refusal(pairing, left.operand, right.operand, e.at);
-            placed(
-                e.at,
-                Kind::Vector,
-                lesser(lesser(left.least, right.least), own),
-            )
+            judged_set(pairing, left, judge(right.get()), e.at)
         }
-    }
-}
-
-/// What a node at a place gives, and its least refusal.
-const fn placed(at: u32, gives: Kind, least: Option<QueryRefusal>) -> Judged
-    ensures { result ≡ record { operand = record { at = at; gives = gives }; least = least } }
-{
-    Judged {
-        operand: Operand { at, gives },
-        least,
     }
 }
 

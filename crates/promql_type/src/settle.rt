@@ -1,14 +1,22 @@
 //! The typed tree.
+ghost use Rattle.promql_ast.specs.declared.tree.Node.TheVariants.{Aggregate as Aggregated, Call, Negate, Pair, Paren, Subquery};
+ghost use Rattle.promql_type.specs.declared.kind.Kind.TheVariants.{Windows};
+ghost use Rattle.promql_type.specs.declared.signature.Callee.TheVariants.{Aggregation, Function};
+ghost use Rattle.promql_type.specs.Kinds.{both};
 ghost use Rattle.promql_type.specs.Settled.{kind_of, settled, settled_pairing};
+ghost use Rattle.promql_type.specs.Signatures.{signature};
 ghost use Rattle.std.specs.Prelude.{◌≡◌, map, IfOk};
 
 use crate::kind::{Kind, both};
 use crate::rules::is_scalar;
 use crate::signature::{Callee, signature};
+use func_table::{Aggregate, Func};
 use holders::{Boxed, Items};
-use label_set::{Card, Pairing};
-use promql_ast::{Expr, Node};
+use label_set::{Card, Grouping, Pairing};
+use promql_ast::{Expr, Moment, Node};
 use std::alloc::{AllocError, Global};
+use ticks::Ms;
+use xfrac::PairOp;
 
 /// A typed tree, and what it gives.
 #[derive(Drop)]
@@ -32,6 +40,78 @@ fn settled_pairing(alloc: Global, left: Kind, right: Kind, pairing: Pairing) -> 
     pairing
 }
 
+/// A typed tree in parentheses, and what it gives.
+fn settled_paren(alloc: Global, inner: Settled) -> Result<(Node, Kind), AllocError>
+    ensures { IfOk result (λ r. r ≡ (Paren inner.tree, inner.gives)) }
+{
+    Ok((Node::Paren(Boxed::new(alloc, inner.tree)?), inner.gives))
+}
+
+/// A sign before a typed tree, and what it gives.
+fn settled_sign(alloc: Global, inner: Settled) -> Result<(Node, Kind), AllocError>
+    ensures { IfOk result (λ r. r ≡ (Negate inner.tree, both inner.gives inner.gives)) }
+{
+    let gives = both(inner.gives, inner.gives);
+    Ok((Node::Negate(Boxed::new(alloc, inner.tree)?), gives))
+}
+
+/// A subquery over a typed tree, and what it gives.
+fn settled_subquery(
+    alloc: Global,
+    inner: Settled,
+    range: Ms,
+    step: Ms,
+    moment: Moment,
+) -> Result<(Node, Kind), AllocError>
+    ensures { IfOk result (λ r. r ≡ (Subquery inner.tree range step moment, Windows)) }
+{
+    let inner = Boxed::new(alloc, inner.tree)?;
+    let node = Node::Subquery {
+        inner,
+        range,
+        step,
+        moment,
+    };
+    Ok((node, Kind::Windows))
+}
+
+/// A call of typed trees, and what it gives.
+fn settled_call(function: Func, arguments: Items<Expr>) -> (Node, Kind)
+    ensures { result ≡ (Call function arguments, (signature (Function function)).gives) }
+{
+    let gives = signature(Callee::Function(function)).gives;
+    (Node::Call(function, arguments), gives)
+}
+
+/// An aggregation of typed trees, and what it gives.
+fn settled_aggregation(
+    aggregate: Aggregate,
+    grouping: Grouping,
+    arguments: Items<Expr>,
+) -> (Node, Kind)
+    ensures { result ≡ (Aggregated aggregate grouping arguments, (signature (Aggregation aggregate)).gives) }
+{
+    let gives = signature(Callee::Aggregation(aggregate)).gives;
+    (Node::Aggregate(aggregate, grouping, arguments), gives)
+}
+
+/// An operator between typed trees, and what it gives.
+fn settled_pair(
+    alloc: Global,
+    op: PairOp,
+    left: Settled,
+    right: Settled,
+    pairing: Pairing,
+) -> Result<(Node, Kind), AllocError>
+    ensures { IfOk result (λ r. r ≡ (Pair op left.tree right.tree (settled_pairing left.gives right.gives pairing), both left.gives right.gives)) }
+{
+    let pairing = settled_pairing(alloc, left.gives, right.gives, pairing);
+    let gives = both(left.gives, right.gives);
+    let left = Boxed::new(alloc, left.tree)?;
+    let right = Boxed::new(alloc, right.tree)?;
+    Ok((Node::Pair(op, left, right, pairing), gives))
+}
+
 /// The typed tree of a tree, and what it gives. The only error is want of memory.
 #[cycle(settling)]
 pub fn settle(alloc: Global, e: Expr) -> Result<Settled, AllocError>
@@ -44,50 +124,25 @@ pub fn settle(alloc: Global, e: Expr) -> Result<Settled, AllocError>
         Node::Words(text) => (Node::Words(text), Kind::Words),
         Node::Select(selector) => (Node::Select(selector), Kind::Vector),
         Node::Range(selector, range) => (Node::Range(selector, range), Kind::Windows),
-        Node::Paren(inner) => {
-            let inner = settle(alloc, inner.into_inner())?;
-            (Node::Paren(Boxed::new(alloc, inner.tree)?), inner.gives)
-        }
-        Node::Negate(inner) => {
-            let inner = settle(alloc, inner.into_inner())?;
-            let gives = both(inner.gives, inner.gives);
-            (Node::Negate(Boxed::new(alloc, inner.tree)?), gives)
-        }
+        Node::Paren(inner) => settled_paren(alloc, settle(alloc, inner.into_inner())?)?,
+        Node::Negate(inner) => settled_sign(alloc, settle(alloc, inner.into_inner())?)?,
         Node::Subquery {
             inner,
             range,
             step,
             moment,
         } => {
-            let inner = Boxed::new(alloc, settle(alloc, inner.into_inner())?.tree)?;
-            let node = Node::Subquery {
-                inner,
-                range,
-                step,
-                moment,
-            };
-            (node, Kind::Windows)
+            let inner = settle(alloc, inner.into_inner())?;
+            settled_subquery(alloc, inner, range, step, moment)?
         }
-        Node::Call(function, arguments) => {
-            let arguments = settle_all(alloc, arguments)?;
-            let gives = signature(Callee::Function(function)).gives;
-            (Node::Call(function, arguments), gives)
-        }
+        Node::Call(function, arguments) => settled_call(function, settle_all(alloc, arguments)?),
         Node::Aggregate(aggregate, grouping, arguments) => {
-            let arguments = settle_all(alloc, arguments)?;
-            let gives = signature(Callee::Aggregation(aggregate)).gives;
-            (Node::Aggregate(aggregate, grouping, arguments), gives)
+            settled_aggregation(aggregate, grouping, settle_all(alloc, arguments)?)
         }
         Node::Pair(op, left, right, pairing) => {
             let left = settle(alloc, left.into_inner())?;
             let right = settle(alloc, right.into_inner())?;
-            let pairing = settled_pairing(alloc, left.gives, right.gives, pairing);
-            let gives = both(left.gives, right.gives);
-            let left = Boxed::new(alloc, left.tree)?;
-            (
-                Node::Pair(op, left, Boxed::new(alloc, right.tree)?, pairing),
-                gives,
-            )
+            settled_pair(alloc, op, left, right, pairing)?
         }
         Node::Set(op, left, right, pairing) => {
             let left = Boxed::new(alloc, settle(alloc, left.into_inner())?.tree)?;

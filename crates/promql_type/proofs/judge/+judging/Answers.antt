@@ -3,9 +3,14 @@ use Rattle.promql_type.specs.Judging.{arguments_refusals, judged, strings_refusa
 use Rattle.promql_type.specs.Refusals.{least, lesser}
 use Rattle.promql_type.specs.Rules.{argument_refusals, count_refusals}
 use Rattle.promql_type.specs.Signatures.{signature}
-use Rattle.promql_type.proofs.Judged.{least_set, least_three, next_argument}
+use Rattle.promql_type.proofs.Judged.{least_set, least_subquery, least_three, next_argument}
 use Rattle.std.proofs.Math.ListN.{length-map}
 use Rattle.promql_type.proofs.judge.+judging.Goals as goal
+
+pub judge-returns-in-Subquery-clause-least : goal.judge-returns-in-Subquery-clause-least
+judge-returns-in-Subquery-clause-least t c =
+    let equation = least_subquery c.args.e.now c.in-Subquery.inner c.in-Subquery.range c.in-Subquery.step c.in-Subquery.moment c.in-Subquery.is in
+    grind (arith, equation)
 
 pub judge-returns-in-Set-clause-least : goal.judge-returns-in-Set-clause-least
 judge-returns-in-Set-clause-least t c =
