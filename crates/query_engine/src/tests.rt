@@ -14,19 +14,14 @@ use step_table::{Mark, Note};
 use ticks::{Grid, Ms, Work};
 use xfrac::{Held, XFrac, of};
 
-fn held(item: &str) -> Result<Held, Fail> {
-    match item {
-        "stale" => Ok(Held::Stale),
-        "inf" => Ok(Held::Value(XFrac::PosInf)),
-        "-inf" => Ok(Held::Value(XFrac::NegInf)),
-        "nan" => Ok(Held::Value(XFrac::NaN)),
-        "big" => Ok(Held::Value(of(
-            1_000_000_000_000_000_000_000_000_000_000,
-            1,
-        )?)),
+fn value(text: &str) -> Result<XFrac, Fail> {
+    match text {
+        "inf" => Ok(XFrac::PosInf),
+        "-inf" => Ok(XFrac::NegInf),
+        "nan" => Ok(XFrac::NaN),
         _ => {
-            let n: i128 = item.parse()?;
-            Ok(Held::Value(of(n, 1)?))
+            let n: i128 = text.parse()?;
+            Ok(of(n, 1)?)
         }
     }
 }
@@ -51,8 +46,10 @@ fn load(alloc: Global, store: &mut Store, text: &str) -> Result<(), Fail> {
     let step = seconds(parts.next().ok_or("no step")?)?;
     let mut t = Ms(0);
     for item in parts.next().ok_or("no items")?.split('/') {
-        if item != "_" {
-            store.append(&labels, t, &held(item)?)?;
+        if item == "stale" {
+            store.append(&labels, t, &Held::Stale)?;
+        } else if item != "_" {
+            store.append(&labels, t, &Held::Value(value(item)?))?;
         }
         t = Ms(t.0.saturating_add(step.0));
     }
