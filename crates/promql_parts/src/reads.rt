@@ -1,8 +1,9 @@
 //! Reading from left to right, up to the first lexeme that fits no rule.
 ghost use Rattle.promql_parts.specs.Labels.{item_behind};
+ghost use Rattle.promql_parts.specs.Patterned.{is_bad};
 ghost use Rattle.promql_parts.specs.Reads.{Gives, IsRefusal, after, begins, refused, refused_at};
 ghost use Rattle.promql_parts.specs.Signs.{is_sign, number};
-ghost use Rattle.std.specs.Prelude.{◌≡◌, ◌<◌, ◌≤◌, length, IfOk, IsTrue};
+ghost use Rattle.std.specs.Prelude.{◌≡◌, ◌<◌, ◌≤◌, [], false, length, IfOk, IsOk, IsTrue};
 
 use crate::lexeme::{Lexeme, LexemeKind, Sign};
 use promql_ast::QueryRefusal;
@@ -52,9 +53,10 @@ pub fn is_sign(sign: Sign, kind: &LexemeKind) -> bool
     }
 }
 
-/// The refusal of a lexeme that fits no rule.
+/// The refusal of a lexeme that fits no rule. Memory may run out over one with a bad spelling or pattern alone.
 pub fn refused(lexeme: &Lexeme) -> LexFault
-    ensures { IsRefusal result (refused lexeme.now) }
+    ensures is { IsRefusal result (refused lexeme.now) }
+    ensures always { is_bad lexeme.now.kind ≡ false → result ≡ LexFault.Refused (QueryRefusal.Expected lexeme.now.at) }
 {
     match &lexeme.kind {
         LexemeKind::Bad(refusal) => match refusal.copy() {
@@ -65,9 +67,10 @@ pub fn refused(lexeme: &Lexeme) -> LexFault
     }
 }
 
-/// The refusal of the lexeme at the front, or of the end of the text.
+/// The refusal of the lexeme at the front, or of the end of the text, which takes no memory.
 pub fn refused_at(end: u32, lexemes: &[Lexeme]) -> LexFault
-    ensures { IsRefusal result (refused_at end lexemes.now) }
+    ensures is { IsRefusal result (refused_at end lexemes.now) }
+    ensures always { lexemes.now ≡ [] → result ≡ LexFault.Refused (QueryRefusal.Expected end) }
 {
     match lexemes {
         [] => LexFault::Refused(QueryRefusal::Expected(end)),
@@ -86,9 +89,10 @@ pub fn begins(sign: Sign, lexemes: &[Lexeme]) -> bool
     }
 }
 
-/// What stands behind the sign.
+/// What stands behind the sign. Memory may run out over a refusal alone.
 pub fn after<'a>(end: u32, sign: Sign, lexemes: &'a [Lexeme]) -> Result<&'a [Lexeme], LexFault>
     ensures is { Gives (λ rest. rest.now) result (after end sign lexemes.now) }
+    ensures always { IsOk (after end sign lexemes.now) → IsOk result }
     ensures shorter { IfOk result (λ rest. length rest.now < length lexemes.now) }
 {
     if begins(sign, lexemes) {
@@ -99,10 +103,11 @@ pub fn after<'a>(end: u32, sign: Sign, lexemes: &'a [Lexeme]) -> Result<&'a [Lex
 }
 
 /// Behind an item of a list: whether another one may follow, and what stands behind the comma, or the sign that closes the
-/// list and what stands behind it.
+/// list and what stands behind it. Memory may run out over a refusal alone.
 #[tactic(auto, unfolding(crate::specs::Labels::item_behind))]
 pub fn item_behind<'a>(end: u32, close: Sign, lexemes: &'a [Lexeme]) -> Read<'a, bool>
     ensures is { Gives (λ read. (read.0, read.1.now)) result (item_behind end close lexemes.now) }
+    ensures always { IsOk (item_behind end close lexemes.now) → IsOk result }
     ensures shorter { IfOk result (λ read. (length read.1.now ≤ length lexemes.now) × (IsTrue read.0 → length read.1.now < length lexemes.now)) }
 {
     if begins(Sign::Comma, lexemes) {

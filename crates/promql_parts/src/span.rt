@@ -2,7 +2,7 @@
 ghost use Rattle.frac_text.specs.Times.{exact_quotient, milliseconds_of, time_limit};
 ghost use Rattle.promql_parts.specs.Reads.{Gives};
 ghost use Rattle.promql_parts.specs.Spans.{amount_at, amount_kind, brackets_at, called_at, instant_at, length_at, ms, offset_at, positive, preprocessor, preprocessor_at, range_behind, signed_at, step_at, unsigned, up_to, when_at};
-ghost use Rattle.std.specs.Prelude.{◌≡◌, ◌<◌, ◌≤◌, length, unsigned_abs, IfOk, OnSome};
+ghost use Rattle.std.specs.Prelude.{◌≡◌, ◌<◌, ◌≤◌, length, unsigned_abs, IfOk, IsOk, OnSome};
 ghost use Rattle.ticks.specs.Durations.{hundred_years};
 
 use crate::lexeme::{Lexeme, LexemeKind, Sign, Word};
@@ -50,6 +50,7 @@ fn milliseconds_of(seconds: &XFrac) -> Option<u128>
 fn up_to(at: u32, most: u128, n: u128) -> Result<u64, LexFault>
     requires { most ≤ time_limit }
     ensures is { Gives (λ n. n) result (up_to at most n) }
+    ensures always { IsOk (up_to at most n) → IsOk result }
     ensures within { IfOk result (λ n. n ≤ most) }
 {
     if most < n {
@@ -63,6 +64,7 @@ fn up_to(at: u32, most: u128, n: u128) -> Result<u64, LexFault>
 fn amount_of(most: u128, lexeme: &Lexeme) -> Result<u64, LexFault>
     requires { (hundred_years ≤ most) × (most ≤ time_limit) }
     ensures is { Gives (λ n. n) result (amount_kind most lexeme.now lexeme.now.kind) }
+    ensures always { IsOk (amount_kind most lexeme.now lexeme.now.kind) → IsOk result }
     ensures within { IfOk result (λ n. n ≤ most) }
 {
     match &lexeme.kind {
@@ -82,6 +84,7 @@ fn amount_of(most: u128, lexeme: &Lexeme) -> Result<u64, LexFault>
 fn amount_at<'a>(most: u128, end: u32, lexemes: &'a [Lexeme]) -> Read<'a, u64>
     requires { (hundred_years ≤ most) × (most ≤ time_limit) }
     ensures is { Gives (λ read. (read.0, read.1.now)) result (amount_at most end lexemes.now) }
+    ensures always { IsOk (amount_at most end lexemes.now) → IsOk result }
     ensures within { IfOk result (λ read. read.0 ≤ most) }
     ensures shorter { IfOk result (λ read. length read.1.now < length lexemes.now) }
 {
@@ -93,7 +96,8 @@ fn amount_at<'a>(most: u128, end: u32, lexemes: &'a [Lexeme]) -> Read<'a, u64>
 
 fn positive(at: u32, n: u64) -> Result<Ms, LexFault>
     requires { n ≤ hundred_years }
-    ensures { Gives (λ length. length) result (positive at n) }
+    ensures is { Gives (λ length. length) result (positive at n) }
+    ensures always { IsOk (positive at n) → IsOk result }
 {
     if n == 0 {
         Err(LexFault::Refused(QueryRefusal::BadDuration(at)))
@@ -105,6 +109,7 @@ fn positive(at: u32, n: u64) -> Result<Ms, LexFault>
 /// A range or a step, which is positive.
 fn length_at<'a>(end: u32, lexemes: &'a [Lexeme]) -> Read<'a, Ms>
     ensures is { Gives (λ read. (read.0, read.1.now)) result (length_at end lexemes.now) }
+    ensures always { IsOk (length_at end lexemes.now) → IsOk result }
     ensures shorter { IfOk result (λ read. length read.1.now < length lexemes.now) }
 {
     match lexemes {
@@ -120,6 +125,7 @@ fn length_at<'a>(end: u32, lexemes: &'a [Lexeme]) -> Read<'a, Ms>
 #[tactic(auto, unfolding(crate::specs::Spans::step_at))]
 fn step_at<'a>(end: u32, range: Ms, lexemes: &'a [Lexeme]) -> Read<'a, Brackets>
     ensures is { Gives (λ read. (read.0, read.1.now)) result (step_at end range lexemes.now) }
+    ensures always { IsOk (step_at end range lexemes.now) → IsOk result }
     ensures shorter { IfOk result (λ read. length read.1.now < length lexemes.now) }
 {
     if begins(Sign::RightBracket, lexemes) {
@@ -132,6 +138,7 @@ fn step_at<'a>(end: u32, range: Ms, lexemes: &'a [Lexeme]) -> Read<'a, Brackets>
 
 fn range_behind<'a>(plain: bool, end: u32, range: Ms, lexemes: &'a [Lexeme]) -> Read<'a, Brackets>
     ensures is { Gives (λ read. (read.0, read.1.now)) result (range_behind plain end range lexemes.now) }
+    ensures always { IsOk (range_behind plain end range lexemes.now) → IsOk result }
     ensures shorter { IfOk result (λ read. length read.1.now < length lexemes.now) }
 {
     if plain && begins(Sign::RightBracket, lexemes) {
@@ -142,10 +149,11 @@ fn range_behind<'a>(plain: bool, end: u32, range: Ms, lexemes: &'a [Lexeme]) -> 
 }
 
 /// The brackets of a range selector, where `plain` tells that one may stand there, or of a subquery, from behind the
-/// opening one.
+/// opening one. Memory may run out over a refusal alone.
 #[tactic(auto, unfolding(crate::specs::Spans::brackets_at))]
 pub fn brackets_at<'a>(plain: bool, end: u32, lexemes: &'a [Lexeme]) -> Read<'a, Brackets>
     ensures is { Gives (λ read. (read.0, read.1.now)) result (brackets_at plain end lexemes.now) }
+    ensures always { IsOk (brackets_at plain end lexemes.now) → IsOk result }
     ensures shorter { IfOk result (λ read. length read.1.now < length lexemes.now) }
 {
     let (range, rest) = length_at(end, lexemes)?;
@@ -178,15 +186,17 @@ fn turned(negative: bool, n: u64) -> Ms
 fn signed_at<'a>(most: u128, end: u32, lexemes: &'a [Lexeme]) -> Read<'a, Ms>
     requires { (hundred_years ≤ most) × (most ≤ time_limit) }
     ensures is { Gives (λ read. (read.0, read.1.now)) result (signed_at most end lexemes.now) }
+    ensures always { IsOk (signed_at most end lexemes.now) → IsOk result }
     ensures shorter { IfOk result (λ read. length read.1.now < length lexemes.now) }
 {
     let (n, rest) = amount_at(most, end, unsigned(lexemes))?;
     Ok((turned(begins(Sign::Minus, lexemes), n), rest))
 }
 
-/// The offset behind `offset`: a duration with an optional sign.
+/// The offset behind `offset`: a duration with an optional sign. Memory may run out over a refusal alone.
 pub fn offset_at<'a>(end: u32, lexemes: &'a [Lexeme]) -> Read<'a, Ms>
     ensures is { Gives (λ read. (read.0, read.1.now)) result (offset_at end lexemes.now) }
+    ensures always { IsOk (offset_at end lexemes.now) → IsOk result }
     ensures shorter { IfOk result (λ read. length read.1.now < length lexemes.now) }
 {
     signed_at(HUNDRED_YEARS, end, lexemes)
@@ -215,6 +225,7 @@ fn preprocessor_at(lexemes: &[Lexeme]) -> Option<Fixed>
 #[tactic(auto, unfolding(crate::specs::Spans::called_at))]
 fn called_at<'a>(end: u32, time: Fixed, lexemes: &'a [Lexeme]) -> Read<'a, Fixed>
     ensures is { Gives (λ read. (read.0, read.1.now)) result (called_at end time lexemes.now) }
+    ensures always { IsOk (called_at end time lexemes.now) → IsOk result }
     ensures shorter { IfOk result (λ read. length read.1.now < length lexemes.now) }
 {
     let inside = after(end, Sign::LeftParen, lexemes)?;
@@ -225,15 +236,17 @@ fn called_at<'a>(end: u32, time: Fixed, lexemes: &'a [Lexeme]) -> Read<'a, Fixed
 #[tactic(auto, unfolding(crate::specs::Spans::instant_at))]
 fn instant_at<'a>(end: u32, lexemes: &'a [Lexeme]) -> Read<'a, Fixed>
     ensures is { Gives (λ read. (read.0, read.1.now)) result (instant_at end lexemes.now) }
+    ensures always { IsOk (instant_at end lexemes.now) → IsOk result }
     ensures shorter { IfOk result (λ read. length read.1.now < length lexemes.now) }
 {
     let (time, rest) = signed_at(TIME_LIMIT, end, lexemes)?;
     Ok((Fixed::At(time), rest))
 }
 
-/// The time behind `@`.
+/// The time behind `@`. Memory may run out over a refusal alone.
 pub fn when_at<'a>(end: u32, lexemes: &'a [Lexeme]) -> Read<'a, Fixed>
     ensures is { Gives (λ read. (read.0, read.1.now)) result (when_at end lexemes.now) }
+    ensures always { IsOk (when_at end lexemes.now) → IsOk result }
     ensures shorter { IfOk result (λ read. length read.1.now < length lexemes.now) }
 {
     match preprocessor_at(lexemes) {
