@@ -1,4 +1,6 @@
 //! Texts of queries over a few series, and what comes of each.
+ghost use Rattle.std.specs.Prelude.{◌≡◌};
+
 mod rows;
 
 use crate::evaluate;
