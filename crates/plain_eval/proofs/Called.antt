@@ -1,5 +1,5 @@
 -- What a ready call, subquery or selector has of what it asks for.
-use Rattle.std.proofs.Common.{◌≡◌, ◌∙◌, ℕ, List, [], ◌∷◌, map, ap, sym, subst}
+use Rattle.std.proofs.Common.{◌≡◌, ◌∙◌, List, [], ◌∷◌, map, ap, sym, subst}
 use Rattle.std.specs.Prelude.{ℤ, pos, ◌-ℤ◌, ◌<ℤ◌}
 use Rattle.std.specs.List.{AllByRecursion}
 use Rattle.func_table.specs.declared.table.Func.{Func}

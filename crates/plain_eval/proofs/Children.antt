@@ -25,7 +25,7 @@ use Rattle.promql_type.specs.Rules.{argument_refusals, count_refusals, operand_r
 use Rattle.promql_type.specs.Signatures.{Signature, argument, signature}
 use Rattle.promql_meaning.specs.Selecting.{Asked, moment_of}
 use Rattle.promql_meaning.specs.Subqueries.{as_times, multiples}
-use Rattle.promql_meaning.specs.Conditions.{Need, IsMet, AreMet, needs_of, needs_at, needs_over, node_needs}
+use Rattle.promql_meaning.specs.Conditions.{IsMet, AreMet, needs_of, needs_at, needs_over, node_needs}
 use Rattle.plain_eval.specs.Ready.{IsPatternKept, IsReady}
 
 module _ {X : Type 0} where

@@ -1,8 +1,7 @@
 -- The windows that a ready tree gives have their samples in their ranges.
-use Rattle.std.proofs.Common.{◌≡◌, ℕ, zero, suc, ◌<◌, ◌+◌, Bool, true, false, List, [], ◌∷◌, ◌++◌, length, map, drop, filter, Option, None, Some, refl, sym, ap, subst, ◌∙◌, arith, add-one}
-use Rattle.std.specs.Prelude.{◌/◌, ◌%◌, ◌*◌, unsigned_abs, ℤ, pos, negsuc, ◌-ℤ◌, ◌+ℤ◌, ◌<ℤ◌, ◌≤ℤ◌, int_lt, int_le, ◌&&◌, slice_index_or, if◌then◌else◌}
+use Rattle.std.proofs.Common.{◌≡◌, ℕ, zero, suc, ◌<◌, ◌+◌, Bool, true, false, List, [], ◌∷◌, ◌++◌, map, drop, filter, refl, sym, subst, arith, add-one}
+use Rattle.std.specs.Prelude.{◌/◌, ◌%◌, ◌*◌, unsigned_abs, ℤ, pos, negsuc, ◌-ℤ◌, ◌+ℤ◌, ◌<ℤ◌, ◌≤ℤ◌, int_lt, int_le, ◌&&◌, if◌then◌else◌}
 use Rattle.std.specs.List.{All, AllByRecursion, cons_option, filter_map}
-use Rattle.std.specs.Option.{option_map}
 use Rattle.std.specs.Int.{int_rem_euclid}
 use Rattle.std.proofs.lemmas.Int.{ints}
 use Rattle.std.proofs.lemmas.Nat.{div-add-mod'}
@@ -13,9 +12,7 @@ use Rattle.label_set.specs.declared.rules.Pairing.{Pairing}
 use Rattle.xfrac.specs.declared.value.PairOp.{PairOp}
 use Rattle.promql_ast.specs.declared.tree.Expr.{Expr}
 use Rattle.promql_ast.specs.declared.tree.Node.{Node}
-use Rattle.promql_ast.specs.declared.tree.Moment.{Moment}
-use Rattle.promql_ast.specs.declared.tree.Selector.{Selector}
-use Rattle.promql_ast.specs.declared.tree.Node.TheOpen.{Node-F, Expr-F}
+use Rattle.promql_ast.specs.declared.tree.Node.TheOpen.{Node-F}
 use Rattle.promql_ast.specs.declared.tree.Node.TheViews.{roll-Node, roll-Expr}
 use Rattle.promql_ast.specs.declared.tree.Node.TheFolds.{map-Node, fold-Node, fold-roll-Node, fold-roll-Expr, ind-Expr}
 use Rattle.std.specs.Map.{values_of}
@@ -24,7 +21,7 @@ use Rattle.step_table.specs.declared.step.Row.{Row}
 use Rattle.step_table.specs.declared.step.Step.{Step}
 use Rattle.ticks.specs.Walks.{IsTime}
 use Rattle.ticks.specs.declared.moment.Ms.{Ms}
-use Rattle.window_fn.specs.Windows.{IsFrame, IsInFrame}
+use Rattle.window_fn.specs.Windows.{IsInFrame}
 use Rattle.xfrac.specs.declared.value.Held.{Held}
 use Rattle.xfrac.specs.declared.value.Held.TheVariants.{Value, Stale}
 use Rattle.xfrac.specs.declared.value.XFrac.{XFrac}

@@ -1,7 +1,7 @@
 -- What a check keeps is kept for the evaluation, and stays so.
-use Rattle.std.proofs.Common.{◌≡◌, ◌∙◌, ℕ, zero, suc, ◌<◌, Bool, true, List, [], ◌∷◌, length, Some, None, arith}
-use Rattle.std.specs.Prelude.{slice_get}
+use Rattle.std.proofs.Common.{◌∙◌, ℕ, Bool, true, List, [], ◌∷◌}
 use Rattle.std.specs.List.{AllByRecursion}
+use Rattle.std.proofs.lemmas.Option.{slice_get_within}
 use Rattle.label_set.specs.Entries.{recursion_map}
 use Rattle.match_rule.specs.Gains.{Gains}
 use Rattle.promql_type.specs.Judging.{judged}
@@ -19,16 +19,10 @@ kept_from kept (r ∷ rs) (p ∷ ps) are = (record { number = p.id.0; there = ar
 pub checked_patterns_are_kept_lem : CheckedPatternsAreKept
 checked_patterns_are_kept_lem kept e placed are = kept_from kept (judged e).replacements placed are
 
--- a number that is in use is less than their count
-in_use : {X : Type 0} (xs : List X) (k : ℕ) (x : X) → slice_get xs k ≡ Some x → k < length xs
-in_use [] k x is = absurd (cc)
-in_use (y ∷ xs) zero x is = omega arith
-in_use (y ∷ xs) (suc k) x is = let h = in_use xs k x is in omega (arith, h)
-
 stays : (before after : List (Bool × List ℕ)) (r : Replacement) → Gains before after → IsPatternKept before r → IsPatternKept after r
 stays before after r gains is = record {
   number = is.number;
-  there = gains.earlier is.number (in_use before is.number (true, r.text) is.there) ∙ is.there;
+  there = gains.earlier is.number (slice_get_within before is.number (true, r.text) is.there) ∙ is.there;
 }
 
 pub kept_patterns_stay_lem : KeptPatternsStay

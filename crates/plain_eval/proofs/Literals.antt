@@ -1,8 +1,7 @@
 -- A string of a typed tree means its text, and the pattern of a label_replace call is the text of its fifth argument.
-use Rattle.std.proofs.Common.{◌≡◌, ◌∙◌, ℕ, zero, suc, ◌+◌, Bool, true, false, List, [], ◌∷◌, map, length, ap, sym, subst, refl, Option, None, Some, arith}
-use Rattle.std.specs.Prelude.{ℤ, slice_get, slice_index_or}
+use Rattle.std.proofs.Common.{◌≡◌, ◌∙◌, ℕ, zero, suc, List, [], ◌∷◌, map, ap, sym, subst, refl, Some}
+use Rattle.std.specs.Prelude.{ℤ}
 use Rattle.std.specs.List.{AllByRecursion}
-use Rattle.std.specs.Option.{option_and_then}
 use Rattle.func_table.specs.declared.table.Func.{Func}
 use Rattle.func_table.specs.declared.table.Aggregate.{Aggregate}
 use Rattle.func_table.specs.declared.table.Func.TheVariants.{Element, Window, Absent, AbsentOver, HistogramQuantile, LabelJoin, LabelReplace, Scalar as ToScalar, Sort, SortDesc, Time, Timestamp, Vector as ToVector}
@@ -16,14 +15,14 @@ use Rattle.promql_type.specs.Kinds.{both}
 use Rattle.promql_type.specs.Signatures.{signature}
 use Rattle.promql_ast.specs.declared.tree.Expr.{Expr}
 use Rattle.promql_ast.specs.declared.tree.Node.{Node}
-use Rattle.promql_ast.specs.declared.tree.Node.TheOpen.{Node-F, Expr-F}
+use Rattle.promql_ast.specs.declared.tree.Node.TheOpen.{Node-F}
 use Rattle.promql_ast.specs.declared.tree.Node.TheViews.{roll-Node, roll-Expr}
 use Rattle.promql_ast.specs.declared.tree.Node.TheFolds.{map-Node, fold-Node, fold-roll-Node, fold-roll-Expr, ind-Expr}
 use Rattle.promql_type.specs.Judging.{Judgement, expr_step, judged, literal_at, node_step, pattern_of}
 use Rattle.promql_type.specs.Rules.{Literal}
 use Rattle.promql_meaning.specs.declared.given.Given.{Given}
 use Rattle.promql_meaning.specs.declared.given.Given.TheVariants.{Words}
-use Rattle.promql_meaning.specs.Meaning.{argument, given_at, meaning, node_meaning, words_at}
+use Rattle.promql_meaning.specs.Meaning.{given_at, meaning, node_meaning, words_at}
 use Rattle.promql_meaning.specs.Selecting.{Asked}
 use Rattle.plain_eval.specs.Ready.{IsKeptWhole, IsPatternKept}
 

@@ -1,5 +1,5 @@
 -- What each kind of node means, by what its parts mean.
-use Rattle.std.proofs.Common.{◌≡◌, ◌∙◌, ℕ, ◌+◌, ◌<◌, ◌≤◌, List, [], ◌∷◌, map, ap, sym, refl, arith}
+use Rattle.std.proofs.Common.{◌≡◌, ◌∙◌, ℕ, ◌+◌, ◌<◌, List, [], map, ap, sym, arith}
 use Rattle.std.specs.Prelude.{ℤ, max}
 use Rattle.func_table.specs.declared.table.Func.{Func}
 use Rattle.func_table.specs.declared.table.Aggregate.{Aggregate}
@@ -12,7 +12,6 @@ use Rattle.xfrac.specs.declared.value.XFrac.{XFrac}
 use Rattle.step_table.specs.Groups.{Names}
 use Rattle.step_table.specs.Sets.{combined}
 use Rattle.step_table.specs.declared.marks.Marks.{Marks}
-use Rattle.step_table.specs.declared.step.Step.{Step}
 use Rattle.promql_ast.specs.declared.tree.Moment.{Moment}
 use Rattle.promql_ast.specs.declared.tree.Selector.{Selector}
 use Rattle.promql_ast.specs.declared.tree.Expr.{Expr}
@@ -22,7 +21,6 @@ use Rattle.promql_ast.specs.Depth.{depth, node_depth}
 use Rattle.promql_ast.specs.Folds.{fold-Number, fold-Words, fold-Paren, fold-Negate, fold-Select, fold-Range, fold-Subquery, fold-Call, fold-Aggregate, fold-Pair, fold-Set}
 use Rattle.promql_meaning.specs.declared.given.Given.{Given}
 use Rattle.promql_meaning.specs.declared.given.Given.TheVariants as given
-use Rattle.promql_meaning.specs.declared.given.WindowRow.{WindowRow}
 use Rattle.promql_meaning.specs.Givens.{no_marks, scalar_step, step_of}
 use Rattle.promql_meaning.specs.Meaning.{aggregation, called, given_at, meaning, meaning_step, negation, node_meaning, operation}
 use Rattle.promql_meaning.specs.Selecting.{Asked, moment_of}

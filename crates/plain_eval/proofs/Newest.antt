@@ -1,6 +1,6 @@
 -- The samples of a range as they are read from its edge on, and the series as they are found by their numbers.
-use Rattle.std.proofs.Common.{◌≡◌, ℕ, zero, suc, ◌+◌, ◌<◌, Bool, true, false, List, [], ◌∷◌, ◌++◌, length, filter, Option, None, Some, refl, sym, ap, subst, ◌∙◌, arith, append-nil, get_or}
-use Rattle.std.specs.Prelude.{ℤ, ◌<ℤ◌, ◌↔◌, Contains, int_lt, int_le, not, slice_get, slice_index_or, if◌then◌else◌, ◌&&◌}
+use Rattle.std.proofs.Common.{◌≡◌, ℕ, ◌<◌, Bool, true, false, List, [], ◌∷◌, ◌++◌, length, filter, Option, None, Some, refl, sym, ap, ◌∙◌, arith, append-nil, get_or}
+use Rattle.std.specs.Prelude.{ℤ, ◌<ℤ◌, Contains, int_lt, int_le, not, slice_get, if◌then◌else◌, ◌&&◌}
 use Rattle.std.specs.BTreeMap.{insert_entry}
 use Rattle.std.specs.List.{AllByRecursion, cons_option, filter_map, last_or}
 use Rattle.std.specs.List.Sorted.{IsStrictlySortedBy}

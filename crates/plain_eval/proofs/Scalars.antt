@@ -1,5 +1,5 @@
 -- What is typed as a number is told as one.
-use Rattle.std.proofs.Common.{◌≡◌, ◌∙◌, ℕ, Bool, true, false, ap, sym, subst, refl}
+use Rattle.std.proofs.Common.{◌≡◌, ◌∙◌, ℕ, Bool, false, ap, sym, subst, refl}
 use Rattle.std.specs.Prelude.{◌&&◌}
 use Rattle.func_table.specs.declared.table.Func.{Func}
 use Rattle.func_table.specs.declared.table.Aggregate.{Aggregate}
@@ -18,7 +18,7 @@ use Rattle.promql_type.specs.Judging.{Judgement, expr_step, judged, node_step}
 use Rattle.promql_type.specs.Settled.{kind_of}
 use Rattle.promql_ast.specs.declared.tree.Expr.{Expr}
 use Rattle.promql_ast.specs.declared.tree.Node.{Node}
-use Rattle.promql_ast.specs.declared.tree.Node.TheOpen.{Node-F, Expr-F}
+use Rattle.promql_ast.specs.declared.tree.Node.TheOpen.{Node-F}
 use Rattle.promql_ast.specs.declared.tree.Node.TheViews.{roll-Node, roll-Expr}
 use Rattle.promql_ast.specs.declared.tree.Node.TheFolds.{map-Node, fold-Node, fold-roll-Node, fold-roll-Expr, ind-Expr}
 use Rattle.promql_meaning.specs.Results.{call_gives_scalar, gives_scalar, node_gives_scalar}

@@ -1,5 +1,5 @@
 -- Series that are sorted by the labels of their groups, their values and their labels.
-use Rattle.std.proofs.Common.{◌≡◌, ◌∙◌, Bool, true, false, List, [], ◌∷◌, map, refl, sym, ap, subst}
+use Rattle.std.proofs.Common.{◌≡◌, ◌∙◌, Bool, List, [], ◌∷◌, map, sym, ap}
 use Rattle.std.specs.Prelude.{fold}
 use Rattle.std.specs.Cmp.{IsStrictWeakOrder, IsTotalOrder}
 use Rattle.std.specs.List.{All, AllByRecursion}
@@ -14,7 +14,7 @@ use Rattle.window_fn.specs.Aggregates.{inserted}
 use Rattle.xfrac.specs.Laws.{EqualIsSame, IsNumber, LessIsTransitive, OrderIsReversed}
 use Rattle.promql_meaning.specs.declared.answer.ResultSeries.{ResultSeries}
 use Rattle.promql_meaning.specs.NumberOrder.{tidy, tidy-same, tidy_order, values_total}
-use Rattle.promql_meaning.specs.Orders.{ByValue, comes_first, in_order, value_of_series}
+use Rattle.promql_meaning.specs.Orders.{ByValue, comes_first, value_of_series}
 use Rattle.promql_meaning.specs.Ranks.{kept_labels, value_order}
 use Rattle.plain_eval.specs.Ranked.{IsRanked, ranked_below, ranked_order}
 use Rattle.plain_eval.specs.declared.orders.Ranked.{Ranked}

@@ -1,5 +1,4 @@
-use Rattle.std.proofs.Common.{◌≡◌, ◌++◌, ◌*◌, ◌+◌, ℕ, map, drop}
-use Rattle.std.specs.Prelude.{ℤ}
+use Rattle.std.proofs.Common.{◌≡◌, ◌++◌, ◌*◌, ◌+◌, map, drop}
 use Rattle.std.specs.List.{AllByRecursion}
 use Rattle.ticks.specs.declared.moment.Ms.{Ms}
 use Rattle.promql_ast.specs.declared.tree.Expr.{Expr}

@@ -1,4 +1,4 @@
-use Rattle.std.proofs.Common.{◌≡◌, ◌∙◌, ◌++◌, ◌∷◌, [], ◌-◌, ap, refl, arith}
+use Rattle.std.proofs.Common.{◌∙◌, ◌++◌, ◌∷◌, [], ◌-◌, ap, refl, arith}
 use Rattle.plain_eval.proofs.Instants.{begun, behind_first, one_more, times_more}
 use Rattle.plain_eval.proofs.points.instants.Goals as goal
 

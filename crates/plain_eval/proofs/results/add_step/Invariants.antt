@@ -1,9 +1,6 @@
 use Rattle.std.proofs.Common.{◌≡◌}
 use Rattle.std.specs.Vec.Iter.{into_iter_items}
-use Rattle.std.specs.Prelude.{map, fold}
-use Rattle.step_table.specs.Groups.{with_item}
-use Rattle.step_table.specs.declared.step.Row.{Row}
-use Rattle.promql_meaning.specs.declared.answer.Point.{Point}
+use Rattle.std.specs.Prelude.{map}
 use Rattle.plain_eval.proofs.Walking.{labelled_at, put_all}
 use Rattle.plain_eval.proofs.results.add_step.Given as goal
 

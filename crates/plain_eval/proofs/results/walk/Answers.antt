@@ -1,4 +1,4 @@
-use Rattle.std.proofs.Common.{◌≡◌, ◌∙◌, ◌+◌, ◌≤◌, ℕ, List, None, Some, ap, drop, get_or, length, refl, subst, sym, arith}
+use Rattle.std.proofs.Common.{◌≡◌, ◌∙◌, ◌+◌, ◌≤◌, None, Some, ap, drop, get_or, length, refl, subst, sym, arith}
 use Rattle.std.specs.Prelude.{ℤ, pos}
 use Rattle.step_table.specs.declared.step.Step.{Step}
 use Rattle.ticks.specs.declared.moment.Ms.{Ms}

@@ -1,7 +1,6 @@
 use Rattle.std.proofs.Common.{◌≡◌, ◌<◌, ◌++◌, ℕ, List, ap, subst, sym, ◌∙◌, arith, length}
 use Rattle.std.proofs.lemmas.Grind.{common_steps}
 use Rattle.std.specs.List.{AllByRecursion, filter_map}
-use Rattle.sample_store.specs.Samples.{chosen}
 use Rattle.promql_meaning.specs.Selecting.{newest_row}
 use Rattle.plain_eval.specs.Numbered.{row_numbered}
 use Rattle.plain_eval.proofs.Newest.{all_within, made_of, same_passing}
