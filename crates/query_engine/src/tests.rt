@@ -5,7 +5,7 @@ mod rows;
 
 use crate::evaluate;
 use frac_text::write_number;
-use label_set::{Labels, METRIC_NAME};
+use label_set::{Labels, METRIC_NAME, Text};
 use promql_meaning::{Answer, Outcome, ResultSeries};
 use sample_store::Store;
 use std::alloc::{AllocError, Global};
@@ -176,7 +176,7 @@ fn counted<W: Ledger>(
     alloc: Global,
     store: &Store,
     when: &(Grid, bool),
-    query: &str,
+    query: &Text,
     blank: Blank,
 ) -> Result<Outcome, AllocError>
     requires name { blank.name ≡ W.name }
@@ -184,7 +184,7 @@ fn counted<W: Ledger>(
     requires three { blank.parts ≡ 3 }
 {
     let mut work = Work::<W>::new(blank);
-    evaluate(alloc, query, &when.0, when.1, store, &mut work)
+    evaluate(alloc, query.as_str(), &when.0, when.1, store, &mut work)
 }
 
 /// What a text comes to, with counters that nobody reads.
@@ -194,7 +194,8 @@ fn outcome_of(
     when: &(Grid, bool),
     query: &str,
 ) -> Result<Outcome, AllocError> {
-    counted::<Brand>(alloc, store, when, query, Blank::new(3))
+    let query = Text::of(alloc, query)?;
+    counted::<Brand>(alloc, store, when, &query, Blank::new(3))
 }
 
 fn comes_to(alloc: Global, series: &str, when: &str, query: &str) -> Result<Vec<u8>, Fail> {
