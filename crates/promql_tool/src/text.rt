@@ -1,16 +1,34 @@
 //! The lines of a report.
-ghost use Rattle.promql_tool.specs.Report.{fault_text, reason_text, refusal_name, refusal_text, refused_line, totals_text, verdict_text};
+ghost use Rattle.promql_tool.specs.Report.{fault_text, reason_text, refusal_name, refusal_text, refused_line, totals_text, value_text, verdict_text};
 ghost use Rattle.std.specs.Prelude.{◌≡◌, ◌++◌, string_bytes, IfOk, OnOk};
 
+use crate::outcome_text::append_outcome;
 use crate::script::ScriptRefusal;
 use crate::verdict::{Reason, Verdict};
 use frac_text::write_number;
 use std::alloc::{AllocError, Global};
+use xfrac::XFrac;
 
-fn append_reason(reason: &Reason, into: &mut Vec<u8>) -> Result<(), AllocError>
+/// Appends a scalar's value, or that it has none.
+fn append_value(value: Option<XFrac>, into: &mut Vec<u8>) -> Result<(), AllocError>
+    ensures { OnOk result (into.new.items ≡ into.old.items ++ value_text value) }
+{
+    match value {
+        Some(value) => write_number(&value, into),
+        None => into.extend_from_slice(b"nothing"),
+    }
+}
+
+fn append_reason(alloc: Global, reason: &Reason, into: &mut Vec<u8>) -> Result<(), AllocError>
     ensures { OnOk result (into.new.items ≡ into.old.items ++ reason_text reason.now) }
 {
     match reason {
+        Reason::Unexpected(outcome) => {
+            into.extend_from_slice(b"unexpected ")?;
+            append_outcome(alloc, outcome, into)
+        }
+        Reason::NotScalar => into.extend_from_slice(b"expected a scalar"),
+        Reason::NotVector => into.extend_from_slice(b"expected a vector"),
         Reason::Missing(labels) => {
             into.extend_from_slice(b"missing ")?;
             labels.write(into)
@@ -30,6 +48,12 @@ fn append_reason(reason: &Reason, into: &mut Vec<u8>) -> Result<(), AllocError>
             into.extend_from_slice(b" got ")?;
             write_number(got, into)
         }
+        Reason::ScalarDiffers { wanted, got } => {
+            into.extend_from_slice(b"scalar expected ")?;
+            write_number(wanted, into)?;
+            into.extend_from_slice(b" got ")?;
+            append_value(*got, into)
+        }
     }
 }
 
@@ -42,7 +66,7 @@ pub fn verdict_line(alloc: Global, path: &str, verdict: &Verdict) -> Result<Vec<
         None => Ok(format!(in alloc; "PASS {path}:{line}\n")?.into_bytes()),
         Some(reason) => {
             let mut text = format!(in alloc; "FAIL {path}:{line} ")?.into_bytes();
-            append_reason(reason, &mut text)?;
+            append_reason(alloc, reason, &mut text)?;
             text.extend_from_slice(b"\n")?;
             Ok(text)
         }
