@@ -1,12 +1,12 @@
 -- What a fetch found.
-use Rattle.std.proofs.Common.{◌≡◌, ◌<◌, ℕ, ◌+◌, List, length, Result, Ok, Err, IfOk, IfSome, Option, None, Some, refl, sym, arith, replicate}
+use Rattle.std.proofs.Common.{◌≡◌, ◌<◌, ℕ, ◌+◌, List, length, Result, Ok, Err, IfOk, IfSome, Option, None, Some, refl, arith, replicate}
 use Rattle.std.specs.Prelude.{IsSomeAnd}
 use Rattle.std.proofs.lemmas.Bool.{lt-ltb}
 use Rattle.std.proofs.lemmas.List.{length-replicate}
 use Rattle.edge_io.specs.Told.{Tells}
 use Rattle.edge_io.specs.declared.library.Fetched.TheVariants.{Whole, PastLimit}
 use Rattle.promql_tool.specs.Grammar.{limit}
-use Rattle.promql_tool.specs.Report.{report_found}
+use Rattle.promql_tool.specs.Report.{IsReportFound}
 use Rattle.promql_tool.specs.Found.{IsFound, IsReading, IsJudged, report_seen}
 use Rattle.promql_tool.specs.declared.fetch.FileRead.{FileRead}
 use Rattle.promql_tool.specs.declared.fetch.FileRead.TheVariants.{Judged, Refused, Gone}
@@ -30,8 +30,8 @@ module _ (sound : Type 0) (path : List ℕ) where
   past_limit : (most : ℕ) → most < length {A = ℕ} (replicate (most + 1) 0)
   past_limit most = omega (arith, length-replicate {A = ℕ} (most + 1) 0)
 
-  past_report : (bytes : List ℕ) → limit < length bytes → report_seen path (Refused TooLarge) ≡ report_found path (Some bytes)
-  past_report bytes lt = sym (rw (lt-ltb limit (length bytes) lt) refl)
+  past_report : (bytes : List ℕ) → limit < length bytes → IsReportFound path (Some bytes) (report_seen path (Refused TooLarge))
+  past_report bytes lt = rw (lt-ltb limit (length bytes) lt) refl
 
   past_there : (found : Option (List ℕ)) → IsSomeAnd found (λ bytes. limit < length bytes) → (bytes : List ℕ) × (found ≡ Some bytes) × (limit < length bytes)
   past_there None h = absurd h

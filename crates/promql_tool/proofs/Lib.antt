@@ -4,8 +4,8 @@ pub mod Words
 pub mod Bodies
 pub mod Runs
 pub mod Loading
-pub mod Newest
 pub mod Timely
+pub mod Judgements
 pub mod Standing
 pub mod Founds
 pub mod Pieces

@@ -1,5 +1,5 @@
 -- What a fetch found, and what it came to.
-use Rattle.std.specs.Prelude.{◌≡◌, ℕ, List, Option, Some, IfSome, ⊥}
+use Rattle.std.specs.Prelude.{◌≡◌, ℕ, List, Option, Some, IfSome}
 use Rattle.promql_tool.specs.Report.{IsReportFound, Report, fault_report, refusal_report, report_judged}
 use Rattle.promql_tool.specs.declared.fetch.FileRead.{FileRead}
 use Rattle.promql_tool.specs.declared.fetch.FileRead.TheVariants.{Judged, Refused, Gone}

@@ -42,14 +42,18 @@ abbrev pub value_text : Option XFrac → List ℕ
 value_text None = codes "nothing"
 value_text (Some value) = spelling value
 
+-- which value was expected, and which is there instead
+abbrev pub values_text : XFrac → Option XFrac → List ℕ
+values_text wanted got = codes " expected " ++ (spelling wanted ++ (codes " got " ++ value_text got))
+
 abbrev pub reason_text : Reason → List ℕ
 reason_text (Unexpected outcome) = codes "unexpected " ++ outcome_text outcome
 reason_text NotScalar = codes "expected a scalar"
 reason_text NotVector = codes "expected a vector"
 reason_text (Missing labels) = codes "missing " ++ labels_text labels
 reason_text (Extra labels) = codes "unexpected series " ++ labels_text labels
-reason_text (Differs labels wanted got) = labels_text labels ++ (codes " expected " ++ (spelling wanted ++ (codes " got " ++ spelling got)))
-reason_text (ScalarDiffers wanted got) = codes "scalar expected " ++ (spelling wanted ++ (codes " got " ++ value_text got))
+reason_text (Differs labels wanted got) = labels_text labels ++ values_text wanted (Some got)
+reason_text (ScalarDiffers wanted got) = codes "scalar" ++ values_text wanted got
 
 -- `<word> <path>:<line>`, and what stands behind it
 abbrev pub placed : List ℕ → List ℕ → ℕ → List ℕ → List ℕ

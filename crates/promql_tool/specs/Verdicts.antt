@@ -1,7 +1,7 @@
 -- Whether the outcome of an evaluation is as expected, and the first reason why it isn't. (The rules of promqltest; the
 -- reasons and their order are this project's own.)
-use Rattle.std.specs.Prelude.{◌≡◌, ℕ, Bool, true, false, if◌then◌else◌, not, List, [], ◌∷◌, filter, Option, None, Some, Ok, find, is_none, option_map, IsTrue, IsSome, IsSomeAnd, ⊤, ⊥}
-use Rattle.std.specs.List.{AllByRecursion, filter_map}
+use Rattle.std.specs.Prelude.{◌≡◌, ℕ, Bool, true, false, if◌then◌else◌, not, List, [], ◌∷◌, filter, Option, None, Some, Ok, find, is_none, option_map, option_to_list, IsTrue, IsSome, IsSomeAnd}
+use Rattle.std.specs.List.{AllByRecursion, flat_map}
 use Rattle.std.specs.Ordering.{is_eq, is_gt}
 use Rattle.label_set.specs.Labels.{labels_cmp}
 use Rattle.xfrac.specs.declared.value.XFrac.{XFrac}
@@ -92,7 +92,7 @@ abbrev pub row_of_series : ResultSeries → Option Row
 row_of_series series = option_map (λ value. record { labels = series.labels; value = value }) (first_value series.points)
 
 abbrev pub rows_in : List ResultSeries → List Row
-rows_in all = filter_map row_of_series all
+rows_in all = flat_map (λ series. option_to_list (row_of_series series)) all
 
 -- a scalar's value at an instant: the first point of its one series
 abbrev pub scalar_in : List ResultSeries → Option XFrac
@@ -134,13 +134,12 @@ pub record IsReason (series : AllSeries) (text : List ℕ) (at : Ms) (expected :
 
 abbrev pub IsNoEvaluation : What → Type 0
 IsNoEvaluation (Eval at text expected) = ⊥
-IsNoEvaluation _ = ⊤
+IsNoEvaluation _ = Unit {0}
 
 -- The verdicts of commands, in order, behind commands that left these series: each evaluation has one.
 pub data AreVerdicts : AllSeries → List Command → List Verdict → Type 0 where
   ended : (series : AllSeries) → AreVerdicts series [] []
   changed : (series now : AllSeries) (command : Command) (commands : List Command) (verdicts : List Verdict) → IsNoEvaluation command.what → left_by command.what series ≡ Ok now
       → AreVerdicts now commands verdicts → AreVerdicts series (command ∷ commands) verdicts
-  evaluated : (series : AllSeries) (line : ℕ) (at : Ms) (text : List ℕ) (expected : Expected) (reason : Option Reason) (commands : List Command) (verdicts : List Verdict) → IsReason series text at expected reason
-      → AreVerdicts series commands verdicts
-      → AreVerdicts series (record { line = line; what = Eval at text expected } ∷ commands) (record { line = line; reason = reason } ∷ verdicts)
+  evaluated : (series : AllSeries) (command : Command) (at : Ms) (text : List ℕ) (expected : Expected) (reason : Option Reason) (commands : List Command) (verdicts : List Verdict) → command.what ≡ Eval at text expected
+      → IsReason series text at expected reason → AreVerdicts series commands verdicts → AreVerdicts series (command ∷ commands) (record { line = command.line; reason = reason } ∷ verdicts)

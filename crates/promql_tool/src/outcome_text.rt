@@ -79,7 +79,12 @@ fn append_refusal(
     into.extend_from_slice(place.as_bytes())
 }
 
-fn append_labelled(text: &str, labels: &Labels, into: &mut Vec<u8>) -> Result<(), AllocError>
+/// Appends a text, and labels behind it.
+pub fn append_labelled(
+    text: &str,
+    labels: &Labels,
+    into: &mut Vec<u8>,
+) -> Result<(), AllocError>
     ensures { OnOk result (into.new.items ≡ into.old.items ++ (text.now ++ labels_text labels.now)) }
 {
     into.extend_from_slice(text.as_bytes())?;

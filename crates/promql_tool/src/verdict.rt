@@ -202,6 +202,17 @@ fn judge_scalar(wanted: XFrac, got: Option<XFrac>) -> Option<Reason>
     }
 }
 
+fn judge_vector(
+    alloc: Global,
+    expected: &[Row],
+    all: &[ResultSeries],
+) -> Result<Option<Reason>, AllocError>
+    ensures { IfOk result (λ reason. reason ≡ rows_judged expected.now (rows_in all.now)) }
+{
+    let got = rows_in(alloc, all)?;
+    judge_rows(alloc, expected, got.as_slice())
+}
+
 fn judge_answer(
     alloc: Global,
     expected: &Expected,
@@ -212,16 +223,17 @@ fn judge_answer(
     match expected {
         Expected::Rows(rows) => {
             if answer.scalar {
-                return Ok(Some(Reason::NotVector));
+                Ok(Some(Reason::NotVector))
+            } else {
+                judge_vector(alloc, rows.as_slice(), answer.series.as_slice())
             }
-            let got = rows_in(alloc, answer.series.as_slice())?;
-            judge_rows(alloc, rows.as_slice(), got.as_slice())
         }
         Expected::Scalar(value) => {
-            if !answer.scalar {
-                return Ok(Some(Reason::NotScalar));
+            if answer.scalar {
+                Ok(judge_scalar(*value, scalar_in(answer.series.as_slice())))
+            } else {
+                Ok(Some(Reason::NotScalar))
             }
-            Ok(judge_scalar(*value, scalar_in(answer.series.as_slice())))
         }
     }
 }
