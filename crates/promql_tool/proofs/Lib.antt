@@ -11,6 +11,7 @@ pub mod Founds
 pub mod Pieces
 pub mod Ending
 pub mod Refusals
+pub mod Reported
 pub mod Agreements
 pub mod Counts
 pub mod Quotes

@@ -9,7 +9,7 @@ use Rattle.promql_tool.specs.declared.script.Script.{Script}
 use Rattle.promql_tool.specs.declared.script.ScriptRefusal.{ScriptRefusal}
 
 -- the status of judged verdicts is 0 or 1
-abbrev judged_status : Bool → ℕ
+abbrev pub judged_status : Bool → ℕ
 judged_status b = if b then 0 else 1
 
 zero_or_one : (b : Bool) → judged_status b ≡ 6 → ⊥
