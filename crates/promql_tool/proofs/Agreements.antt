@@ -1,13 +1,18 @@
 -- When there is no reason against a result.
 use Rattle.std.proofs.Common.{◌≡◌, Bool, true, false, cond, List, [], ◌∷◌, filter, not, Option, None, Some, refl, ap, ◌∙◌, subst, IsTrue}
-use Rattle.std.specs.Prelude.{is_none, IsSome, IsSomeAnd}
+use Rattle.std.specs.Prelude.{if◌then◌else◌, is_none, IsSome, IsSomeAnd}
 use Rattle.std.specs.List.{AllByRecursion}
 use Rattle.std.specs.Ordering.{is_gt}
 use Rattle.label_set.specs.Labels.{labels_cmp}
 use Rattle.xfrac.specs.declared.value.XFrac.{XFrac}
 use Rattle.xfrac.specs.Near.{is_near}
+use Rattle.promql_meaning.specs.declared.answer.Outcome.{Outcome}
+use Rattle.promql_meaning.specs.declared.answer.Outcome.TheVariants as outcome
+use Rattle.promql_tool.specs.declared.script.Expected.{Expected}
+use Rattle.promql_tool.specs.declared.script.Expected.TheVariants.{Rows, Scalar}
 use Rattle.promql_tool.specs.declared.script.Row.{Row}
-use Rattle.promql_tool.specs.Verdicts.{value_under, is_lacking, is_apart, is_differing, lesser, least, differs, first_reason, judged, IsMet, Agrees}
+use Rattle.promql_tool.specs.declared.verdict.Reason.TheVariants.{NotScalar, NotVector, ScalarDiffers}
+use Rattle.promql_tool.specs.Verdicts.{value_under, is_lacking, is_apart, is_differing, lesser, least, differs, first_reason, rows_judged, scalar_judged, rows_in, scalar_in, judged, IsMet, Agrees, IsAsExpected}
 
 module _ {X : Type 0} where
   -- nothing passes a test where the list of what passes is empty, and the other way round
@@ -108,7 +113,7 @@ module _ (expected got : List Row) where
   parts None None None d h = (refl, refl, refl)
   parts None None (Some row) d h = absurd (no_difference row (d row refl) h)
 
-  pub no_reason : judged expected got ≡ None → Agrees expected got
+  pub no_reason : rows_judged expected got ≡ None → Agrees expected got
   no_reason h =
       let none = parts missing extra differing (λ row e. least_is (λ r. is_differing got r ≡ true) (filter (is_differing got) expected) row (each_passes (is_differing got) expected) e) h in
       record {
@@ -118,7 +123,7 @@ module _ (expected got : List Row) where
             (none_pass (is_lacking expected) got (no_least (filter (is_lacking expected) got) none.1));
       }
 
-  pub no_reason_if : Agrees expected got → judged expected got ≡ None
+  pub no_reason_if : Agrees expected got → rows_judged expected got ≡ None
   no_reason_if h =
       let lacking = empty_filter (is_lacking got) expected (one (IsMet got) (λ r. is_lacking got r ≡ false) (λ r m. met_there (value_under r.labels got) r.value m) expected h.each) in
       let other = empty_filter (is_lacking expected) got (one (λ r. IsSome (value_under r.labels expected)) (λ r. is_lacking expected r ≡ false) (λ r s. not_lacking (value_under r.labels expected) s) got h.no_other) in
@@ -126,3 +131,38 @@ module _ (expected got : List Row) where
       ap (λ l. first_reason (least l) extra differing got) lacking
       ∙ ap (λ l. first_reason None (least l) differing got) other
       ∙ ap (λ l. first_reason None None (least l) got) apart
+
+-- a scalar is near the expected one
+near_scalar : (wanted : XFrac) (got : Option XFrac) → scalar_judged wanted got ≡ None → IsSomeAnd got (λ v. IsTrue (is_near wanted v))
+near_scalar wanted None h = absurd (cc)
+near_scalar wanted (Some got) h =
+    elim (is_near wanted got) as (λ b. (if b then None else Some (ScalarDiffers wanted (Some got))) ≡ None → IsTrue b) [ true ↦ λ _. refl | false ↦ λ e. absurd (cc) ] h
+
+near_scalar_if : (wanted : XFrac) (got : Option XFrac) → IsSomeAnd got (λ v. IsTrue (is_near wanted v)) → scalar_judged wanted got ≡ None
+near_scalar_if wanted None h = absurd h
+near_scalar_if wanted (Some got) h = rw h refl
+
+pub as_expected : (expected : Expected) (got : Outcome) → judged expected got ≡ None → IsAsExpected expected got
+as_expected (Rows rows) (outcome.Answer answer) h =
+    elim answer.scalar as (λ b. (if b then Some NotVector else rows_judged rows (rows_in answer.series)) ≡ None → (b ≡ false) × Agrees rows (rows_in answer.series)) [
+      | true ↦ λ e. absurd (cc)
+      | false ↦ λ e. (refl, no_reason rows (rows_in answer.series) e)
+    ] h
+as_expected (Scalar value) (outcome.Answer answer) h =
+    elim answer.scalar as (λ b. (if b then scalar_judged value (scalar_in answer.series) else Some NotScalar) ≡ None → (b ≡ true) × IsSomeAnd (scalar_in answer.series) (λ v. IsTrue (is_near value v))) [
+      | true ↦ λ e. (refl, near_scalar value (scalar_in answer.series) e)
+      | false ↦ λ e. absurd (cc)
+    ] h
+as_expected expected (outcome.Refused refusal) h = absurd (cc)
+as_expected expected (outcome.Failed at mark) h = absurd (cc)
+as_expected expected (outcome.TooManyRows at) h = absurd (cc)
+
+pub as_expected_if : (expected : Expected) (got : Outcome) → IsAsExpected expected got → judged expected got ≡ None
+as_expected_if (Rows rows) (outcome.Answer answer) h = rw h.0 (no_reason_if rows (rows_in answer.series) h.1)
+as_expected_if (Scalar value) (outcome.Answer answer) h = rw h.0 (near_scalar_if value (scalar_in answer.series) h.1)
+as_expected_if (Rows rows) (outcome.Refused refusal) h = absurd h
+as_expected_if (Rows rows) (outcome.Failed at mark) h = absurd h
+as_expected_if (Rows rows) (outcome.TooManyRows at) h = absurd h
+as_expected_if (Scalar value) (outcome.Refused refusal) h = absurd h
+as_expected_if (Scalar value) (outcome.Failed at mark) h = absurd h
+as_expected_if (Scalar value) (outcome.TooManyRows at) h = absurd h

@@ -1,12 +1,12 @@
 -- What a fetch found.
-use Rattle.std.proofs.Common.{◌≡◌, ◌<◌, ℕ, ◌+◌, List, length, Result, Ok, Err, IfOk, IfSome, Option, None, Some, refl, sym, arith, replicate}
+use Rattle.std.proofs.Common.{◌≡◌, ◌<◌, ℕ, ◌+◌, List, length, Result, Ok, Err, IfOk, IfSome, Option, None, Some, refl, arith, replicate}
 use Rattle.std.specs.Prelude.{IsSomeAnd}
 use Rattle.std.proofs.lemmas.Bool.{lt-ltb}
 use Rattle.std.proofs.lemmas.List.{length-replicate}
 use Rattle.edge_io.specs.Told.{Tells}
 use Rattle.edge_io.specs.declared.library.Fetched.TheVariants.{Whole, PastLimit}
 use Rattle.promql_tool.specs.Grammar.{limit}
-use Rattle.promql_tool.specs.Report.{report_found}
+use Rattle.promql_tool.specs.Report.{IsReportFound}
 use Rattle.promql_tool.specs.Found.{IsFound, IsReading, IsJudged, report_seen}
 use Rattle.promql_tool.specs.declared.fetch.FileRead.{FileRead}
 use Rattle.promql_tool.specs.declared.fetch.FileRead.TheVariants.{Judged, Refused, Gone}
@@ -30,17 +30,18 @@ module _ (sound : Type 0) (path : List ℕ) where
   past_limit : (most : ℕ) → most < length {A = ℕ} (replicate (most + 1) 0)
   past_limit most = omega (arith, length-replicate {A = ℕ} (most + 1) 0)
 
-  past_report : (bytes : List ℕ) → limit < length bytes → report_seen path (Refused TooLarge) ≡ report_found path (Some bytes)
-  past_report bytes lt = sym (rw (lt-ltb limit (length bytes) lt) refl)
+  past_report : (bytes : List ℕ) → limit < length bytes → IsReportFound path (Some bytes) (report_seen path (Refused TooLarge))
+  past_report bytes lt = rw (lt-ltb limit (length bytes) lt) refl
+
+  past_seen : (told : Option (List ℕ → Option (List ℕ))) (bytes : List ℕ) → limit < length bytes → IsFound told sound path (Some bytes) → IsReading told sound path (Refused TooLarge)
+  past_seen told bytes long is_found = record { found = Some bytes; is_found = is_found; reported = past_report bytes long }
 
   past_there : (found : Option (List ℕ)) → IsSomeAnd found (λ bytes. limit < length bytes) → (bytes : List ℕ) × (found ≡ Some bytes) × (limit < length bytes)
   past_there None h = absurd h
   past_there (Some bytes) h = (bytes, refl, h)
 
   pub past_read : (told : Option (List ℕ → Option (List ℕ))) (into : List ℕ) → IfSome told (λ files. Tells (files path) limit (Ok PastLimit) into) → IsReading told sound path (Refused TooLarge)
-  past_read None into h =
-      let long : limit < length {A = ℕ} (replicate (limit + 1) 0) = past_limit limit in
-      record { found = Some (replicate (limit + 1) 0); is_found = record { if_some = tt; if_sound = λ _. tt }; reported = past_report (replicate (limit + 1) 0) long }
+  past_read None into h = past_seen None (replicate (limit + 1) 0) (past_limit limit) (record { if_some = tt; if_sound = λ _. tt })
   past_read (Some files) into h =
       let there = past_there (files path) h in
-      record { found = Some there.0; is_found = told_bytes (Some files) there.0 there.1; reported = past_report there.0 there.2 }
+      past_seen (Some files) there.0 there.2 (told_bytes (Some files) there.0 there.1)

@@ -4,13 +4,14 @@ pub mod Words
 pub mod Bodies
 pub mod Runs
 pub mod Loading
-pub mod Newest
 pub mod Timely
+pub mod Judgements
 pub mod Standing
 pub mod Founds
 pub mod Pieces
 pub mod Ending
 pub mod Refusals
+pub mod Reported
 pub mod Agreements
 pub mod Counts
 pub mod Quotes

@@ -18,8 +18,11 @@ use Rattle.promql_tool.specs.Series.{is_outside, is_value, marked, parts_of, pla
 pub is_a_value : (text : List ℕ) (slash : Bool) → slash ≡ list_any (λ byte. eqb byte 92) text → slash ≡ false → IsUtf8 text → is_value text ≡ true
 is_a_value text slash is none utf8 = rw (is_utf8-from_IsUtf8 text utf8, sym is ∙ none) refl
 
+pub no_text : (text : List ℕ) → (IsUtf8 text → ⊥) → is_utf8 text ≡ false
+no_text text no_utf8 = false_from_ne_true (is_utf8 text) (λ h. no_utf8 (IsUtf8-from_is_utf8 text h))
+
 pub no_value : (text : List ℕ) → (IsUtf8 text → ⊥) → is_value text ≡ false
-no_value text no_text = and_left (is_utf8 text) _ (false_from_ne_true (is_utf8 text) (λ h. no_text (IsUtf8-from_is_utf8 text h)))
+no_value text no_utf8 = and_left (is_utf8 text) _ (no_text text no_utf8)
 
 -- ---- places
 

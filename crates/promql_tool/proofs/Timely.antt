@@ -1,6 +1,6 @@
--- The evaluations of a script are at times that can be looked back from, and its loads aren't refused.
+-- The evaluations of a script are at times that can be instants of a grid, and its loads aren't refused.
 use Rattle.std.proofs.Common.{◌≡◌, ℕ, ◌≤◌, ◌^◌, Bool, true, false, List, [], ◌∷◌, ◌++◌, length, Option, None, Some, IfSome, Result, Ok, Err, IfOk, refl, arith}
-use Rattle.std.specs.Prelude.{nat_lt, ◌&&◌, option_map, if◌then◌else◌}
+use Rattle.std.specs.Prelude.{nat_lt, ◌&&◌, option_map, if◌then◌else◌, pos}
 use Rattle.std.specs.Result.{result_ok}
 use Rattle.std.specs.List.{slice_split}
 use Rattle.std.proofs.lemmas.Bool.Decides.{nat_tests}
@@ -13,17 +13,18 @@ use Rattle.frac_text.specs.declared.refusal.TimeRefusal.{TimeRefusal}
 use Rattle.frac_text.specs.declared.refusal.TimeRefusal.TheVariants.{OutOfRange}
 use Rattle.sample_store.specs.Samples.{AllSeries}
 use Rattle.ticks.specs.Durations.{duration_in, hundred_years}
-use Rattle.ticks.specs.Walks.{IsTime}
+use Rattle.std.specs.Str.{is_utf8}
+use Rattle.ticks.specs.Grids.{IsInRange}
 use Rattle.ticks.specs.declared.moment.Ms.{Ms}
 use Rattle.xfrac.specs.declared.value.XFrac.{XFrac}
-use Rattle.promql_tool.specs.Grammar.{Heading, Clearing, Loading, Evaluating, asks_instant, command_headed, commands_in, commands_of, followed, has_no_text, head_worded, is_clear, limit, reading, rows, script_of, series_lines, text_read}
-use Rattle.promql_tool.specs.Lines.{Numbered, broken_line, lines_of, words_of}
+use Rattle.promql_tool.specs.Grammar.{Heading, Clearing, Loading, Evaluating, asks_instant, command_headed, commands_in, commands_of, followed, expected_of, has_no_text, head_worded, is_clear, limit, reading, script_of, series_lines, text_read}
+use Rattle.promql_tool.specs.Lines.{Numbered, behind_four_words, broken_line, lines_of, words_of}
 use Rattle.promql_tool.specs.Loads.{left_by_all, loads_judged}
 use Rattle.promql_tool.specs.Outcomes.{in_front, joined, then_give, then_try}
 use Rattle.promql_tool.specs.Runs.{AreTimely, IsTimely}
-use Rattle.promql_tool.specs.Tokens.{is_ascii, is_metric_name, interval_spelled, time_spelled}
+use Rattle.promql_tool.specs.Tokens.{is_ascii, interval_spelled, time_spelled}
 use Rattle.promql_tool.specs.declared.script.Command.{Command}
-use Rattle.promql_tool.specs.declared.script.Row.{Row}
+use Rattle.promql_tool.specs.declared.script.Expected.{Expected}
 use Rattle.promql_tool.specs.declared.script.Script.{Script}
 use Rattle.promql_tool.specs.declared.script.ScriptRefusal.{ScriptRefusal}
 use Rattle.promql_tool.specs.declared.script.ScriptRefusal.TheVariants.{TooLarge}
@@ -31,6 +32,9 @@ use Rattle.promql_tool.specs.declared.script.SeriesLine.{SeriesLine}
 use Rattle.promql_tool.specs.declared.script.What.TheVariants.{Load, Eval}
 
 -- ---- times
+
+abbrev IsInstant : Ms → Type 0
+IsInstant t = IsInRange t.0 t.0 (pos 1)
 
 abbrev IsNear : ℕ → Type 0
 IsNear n = n ≤ 10 ^ 14
@@ -57,20 +61,20 @@ amount-near : (text : List ℕ) → IfOk (amount_answer text) IsNear
 unfolding amount_answer
 amount-near text = duration-near (duration_in text) text
 
-signed-timely : (negative : Bool) (r : Result ℕ TimeRefusal) → IfOk r IsNear → IfOk (signed negative r) (λ (t : Ms). IsTime t.0)
-signed-timely true (Ok n) near = record { low = omega (arith, ints); high = omega (arith, ints) }
-signed-timely false (Ok n) near = record { low = omega (arith, ints); high = omega (arith, ints) }
+signed-timely : (negative : Bool) (r : Result ℕ TimeRefusal) → IfOk r IsNear → IfOk (signed negative r) IsInstant
+signed-timely true (Ok n) near = record { first = omega (arith, ints); ordered = omega (arith, ints); last = omega (arith, ints); forward = omega (arith, ints) }
+signed-timely false (Ok n) near = record { first = omega (arith, ints); ordered = omega (arith, ints); last = omega (arith, ints); forward = omega (arith, ints) }
 signed-timely negative (Err refusal) near = tt
 
-answer-timely : (text : List ℕ) → IfOk (time_answer text) (λ (t : Ms). IsTime t.0)
+answer-timely : (text : List ℕ) → IfOk (time_answer text) IsInstant
 answer-timely text = signed-timely (is_negative text) (amount_answer (amount_of text)) (amount-near (amount_of text))
 
-ok-timely : (r : Result Ms TimeRefusal) → IfOk r (λ (t : Ms). IsTime t.0) → IfSome (result_ok r) (λ (t : Ms). IsTime t.0)
+ok-timely : (r : Result Ms TimeRefusal) → IfOk r IsInstant → IfSome (result_ok r) IsInstant
 ok-timely (Ok t) h = h
 ok-timely (Err refusal) h = tt
 
-spelled-timely : (text : List ℕ) → IfSome (time_spelled text) (λ (t : Ms). IsTime t.0)
-spelled-timely text = elim (is_ascii text) as (λ b. IfSome (if b then result_ok (time_answer text) else None) (λ (t : Ms). IsTime t.0)) [ true ↦ ok-timely (time_answer text) (answer-timely text) | false ↦ tt ]
+spelled-timely : (text : List ℕ) → IfSome (time_spelled text) IsInstant
+spelled-timely text = elim (is_ascii text) as (λ b. IfSome (if b then result_ok (time_answer text) else None) IsInstant) [ true ↦ ok-timely (time_answer text) (answer-timely text) | false ↦ tt ]
 
 -- ---- commands
 
@@ -78,7 +82,7 @@ abbrev IsTimelyHead : Option Heading → Type 0
 IsTimelyHead None = Unit {0}
 IsTimelyHead (Some Clearing) = Unit {0}
 IsTimelyHead (Some (Loading interval)) = Unit {0}
-IsTimelyHead (Some (Evaluating at name)) = IsTime at.0
+IsTimelyHead (Some (Evaluating at text)) = IsInstant at
 
 clear-timely : (b : Bool) → IsTimelyHead (if b then Some Clearing else None)
 clear-timely true = tt
@@ -89,19 +93,18 @@ load-timely true None = tt
 load-timely true (Some interval) = tt
 load-timely false interval = tt
 
-eval-timely : (b : Bool) (name : List ℕ) (at : Option Ms) → IfSome at (λ (t : Ms). IsTime t.0) → IsTimelyHead (if b then option_map (λ ms. Evaluating ms name) at else None)
-eval-timely true name None h = tt
-eval-timely true name (Some at) h = h
-eval-timely false name at h = tt
+eval-timely : (b : Bool) (text : List ℕ) (at : Option Ms) → IfSome at IsInstant → IsTimelyHead (if b then option_map (λ ms. Evaluating ms text) at else None)
+eval-timely true text None h = tt
+eval-timely true text (Some at) h = h
+eval-timely false text at h = tt
 
-head-timely : (words : List (List ℕ)) → IsTimelyHead (head_worded words)
-head-timely [] = tt
-head-timely (a ∷ []) = clear-timely _
-head-timely (a ∷ b ∷ []) = load-timely _ (interval_spelled b)
-head-timely (a ∷ b ∷ c ∷ []) = tt
-head-timely (a ∷ b ∷ c ∷ d ∷ []) = tt
-head-timely (a ∷ b ∷ c ∷ d ∷ e ∷ []) = eval-timely (asks_instant a b c && is_metric_name e) e (time_spelled d) (spelled-timely d)
-head-timely (a ∷ b ∷ c ∷ d ∷ e ∷ f ∷ words) = tt
+head-timely : (words : List (List ℕ)) (rest : List ℕ) → IsTimelyHead (head_worded words rest)
+head-timely [] rest = tt
+head-timely (a ∷ []) rest = clear-timely _
+head-timely (a ∷ b ∷ []) rest = load-timely _ (interval_spelled b)
+head-timely (a ∷ b ∷ c ∷ []) rest = tt
+head-timely (a ∷ b ∷ c ∷ d ∷ []) rest = tt
+head-timely (a ∷ b ∷ c ∷ d ∷ e ∷ words) rest = eval-timely (asks_instant a b c && is_utf8 rest) rest (time_spelled d) (spelled-timely d)
 
 abbrev IsTimelyCommand : Result Command ScriptRefusal → Type 0
 IsTimelyCommand r = IfOk r (λ (command : Command). IsTimely command.what)
@@ -110,15 +113,15 @@ loaded-timely : (line : ℕ) (interval : Ms) (r : Result (List SeriesLine) Scrip
 loaded-timely line interval (Ok lines) = tt
 loaded-timely line interval (Err refusal) = tt
 
-evaluated-timely : (line : ℕ) (at : Ms) (name : List ℕ) (r : Result (List Row) ScriptRefusal) → IsTime at.0 → IsTimelyCommand (then_give r (λ expected. record { line = line; what = Eval at name expected }))
-evaluated-timely line at name (Ok expected) h = h
-evaluated-timely line at name (Err refusal) h = tt
+evaluated-timely : (line : ℕ) (at : Ms) (text : List ℕ) (r : Result Expected ScriptRefusal) → IsInstant at → IsTimelyCommand (then_give r (λ expected. record { line = line; what = Eval at text expected }))
+evaluated-timely line at text (Ok expected) h = h
+evaluated-timely line at text (Err refusal) h = tt
 
 headed-timely : (line : ℕ) (head : Option Heading) (body : List Numbered) → IsTimelyHead head → IsTimelyCommand (command_headed line head body)
 headed-timely line None body h = tt
 headed-timely line (Some Clearing) body h = tt
 headed-timely line (Some (Loading interval)) body h = loaded-timely line interval (series_lines body)
-headed-timely line (Some (Evaluating at name)) body h = evaluated-timely line at name (rows body) h
+headed-timely line (Some (Evaluating at text)) body h = evaluated-timely line at text (expected_of body) h
 
 abbrev AreTimelyCommands : Result (List Command) ScriptRefusal → Type 0
 AreTimelyCommands r = IfOk r AreTimely
@@ -139,8 +142,8 @@ followed-timely (Ok command) later h k =
 run-timely : (run : List Numbered) → AreTimelyCommands (commands_in run)
 run-timely [] = tt
 run-timely (line ∷ body) =
-    followed-timely (command_headed line.number (head_worded (words_of line.text)) body) (commands_in body)
-    (headed-timely line.number (head_worded (words_of line.text)) body (head-timely (words_of line.text))) (run-timely body)
+    let head = head_worded (words_of line.text) (behind_four_words line.text) in
+    followed-timely (command_headed line.number head body) (commands_in body) (headed-timely line.number head body (head-timely (words_of line.text) (behind_four_words line.text))) (run-timely body)
 
 joined-timely : (said rest : Result (List Command) ScriptRefusal) → AreTimelyCommands said → AreTimelyCommands rest → AreTimelyCommands (joined said rest)
 joined-timely (Ok xs) rest h k = front-timely xs rest h k

@@ -1,6 +1,6 @@
 -- Lines of words, by their number.
-use Rattle.std.proofs.Common.{◌≡◌, ◌≢◌, ◌≤◌, ℕ, List, [], ◌∷◌, length, get_or, map, refl, None, Bor, Ok, Err, arith}
-use Rattle.promql_tool.specs.Grammar.{head_worded, items_spelled, number_alone, series_worded, words_behind}
+use Rattle.std.proofs.Common.{◌≡◌, ◌≢◌, ◌≤◌, ℕ, List, [], ◌∷◌, length, get_or, map, refl, Bor, Ok, Err, arith}
+use Rattle.promql_tool.specs.Grammar.{items_spelled, number_alone, series_worded, words_behind}
 use Rattle.promql_tool.specs.Series.{LabelList, series_at, without_comment}
 use Rattle.promql_tool.specs.Tokens.{number_spelled}
 use Rattle.promql_tool.specs.declared.script.SeriesItem.{SeriesItem}
@@ -8,15 +8,6 @@ use Rattle.promql_tool.specs.declared.script.WordRefusal.TheVariants.{NoForm}
 use Rattle.xfrac.specs.declared.value.XFrac.{XFrac}
 
 module _ (f : Bor (List ℕ) → List ℕ) where
-  pub head_of_none : (words : List (Bor (List ℕ))) → length words ≢ 1 → length words ≢ 2 → length words ≢ 5 → head_worded (map f words) ≡ None
-  head_of_none [] g h k = refl
-  head_of_none (a ∷ []) g h k = absurd (g refl)
-  head_of_none (a ∷ b ∷ []) g h k = absurd (h refl)
-  head_of_none (a ∷ b ∷ c ∷ []) g h k = refl
-  head_of_none (a ∷ b ∷ c ∷ d ∷ []) g h k = refl
-  head_of_none (a ∷ b ∷ c ∷ d ∷ e ∷ []) g h k = absurd (k refl)
-  head_of_none (a ∷ b ∷ c ∷ d ∷ e ∷ g' ∷ words) g h k = refl
-
   -- a number is alone
   pub number_beside : (words : List (Bor (List ℕ))) (d : Bor (List ℕ)) (value : XFrac) → 2 ≤ length words → number_spelled (f (get_or words 0 d)) ≡ Ok value → number_alone (map f words) ≡ Err NoForm
   number_beside [] d value two is = absurd (omega arith)

@@ -3,7 +3,7 @@ use Rattle.std.specs.Prelude.{◌≡◌, ◌==◌, ℕ, List, IsTrue, Option, So
 use Rattle.std.specs.List.{list_any}
 use Rattle.edge_io.specs.Causes.{Rose}
 use Rattle.edge_io.specs.Written.{appended, WroteFront}
-use Rattle.promql_tool.specs.Report.{Report, path_of, refusal_text, report_found, usage}
+use Rattle.promql_tool.specs.Report.{IsReportFound, Report, path_of, refusal_text, usage, usage_report}
 use Rattle.promql_tool.specs.Grammar.{reading}
 use Rattle.promql_tool.specs.declared.script.ScriptRefusal.{ScriptRefusal}
 use Rattle.promql_tool.specs.Found.{IsFound}
@@ -39,24 +39,24 @@ pub record LibraryRun : Type 1 where
   pub faults_now : ℕ
   pub sound : Type 0
 
--- the report of what a fetch of this path found
-pub record RunsPath (library : LibraryRun) (out : SinkRun) (status : ℕ) (path : List ℕ) : Type 0 where
-  pub found : Option (List ℕ)
-  pub is_found : IsFound library.told library.sound path found
-  pub fault : status ≡ 3 → Rose library.faults_before library.faults_now
-  pub ends : Ends out (report_found path found) status
-
-abbrev pub usage_report : Report
-usage_report = record { text = usage; status = 2 }
+-- The run of a path: memory ran out before anything was written, or a report of what a fetch of it found was printed.
+pub data RunsPath (library : LibraryRun) (out : SinkRun) (status : ℕ) (path : List ℕ) : Type 0 where
+  Unread : status ≡ 7 → out.now ≡ out.before → RunsPath library out status path
+  Read : (found : Option (List ℕ)) (report : Report) → IsFound library.told library.sound path found → IsReportFound path found report → (status ≡ 3 → Rose library.faults_before library.faults_now)
+      → Ends out report status → RunsPath library out status path
 
 -- the run of these words
 abbrev pub RunsWords : List (List ℕ) → LibraryRun → SinkRun → ℕ → Type 0
 RunsWords words library out status = MatchOption (path_of words) (Ends out usage_report status) (RunsPath library out status)
 
--- A front was written of what the run would have printed: the usage line, or the report of what a fetch found.
+-- Nothing was written, or a front of a report of what a fetch found.
+pub data IsCutPath (told : Option (List ℕ → Option (List ℕ))) (sound : Type 0) (before now : Option (List ℕ)) (path : List ℕ) : Type 0 where
+  Unwritten : now ≡ before → IsCutPath told sound before now path
+  Front : (found : Option (List ℕ)) (report : Report) → IsFound told sound path found → IsReportFound path found report → WroteFront before now report.text → IsCutPath told sound before now path
+
+-- A front was written of what the run would have printed: the usage line, or a report of what a fetch found.
 abbrev pub IsCut : List (List ℕ) → Option (List ℕ → Option (List ℕ)) → Type 0 → Option (List ℕ) → Option (List ℕ) → Type 0
-IsCut words told sound before now = MatchOption (path_of words) (WroteFront before now usage)
-    (λ path. (found : Option (List ℕ)) × IsFound told sound path found × WroteFront before now (report_found path found).text)
+IsCut words told sound before now = MatchOption (path_of words) (WroteFront before now usage) (IsCutPath told sound before now)
 
 -- the bytes of a file are no script, and its first refused line was printed
 pub record IsRefused (path : List ℕ) (found : Option (List ℕ)) (before now : Option (List ℕ)) : Type 0 where

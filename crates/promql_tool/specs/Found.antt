@@ -1,6 +1,6 @@
 -- What a fetch found, and what it came to.
 use Rattle.std.specs.Prelude.{◌≡◌, ℕ, List, Option, Some, IfSome}
-use Rattle.promql_tool.specs.Report.{Report, report_found, report_judged, refusal_text, fault_text}
+use Rattle.promql_tool.specs.Report.{IsReportFound, Report, fault_report, refusal_report, report_judged}
 use Rattle.promql_tool.specs.declared.fetch.FileRead.{FileRead}
 use Rattle.promql_tool.specs.declared.fetch.FileRead.TheVariants.{Judged, Refused, Gone}
 
@@ -13,11 +13,11 @@ pub record IsFound (told : Option (List ℕ → Option (List ℕ))) (sound : Typ
 -- the report of what a file came to
 abbrev pub report_seen : List ℕ → FileRead → Report
 report_seen path (Judged verdicts) = report_judged path verdicts
-report_seen path (Refused refusal) = record { text = refusal_text path refusal; status = 6 }
-report_seen path Gone = record { text = fault_text path; status = 3 }
+report_seen path (Refused refusal) = refusal_report path refusal
+report_seen path Gone = fault_report path
 
 abbrev pub IsBytes : List ℕ → FileRead → Type 0
-IsBytes bytes read = (path : List ℕ) → report_seen path read ≡ report_found path (Some bytes)
+IsBytes bytes read = (path : List ℕ) → IsReportFound path (Some bytes) (report_seen path read)
 
 -- nothing was evaluated
 abbrev pub IsUnjudged : FileRead → Type 0
@@ -34,4 +34,4 @@ IsJudged bytes (Refused refusal) = IsBytes bytes (Refused refusal)
 pub record IsReading (told : Option (List ℕ → Option (List ℕ))) (sound : Type 0) (path : List ℕ) (read : FileRead) : Type 0 where
   pub found : Option (List ℕ)
   pub is_found : IsFound told sound path found
-  pub reported : report_seen path read ≡ report_found path found
+  pub reported : IsReportFound path found (report_seen path read)

@@ -2,17 +2,18 @@
 --
 -- A file's lines stand in blocks, parted by empty lines. The first line of a block is a command; behind `load` the others
 -- are series, behind `eval` they are results, and behind `clear` the next is a command again. The first line that fits no
--- form at its place is refused.
+-- form at its place is refused. The text of a query is not read here.
 use Rattle.std.specs.Prelude.{ℕ, Bool, true, false, if◌then◌else◌, List, [], ◌∷◌, ◌++◌, length, nat_lt, ◌&&◌, Option, None, Some, Result, Ok, Err, codes, bytes_eq, option_map}
 use Rattle.std.specs.List.{slice_split, list_any}
 use Rattle.std.specs.Ordering.{is_eq}
+use Rattle.std.specs.Str.{is_utf8}
 use Rattle.label_set.specs.Labels.{labels_cmp}
-use Rattle.promql_tool.specs.Lines.{Numbered, broken_line, is_blank, is_empty, lines_of, words_of}
+use Rattle.promql_tool.specs.Lines.{Numbered, behind_four_words, broken_line, is_blank, is_empty, lines_of, words_of}
 use Rattle.promql_tool.specs.Items.{item_spelled}
 use Rattle.promql_tool.specs.Loads.{loads_judged}
 use Rattle.promql_tool.specs.Outcomes.{each_of, in_front, joined, onto, then_give, then_try}
 use Rattle.promql_tool.specs.Series.{LabelList, series_at, without_comment}
-use Rattle.promql_tool.specs.Tokens.{interval_spelled, is_metric_name, number_spelled, time_spelled}
+use Rattle.promql_tool.specs.Tokens.{interval_spelled, number_spelled, time_spelled}
 use Rattle.ticks.specs.declared.Ms.{Ms}
 use Rattle.xfrac.specs.declared.value.XFrac.{XFrac}
 use Rattle.promql_tool.specs.declared.script.ScriptRefusal.{ScriptRefusal}
@@ -23,6 +24,8 @@ use Rattle.promql_tool.specs.declared.script.Script.{Script}
 use Rattle.promql_tool.specs.declared.script.Command.{Command}
 use Rattle.promql_tool.specs.declared.script.What.{What}
 use Rattle.promql_tool.specs.declared.script.What.TheVariants.{Clear, Load, Eval}
+use Rattle.promql_tool.specs.declared.script.Expected.{Expected}
+use Rattle.promql_tool.specs.declared.script.Expected.TheVariants.{Rows, Scalar}
 use Rattle.promql_tool.specs.declared.script.SeriesItem.{SeriesItem}
 use Rattle.promql_tool.specs.declared.script.SeriesLine.{SeriesLine}
 use Rattle.promql_tool.specs.declared.script.Row.{Row}
@@ -73,10 +76,18 @@ number_alone [] = Err NoForm
 number_alone (word ∷ []) = number_spelled word
 number_alone (word ∷ next ∷ words) = then_try (number_spelled word) (λ _. Err NoForm)
 
--- a result: a series and one number
-abbrev pub row_worded : List ℕ → Result Row WordRefusal
-row_worded text = then_try (series_at text) (λ series.
+-- a row: a series and one number
+abbrev pub row_read : List ℕ → Result Row WordRefusal
+row_read text = then_try (series_at text) (λ series.
     then_give (number_alone (words_behind series.1)) (λ value. record { labels = series.0; value = value }))
+
+-- a row, or the refusal of a number outside the limits that stands in its place
+abbrev pub unless_outside : Result XFrac WordRefusal → Result Row WordRefusal → Result Row WordRefusal
+unless_outside (Err OutOfRange) row = Err OutOfRange
+unless_outside _ row = row
+
+abbrev pub row_worded : List ℕ → Result Row WordRefusal
+row_worded text = unless_outside (number_spelled text) (row_read text)
 
 abbrev pub row_of : Numbered → Result Row ScriptRefusal
 row_of line = at_line line.number (row_worded line.text)
@@ -103,9 +114,23 @@ rows_after seen (line ∷ lines) = onto (unless_stands seen line.number (row_of 
 abbrev pub rows : List Numbered → Result (List Row) ScriptRefusal
 rows body = rows_after [] body
 
+-- a scalar is expected, and no other result stands beside it
+abbrev pub beside_scalar : XFrac → List Numbered → Result Expected ScriptRefusal
+beside_scalar value [] = Ok (Scalar value)
+beside_scalar value (line ∷ lines) = then_try (row_of line) (λ _. Err (Malformed line.number))
+
+abbrev pub expected_by : Result XFrac WordRefusal → Numbered → List Numbered → Result Expected ScriptRefusal
+expected_by (Ok value) line lines = beside_scalar value lines
+expected_by (Err refusal) line lines = then_give (rows (line ∷ lines)) Rows
+
+-- what is expected: a scalar, which is a number alone, or a vector of rows
+abbrev pub expected_of : List Numbered → Result Expected ScriptRefusal
+expected_of [] = Ok (Rows [])
+expected_of (line ∷ lines) = expected_by (number_spelled line.text) line lines
+
 -- ---- commands
 
--- a command's line: `clear`, `load <duration>`, or `eval instant at <time> <name>`
+-- a command's line: `clear`, `load <duration>`, or `eval instant at <time> <expr>`, whose text is the rest of the line
 pub data Heading : Type 0 where
   Clearing : Heading
   Loading : Ms → Heading
@@ -121,28 +146,29 @@ abbrev pub asks_instant : List ℕ → List ℕ → List ℕ → Bool
 asks_instant word instant at = bytes_eq word (codes "eval") && (bytes_eq instant (codes "instant") && bytes_eq at (codes "at"))
 
 abbrev pub eval_worded : List ℕ → List ℕ → List ℕ → List ℕ → List ℕ → Option Heading
-eval_worded word instant at time name =
-    if (asks_instant word instant at && is_metric_name name)
-    then option_map (λ ms. Evaluating ms name) (time_spelled time) else None
+eval_worded word instant at time text =
+    if (asks_instant word instant at && is_utf8 text)
+    then option_map (λ ms. Evaluating ms text) (time_spelled time) else None
 
-abbrev pub head_worded : List (List ℕ) → Option Heading
-head_worded (word ∷ []) = clear_worded word
-head_worded (word ∷ duration ∷ []) = load_worded word duration
-head_worded (word ∷ instant ∷ at ∷ time ∷ name ∷ []) = eval_worded word instant at time name
-head_worded words = None
+-- what the words of a line ask for; the rest of the line stands behind the fourth
+abbrev pub head_worded : List (List ℕ) → List ℕ → Option Heading
+head_worded (word ∷ []) rest = clear_worded word
+head_worded (word ∷ duration ∷ []) rest = load_worded word duration
+head_worded (word ∷ instant ∷ at ∷ time ∷ next ∷ words) rest = eval_worded word instant at time rest
+head_worded words rest = None
 
 abbrev pub load_of : ℕ → Ms → List Numbered → Result Command ScriptRefusal
 load_of line interval body = then_give (series_lines body) (λ lines. record { line = line; what = Load interval lines })
 
 abbrev pub eval_of : ℕ → Ms → List ℕ → List Numbered → Result Command ScriptRefusal
-eval_of line at name body = then_give (rows body) (λ expected. record { line = line; what = Eval at name expected })
+eval_of line at text body = then_give (expected_of body) (λ expected. record { line = line; what = Eval at text expected })
 
 -- the command of a line, with the lines behind it
 abbrev pub command_headed : ℕ → Option Heading → List Numbered → Result Command ScriptRefusal
 command_headed line None body = Err (Malformed line)
 command_headed line (Some Clearing) body = Ok (record { line = line; what = Clear })
 command_headed line (Some (Loading interval)) body = load_of line interval body
-command_headed line (Some (Evaluating at name)) body = eval_of line at name body
+command_headed line (Some (Evaluating at text)) body = eval_of line at text body
 
 abbrev pub is_clear : What → Bool
 is_clear Clear = true
@@ -155,7 +181,7 @@ followed later command = if is_clear command.what then in_front (command ∷ [])
 -- the commands of the lines between two empty ones
 abbrev pub commands_in : List Numbered → Result (List Command) ScriptRefusal
 commands_in [] = Ok []
-commands_in (line ∷ body) = then_try (command_headed line.number (head_worded (words_of line.text)) body) (followed (commands_in body))
+commands_in (line ∷ body) = then_try (command_headed line.number (head_worded (words_of line.text) (behind_four_words line.text)) body) (followed (commands_in body))
 
 abbrev pub commands_of : List (List Numbered) → Result (List Command) ScriptRefusal
 commands_of [] = Ok []

@@ -7,10 +7,10 @@ pub mod Loads
 pub mod Grammar
 pub mod Views
 pub mod Readings
-pub mod Samples
 pub mod Verdicts
 pub mod Lookups
 pub mod Runs
+pub mod OutcomeTexts
 pub mod Report
 pub mod Found
 pub mod Ends

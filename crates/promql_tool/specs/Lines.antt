@@ -35,6 +35,19 @@ trimmed text = reverse (from_text (reverse (from_text text)))
 abbrev pub words_of : List ℕ → List (List ℕ)
 words_of text = filter (λ word. not (is_empty word)) (slice_split is_blank text)
 
+-- a text from its first blank on
+abbrev pub from_word_end : List ℕ → List ℕ
+from_word_end [] = []
+from_word_end (byte ∷ bytes) = if is_blank byte then byte ∷ bytes else from_word_end bytes
+
+-- what stands behind the first word of a text that begins with one
+abbrev pub behind_word : List ℕ → List ℕ
+behind_word text = from_blank (from_word_end text)
+
+-- the rest of a line, behind its first four words
+abbrev pub behind_four_words : List ℕ → List ℕ
+behind_four_words text = behind_word (behind_word (behind_word (behind_word (from_blank text))))
+
 -- a line that begins with `#` is a comment, and counts as empty
 abbrev pub is_comment : List ℕ → Bool
 is_comment [] = false

@@ -105,7 +105,7 @@ pub record IsSaid (interval : Ms) (line : SeriesLine) (labels : LabelList) (at :
 abbrev pub left_by : What → AllSeries → Result AllSeries ScriptRefusal
 left_by Clear series = Ok []
 left_by (Load interval lines) series = lines_put interval lines series
-left_by (Eval at name expected) series = Ok series
+left_by (Eval at text expected) series = Ok series
 
 abbrev pub left_by_all : List Command → AllSeries → Result AllSeries ScriptRefusal
 left_by_all [] series = Ok series

@@ -66,7 +66,7 @@ TakesLoads (Err Memory) judged script = Unit {0}
 abbrev pub head_seen : Head → Heading
 head_seen Clears = Clearing
 head_seen (Loads interval) = Loading interval
-head_seen (Evaluates at name) = Evaluating at name.now
+head_seen (Evaluates at text) = Evaluating at text.now
 
 -- a run of lines
 abbrev pub run_of : Bor (List Line) → List Numbered

@@ -1,16 +1,18 @@
 -- What a run prints, and its status. (This project's own, after promqltest.)
-use Rattle.std.specs.Prelude.{ℕ, Bool, true, if◌then◌else◌, ◌==◌, ◌&&◌, ◌||◌, not, List, [], ◌∷◌, ◌++◌, Option, None, Some, Result, Ok, Err, codes, decimal, bytes_eq, count_by, is_none}
+use Rattle.std.specs.Prelude.{◌≡◌, ℕ, Bool, true, if◌then◌else◌, ◌==◌, ◌&&◌, ◌||◌, not, List, [], ◌∷◌, ◌++◌, Option, None, Some, Result, Ok, Err, codes, decimal, bytes_eq, count_by, is_none}
 use Rattle.std.specs.List.{flat_map}
 use Rattle.frac_text.specs.Spellings.{spelling}
 use Rattle.label_set.specs.LabelText.{labels_text}
 use Rattle.promql_tool.specs.Lines.{is_empty}
 use Rattle.promql_tool.specs.Grammar.{reading}
-use Rattle.promql_tool.specs.Verdicts.{verdicts_of}
+use Rattle.promql_tool.specs.OutcomeTexts.{outcome_text}
+use Rattle.promql_tool.specs.Verdicts.{AreVerdicts}
+use Rattle.xfrac.specs.declared.value.XFrac.{XFrac}
 use Rattle.promql_tool.specs.declared.script.Script.{Script}
 use Rattle.promql_tool.specs.declared.script.ScriptRefusal.{ScriptRefusal}
 use Rattle.promql_tool.specs.declared.script.ScriptRefusal.TheVariants.{Malformed, TooLarge, NotUtf8, NumberRange, BadLabels, Conflict, TooManySamples, TooManySeries}
 use Rattle.promql_tool.specs.declared.verdict.Reason.{Reason}
-use Rattle.promql_tool.specs.declared.verdict.Reason.TheVariants.{Missing, Extra, Differs}
+use Rattle.promql_tool.specs.declared.verdict.Reason.TheVariants.{Unexpected, NotScalar, NotVector, Missing, Extra, Differs, ScalarDiffers}
 use Rattle.promql_tool.specs.declared.verdict.Verdict.{Verdict}
 
 -- a word that names a file: it doesn't begin with a minus sign, or is one alone
@@ -35,10 +37,23 @@ files_of words = path_alone (path_of words)
 abbrev pub usage : List ℕ
 usage = codes "usage: promqltest [options] FILE.. or query [options] FILE EXPR\n"
 
+-- a scalar's value, or that it has none
+abbrev pub value_text : Option XFrac → List ℕ
+value_text None = codes "nothing"
+value_text (Some value) = spelling value
+
+-- which value was expected, and which is there instead
+abbrev pub values_text : XFrac → Option XFrac → List ℕ
+values_text wanted got = codes " expected " ++ (spelling wanted ++ (codes " got " ++ value_text got))
+
 abbrev pub reason_text : Reason → List ℕ
+reason_text (Unexpected outcome) = codes "unexpected " ++ outcome_text outcome
+reason_text NotScalar = codes "expected a scalar"
+reason_text NotVector = codes "expected a vector"
 reason_text (Missing labels) = codes "missing " ++ labels_text labels
 reason_text (Extra labels) = codes "unexpected series " ++ labels_text labels
-reason_text (Differs labels wanted got) = labels_text labels ++ (codes " expected " ++ (spelling wanted ++ (codes " got " ++ spelling got)))
+reason_text (Differs labels wanted got) = labels_text labels ++ values_text wanted (Some got)
+reason_text (ScalarDiffers wanted got) = codes "scalar" ++ values_text wanted got
 
 -- `<word> <path>:<line>`, and what stands behind it
 abbrev pub placed : List ℕ → List ℕ → ℕ → List ℕ → List ℕ
@@ -103,19 +118,34 @@ report_judged path verdicts = record {
   status = if failed_in verdicts == 0 then 0 else 1;
 }
 
-abbrev pub report_read : List ℕ → Result Script ScriptRefusal → Report
-report_read path (Ok script) = report_judged path (verdicts_of script)
-report_read path (Err refusal) = record { text = refusal_text path refusal; status = 6 }
+abbrev pub refusal_report : List ℕ → ScriptRefusal → Report
+refusal_report path refusal = record { text = refusal_text path refusal; status = 6 }
 
--- the report of a file by what was fetched: its bytes, or none
-abbrev pub report_found : List ℕ → Option (List ℕ) → Report
-report_found path None = record { text = fault_text path; status = 3 }
-report_found path (Some bytes) = report_read path (reading bytes)
+abbrev pub fault_report : List ℕ → Report
+fault_report path = record { text = fault_text path; status = 3 }
 
--- the report of words, by what the files have; words that are no command get the usage line
-abbrev pub report_asked : Option (List ℕ) → (List ℕ → Option (List ℕ)) → Report
-report_asked None files = record { text = usage; status = 2 }
-report_asked (Some path) files = report_found path (files path)
+abbrev pub usage_report : Report
+usage_report = record { text = usage; status = 2 }
 
-abbrev pub report : List (List ℕ) → (List ℕ → Option (List ℕ)) → Report
-report words files = report_asked (path_of words) files
+-- A report of a file by what it was read as: of a script's verdicts, or of its refusal. The outcome of a query is a relation,
+-- since what the crate `regex` takes as a pattern is one; and so are verdicts and reports.
+abbrev pub IsReportRead : List ℕ → Result Script ScriptRefusal → Report → Type 0
+IsReportRead path (Ok script) report = (verdicts : List Verdict) × AreVerdicts [] script.commands verdicts × (report ≡ report_judged path verdicts)
+IsReportRead path (Err refusal) report = report ≡ refusal_report path refusal
+
+-- a report of a file by what was fetched: its bytes, or none
+abbrev pub IsReportFound : List ℕ → Option (List ℕ) → Report → Type 0
+IsReportFound path None report = report ≡ fault_report path
+IsReportFound path (Some bytes) report = IsReportRead path (reading bytes) report
+
+-- a report of words, by what the files have; words that are no command get the usage line
+abbrev pub IsReportAsked : Option (List ℕ) → (List ℕ → Option (List ℕ)) → Report → Type 0
+IsReportAsked None files report = report ≡ usage_report
+IsReportAsked (Some path) files report = IsReportFound path (files path) report
+
+abbrev pub IsReport : List (List ℕ) → (List ℕ → Option (List ℕ)) → Report → Type 0
+IsReport words files report = IsReportAsked (path_of words) files report
+
+-- some report of the words and files is such
+abbrev pub HasReport : List (List ℕ) → (List ℕ → Option (List ℕ)) → (Report → Type 0) → Type 0
+HasReport words files IsSuch = (report : Report) × IsReport words files report × IsSuch report

@@ -1,24 +1,33 @@
--- Whether a result is as expected, and the first reason why it isn't. (The rules of promqltest; the reasons and their
--- order are this project's own.)
-use Rattle.std.specs.Prelude.{ℕ, Bool, false, if◌then◌else◌, not, List, [], ◌∷◌, ◌++◌, filter, Option, None, Some, find, is_none, option_map, IsTrue, IsSome, IsSomeAnd}
-use Rattle.std.specs.List.{AllByRecursion}
-use Rattle.std.specs.Result.{result_unwrap_or}
+-- Whether the outcome of an evaluation is as expected, and the first reason why it isn't. (The rules of promqltest; the
+-- reasons and their order are this project's own.)
+use Rattle.std.specs.Prelude.{◌≡◌, ℕ, Bool, true, false, if◌then◌else◌, not, List, [], ◌∷◌, filter, Option, None, Some, Ok, find, is_none, option_map, option_to_list, IsTrue, IsSome, IsSomeAnd}
+use Rattle.std.specs.List.{AllByRecursion, flat_map}
 use Rattle.std.specs.Ordering.{is_eq, is_gt}
 use Rattle.label_set.specs.Labels.{labels_cmp}
 use Rattle.xfrac.specs.declared.value.XFrac.{XFrac}
 use Rattle.xfrac.specs.Near.{is_near}
 use Rattle.sample_store.specs.Samples.{AllSeries}
+use Rattle.promql_meaning.specs.declared.answer.Answer.{Answer}
+use Rattle.promql_meaning.specs.declared.answer.Outcome.{Outcome}
+use Rattle.promql_meaning.specs.declared.answer.Outcome.TheVariants as outcome
+use Rattle.promql_meaning.specs.declared.answer.Point.{Point}
+use Rattle.promql_meaning.specs.declared.answer.ResultSeries.{ResultSeries}
+use Rattle.query_engine.specs.Evaluating.{ComesTo}
+use Rattle.ticks.specs.declared.grid.Grid.{Grid}
+use Rattle.ticks.specs.declared.moment.Ms.{Ms}
 use Rattle.promql_tool.specs.Loads.{left_by}
-use Rattle.promql_tool.specs.Samples.{answer}
 use Rattle.promql_tool.specs.Series.{LabelList}
-use Rattle.promql_tool.specs.declared.script.Script.{Script}
 use Rattle.promql_tool.specs.declared.script.Command.{Command}
+use Rattle.promql_tool.specs.declared.script.Expected.{Expected}
+use Rattle.promql_tool.specs.declared.script.Expected.TheVariants.{Rows, Scalar}
 use Rattle.promql_tool.specs.declared.script.What.{What}
 use Rattle.promql_tool.specs.declared.script.What.TheVariants.{Eval}
 use Rattle.promql_tool.specs.declared.script.Row.{Row}
 use Rattle.promql_tool.specs.declared.verdict.Reason.{Reason}
-use Rattle.promql_tool.specs.declared.verdict.Reason.TheVariants.{Missing, Extra, Differs}
+use Rattle.promql_tool.specs.declared.verdict.Reason.TheVariants.{Unexpected, NotScalar, NotVector, Missing, Extra, Differs, ScalarDiffers}
 use Rattle.promql_tool.specs.declared.verdict.Verdict.{Verdict}
+
+-- ---- vectors
 
 -- the value that rows have under labels
 abbrev pub value_under : LabelList → List Row → Option XFrac
@@ -59,30 +68,9 @@ first_reason None None (Some row) got = differs row (value_under row.labels got)
 
 -- The first reason why rows aren't those that are expected: the least labels that are missing, the least that are
 -- there and not expected, the least whose value isn't near the expected one.
-abbrev pub judged : List Row → List Row → Option Reason
-judged expected got =
+abbrev pub rows_judged : List Row → List Row → Option Reason
+rows_judged expected got =
     first_reason (least (filter (is_lacking got) expected)) (least (filter (is_lacking expected) got)) (least (filter (is_differing got) expected)) got
-
--- the verdict of a command, where it is an evaluation, over the series that stand then
-abbrev pub judged_at : AllSeries → ℕ → What → List Verdict
-judged_at series line (Eval at name expected) = record { line = line; reason = judged expected (answer series name at) } ∷ []
-judged_at series line _ = []
-
-abbrev pub verdict_of : AllSeries → Command → List Verdict
-verdict_of series command = judged_at series command.line command.what
-
--- the series that a command leaves; a script is run only where no load is refused
-abbrev pub left_of : Command → AllSeries → AllSeries
-left_of command series = result_unwrap_or (left_by command.what series) series
-
--- the verdicts of commands, in order, behind commands that left these series
-abbrev pub verdicts_after : AllSeries → List Command → List Verdict
-verdicts_after series [] = []
-verdicts_after series (command ∷ commands) = verdict_of series command ++ verdicts_after (left_of command series) commands
-
--- the verdict of each evaluation of a script, over the samples that were loaded before it
-abbrev pub verdicts_of : Script → List Verdict
-verdicts_of script = verdicts_after [] script.commands
 
 -- an expected row is there, with a near value
 abbrev pub IsMet : List Row → Row → Type 0
@@ -92,3 +80,66 @@ IsMet got row = IsSomeAnd (value_under row.labels got) (λ value. IsTrue (is_nea
 pub record Agrees (expected got : List Row) : Type 0 where
   pub each : AllByRecursion (IsMet got) expected
   pub no_other : AllByRecursion (λ (row : Row). IsSome (value_under row.labels expected)) got
+
+-- ---- outcomes
+
+abbrev pub first_value : List Point → Option XFrac
+first_value [] = None
+first_value (point ∷ points) = Some point.value
+
+-- The series of an instant as rows: each has one point.
+abbrev pub row_of_series : ResultSeries → Option Row
+row_of_series series = option_map (λ value. record { labels = series.labels; value = value }) (first_value series.points)
+
+abbrev pub rows_in : List ResultSeries → List Row
+rows_in all = flat_map (λ series. option_to_list (row_of_series series)) all
+
+-- a scalar's value at an instant: the first point of its one series
+abbrev pub scalar_in : List ResultSeries → Option XFrac
+scalar_in [] = None
+scalar_in (series ∷ all) = first_value series.points
+
+-- why a scalar isn't the one that is expected
+abbrev pub scalar_judged : XFrac → Option XFrac → Option Reason
+scalar_judged wanted None = Some (ScalarDiffers wanted None)
+scalar_judged wanted (Some got) = if is_near wanted got then None else Some (ScalarDiffers wanted (Some got))
+
+-- why an answer isn't as expected: it is of another kind, or has another value
+abbrev pub answer_judged : Expected → Answer → Option Reason
+answer_judged (Rows rows) answer = if answer.scalar then Some NotVector else rows_judged rows (rows_in answer.series)
+answer_judged (Scalar value) answer = if answer.scalar then scalar_judged value (scalar_in answer.series) else Some NotScalar
+
+-- The first reason why an outcome isn't as expected: it is no answer, or its answer isn't as expected.
+abbrev pub judged : Expected → Outcome → Option Reason
+judged expected (outcome.Answer answer) = answer_judged expected answer
+judged expected other = Some (Unexpected other)
+
+-- an outcome is as expected
+abbrev pub IsAsExpected : Expected → Outcome → Type 0
+IsAsExpected (Rows rows) (outcome.Answer answer) = (answer.scalar ≡ false) × Agrees rows (rows_in answer.series)
+IsAsExpected (Scalar value) (outcome.Answer answer) = (answer.scalar ≡ true) × IsSomeAnd (scalar_in answer.series) (λ got. IsTrue (is_near value got))
+IsAsExpected expected other = ⊥
+
+-- ---- evaluations
+
+-- An evaluation's reason at a time: its text comes to an outcome at that instant over the series that stand then, and the
+-- reason is the first one against that outcome.
+pub record IsReason (series : AllSeries) (text : List ℕ) (at : Ms) (expected : Expected) (reason : Option Reason) : Type 0 where
+  pub grid : Grid
+  pub starts : grid.start ≡ at
+  pub ends : grid.end ≡ at
+  pub got : Outcome
+  pub comes : ComesTo text series grid true got
+  pub is : reason ≡ judged expected got
+
+abbrev pub IsNoEvaluation : What → Type 0
+IsNoEvaluation (Eval at text expected) = ⊥
+IsNoEvaluation _ = Unit {0}
+
+-- The verdicts of commands, in order, behind commands that left these series: each evaluation has one.
+pub data AreVerdicts : AllSeries → List Command → List Verdict → Type 0 where
+  ended : (series : AllSeries) → AreVerdicts series [] []
+  changed : (series now : AllSeries) (command : Command) (commands : List Command) (verdicts : List Verdict) → IsNoEvaluation command.what → left_by command.what series ≡ Ok now
+      → AreVerdicts now commands verdicts → AreVerdicts series (command ∷ commands) verdicts
+  evaluated : (series : AllSeries) (command : Command) (at : Ms) (text : List ℕ) (expected : Expected) (reason : Option Reason) (commands : List Command) (verdicts : List Verdict) → command.what ≡ Eval at text expected
+      → IsReason series text at expected reason → AreVerdicts series commands verdicts → AreVerdicts series (command ∷ commands) (record { line = command.line; reason = reason } ∷ verdicts)

@@ -7,10 +7,10 @@ mod item;
 mod laws;
 mod line;
 mod load;
+mod outcome_text;
 mod print;
 mod read;
 mod run;
-mod samples;
 mod script;
 mod series;
 mod text;
@@ -20,7 +20,7 @@ mod verdict;
 
 pub use laws::{loads_put_their_samples, passes_exactly_where_rows_agree};
 pub use print::Status;
-pub use script::{Command, Row, Script, ScriptRefusal, SeriesItem, SeriesLine, What};
+pub use script::{Command, Expected, Row, Script, ScriptRefusal, SeriesItem, SeriesLine, What};
 pub use tool::run_tool;
 pub use verdict::{Reason, Verdict};
 

@@ -1,6 +1,6 @@
 //! The lines of a script, and the words of a line.
 ghost use Rattle.promql_tool.specs.Grammar.{words_behind};
-ghost use Rattle.promql_tool.specs.Lines.{broken_line, from_blank, from_text, is_blank, is_comment, is_edge, is_line_feed, lines_of, said_by, trimmed, words_of};
+ghost use Rattle.promql_tool.specs.Lines.{behind_four_words, behind_word, broken_line, from_blank, from_text, from_word_end, is_blank, is_comment, is_edge, is_line_feed, lines_of, said_by, trimmed, words_of};
 ghost use Rattle.promql_tool.specs.Views.{numbered};
 ghost use Rattle.std.specs.List.{slice_split};
 ghost use Rattle.std.specs.Prelude.{◌≡◌, [], ◌∷◌, MatchOption, ◌≤◌, ◌<◌, ◌-◌, ◌^◌, length, map, position, reverse, count_by, IfOk, IfSome};
@@ -128,6 +128,32 @@ pub fn lines_in<'a>(alloc: Global, bytes: &'a [u8]) -> Result<Vec<Line<'a>>, All
         number += 1;
     }
     Ok(lines)
+}
+
+/// The text from its first blank on.
+fn skip_word(text: &[u8]) -> &[u8]
+    ensures { result.now ≡ from_word_end text.now }
+{
+    let mut left = text;
+    while let [first, rest @ ..] = left
+        && !is_blank(*first)
+    {
+        left = rest;
+    }
+    left
+}
+
+fn behind_word(text: &[u8]) -> &[u8]
+    ensures { result.now ≡ behind_word text.now }
+{
+    skip_blanks(skip_word(text))
+}
+
+/// What stands behind the first four words of a line.
+pub fn behind_four_words(text: &[u8]) -> &[u8]
+    ensures { result.now ≡ behind_four_words text.now }
+{
+    behind_word(behind_word(behind_word(behind_word(skip_blanks(text)))))
 }
 
 /// The words of a line.

@@ -1,25 +1,27 @@
 //! Reading a script from the bytes of a file.
-ghost use Rattle.promql_tool.specs.Grammar.{asks_instant, clear_worded, command_headed, commands_in, commands_of, eval_of, eval_worded, has_no_text, head_worded, is_clear, items_spelled, limit, line_refusal, line_with, load_of, load_worded, number_alone, reading, row_of, row_worded, rows, script_of, series_lines, series_of, series_worded, text_read, words_behind};
+ghost use Rattle.promql_tool.specs.Grammar.{asks_instant, beside_scalar, clear_worded, command_headed, commands_in, commands_of, eval_of, eval_worded, expected_of, has_no_text, head_worded, is_clear, items_spelled, limit, line_refusal, line_with, load_of, load_worded, number_alone, reading, row_of, row_read, row_worded, rows, script_of, series_lines, series_of, series_worded, text_read, words_behind};
 ghost use Rattle.promql_tool.specs.Items.{item_spelled};
-ghost use Rattle.promql_tool.specs.Lines.{broken_line, words_of};
+ghost use Rattle.promql_tool.specs.Lines.{behind_four_words, broken_line, words_of};
 ghost use Rattle.promql_tool.specs.Outcomes.{each_of, in_front};
 ghost use Rattle.promql_tool.specs.Readings.{Adds, Gives, head_seen, run_of};
 ghost use Rattle.promql_tool.specs.Views.{numbered};
 ghost use Rattle.std.specs.List.{slice_split};
-ghost use Rattle.std.specs.Prelude.{◌≡◌, ◌<◌, ◌^◌, None, Err, Ok, length, map, option_map, IfOk, MatchResult};
+ghost use Rattle.std.specs.Prelude.{◌≡◌, ◌<◌, ◌^◌, false, true, None, Err, Ok, length, map, option_map, IfOk, MatchOption, MatchResult};
+ghost use Rattle.std.specs.Str.{is_utf8};
 
 use crate::fault::ReadFault;
 use crate::item::read_item;
-use crate::line::{Line, broken_line, lines_in, words_behind, words_in};
+use crate::line::{Line, behind_four_words, broken_line, lines_in, words_behind, words_in};
 use crate::load::judge_loads;
 use crate::script::{
-    Command, Row, Script, ScriptRefusal, SeriesItem, SeriesLine, What, WordRefusal,
+    Command, Expected, Row, Script, ScriptRefusal, SeriesItem, SeriesLine, What, WordRefusal,
 };
 use crate::series::{read_series, without_comment};
-use crate::token::{metric_name, read_interval, read_number, read_time};
+use crate::token::{read_interval, read_number, read_time};
 use holders::{Items, Text};
 use std::alloc::{AllocError, Global};
 use std::collections::BTreeSet;
+use std::str;
 use ticks::Ms;
 use xfrac::XFrac;
 
@@ -142,8 +144,8 @@ fn number_alone(words: &[&[u8]]) -> Said<XFrac>
     }
 }
 
-fn row_in(alloc: Global, text: &[u8]) -> Result<Said<Row>, AllocError>
-    ensures { IfOk result (λ row. row ≡ row_worded text.now) }
+fn row_read(alloc: Global, text: &[u8]) -> Result<Said<Row>, AllocError>
+    ensures { IfOk result (λ row. row ≡ row_read text.now) }
 {
     let series = match read_series(alloc, text)? {
         Ok(series) => series,
@@ -156,6 +158,16 @@ fn row_in(alloc: Global, text: &[u8]) -> Result<Said<Row>, AllocError>
             value,
         })),
         Err(refusal) => Ok(Err(refusal)),
+    }
+}
+
+/// A row, or the refusal of a number outside the limits that stands in its place.
+fn row_in(alloc: Global, text: &[u8]) -> Result<Said<Row>, AllocError>
+    ensures { IfOk result (λ row. row ≡ row_worded text.now) }
+{
+    match read_number(text) {
+        Err(WordRefusal::OutOfRange) => Ok(Err(WordRefusal::OutOfRange)),
+        _ => row_read(alloc, text),
     }
 }
 
@@ -181,6 +193,30 @@ fn read_rows(alloc: Global, body: &[Line<'_>]) -> Result<Items<Row>, ReadFault>
         rows.push(row)?;
     }
     Ok(rows)
+}
+
+/// A scalar that is expected: no other result stands beside it.
+fn beside_scalar(alloc: Global, value: XFrac, body: &[Line<'_>]) -> Result<Expected, ReadFault>
+    ensures { Gives result (beside_scalar value (map numbered body.now)) }
+{
+    match body {
+        [] => Ok(Expected::Scalar(value)),
+        [line, ..] => {
+            row_of(alloc, *line)?;
+            malformed(*line)
+        }
+    }
+}
+
+fn read_expected(alloc: Global, body: &[Line<'_>]) -> Result<Expected, ReadFault>
+    ensures { Gives result (expected_of (map numbered body.now)) }
+{
+    if let [line, rest @ ..] = body
+        && let Ok(value) = read_number(line.text)
+    {
+        return beside_scalar(alloc, value, rest);
+    }
+    Ok(Expected::Rows(read_rows(alloc, body)?))
 }
 
 // ---- commands
@@ -214,35 +250,46 @@ fn asks_instant(word: &[u8], instant: &[u8], at: &[u8]) -> bool
     word == b"eval".as_slice() && instant == b"instant".as_slice() && at == b"at".as_slice()
 }
 
-/// What `eval instant at <time> <name>` asks for.
+/// The text of a query, unless it breaks the encoding UTF-8.
+fn text_in(rest: &[u8]) -> Option<&str>
+    ensures { MatchOption result (is_utf8 rest.now ≡ false) (λ text. (text.now ≡ rest.now) × (is_utf8 rest.now ≡ true)) }
+{
+    match str::from_utf8(rest) {
+        Ok(text) => Some(text),
+        Err(_) => None,
+    }
+}
+
+/// What `eval instant at <time> <expr>` asks for.
 fn eval_in<'a>(
     word: &[u8],
     instant: &[u8],
     at: &[u8],
     time: &[u8],
-    name: &'a [u8],
+    rest: &'a [u8],
 ) -> Option<Head<'a>>
-    ensures { option_map head_seen result ≡ eval_worded word.now instant.now at.now time.now name.now }
+    ensures { option_map head_seen result ≡ eval_worded word.now instant.now at.now time.now rest.now }
 {
     if !asks_instant(word, instant, at) {
         return None;
     }
-    let Some(name) = metric_name(name) else {
+    let Some(text) = text_in(rest) else {
         return None;
     };
     match read_time(time) {
-        Some(at) => Some(Head::Evaluates(at, name)),
+        Some(at) => Some(Head::Evaluates(at, text)),
         None => None,
     }
 }
 
-fn head_in<'a>(words: &[&'a [u8]]) -> Option<Head<'a>>
-    ensures { option_map head_seen result ≡ head_worded (map (λ word. word.now) words.now) }
+/// What the words of a line ask for; the rest stands behind the fourth.
+fn head_in<'a>(words: &[&[u8]], rest: &'a [u8]) -> Option<Head<'a>>
+    ensures { option_map head_seen result ≡ head_worded (map (λ word. word.now) words.now) rest.now }
 {
-    match words.len() {
-        1 => clear_in(words[0]),
-        2 => load_in(words[0], words[1]),
-        5 => eval_in(words[0], words[1], words[2], words[3], words[4]),
+    match words {
+        [word] => clear_in(word),
+        [word, duration] => load_in(word, duration),
+        [word, instant, at, time, _, ..] => eval_in(word, instant, at, time, rest),
         _ => None,
     }
 }
@@ -266,31 +313,31 @@ fn read_eval(
     alloc: Global,
     line: u32,
     at: Ms,
-    name: &str,
+    text: &str,
     body: &[Line<'_>],
 ) -> Result<Command, ReadFault>
-    ensures { Gives result (eval_of line at name.now (map numbered body.now)) }
+    ensures { Gives result (eval_of line at text.now (map numbered body.now)) }
 {
-    let expected = read_rows(alloc, body)?;
-    let name = Text::of(alloc, name)?;
+    let expected = read_expected(alloc, body)?;
+    let text = Text::of(alloc, text)?;
     Ok(Command {
         line,
-        what: What::Eval { at, name, expected },
+        what: What::Eval { at, text, expected },
     })
 }
 
 /// The command of a line, with the lines behind it.
 fn command_of(alloc: Global, line: Line<'_>, body: &[Line<'_>]) -> Result<Command, ReadFault>
-    ensures { Gives result (command_headed line.entry.number (head_worded (words_of line.entry.text.now)) (map numbered body.now)) }
+    ensures { Gives result (command_headed line.entry.number (head_worded (words_of line.entry.text.now) (behind_four_words line.entry.text.now)) (map numbered body.now)) }
 {
     let words = words_in(alloc, line.text)?;
-    match head_in(&words) {
+    match head_in(&words, behind_four_words(line.text)) {
         Some(Head::Clears) => Ok(Command {
             line: line.number,
             what: What::Clear,
         }),
         Some(Head::Loads(interval)) => read_load(alloc, line.number, interval, body),
-        Some(Head::Evaluates(at, name)) => read_eval(alloc, line.number, at, name, body),
+        Some(Head::Evaluates(at, text)) => read_eval(alloc, line.number, at, text, body),
         None => malformed(line),
     }
 }

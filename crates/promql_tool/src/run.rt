@@ -1,37 +1,49 @@
 //! Running a script: each evaluation is judged over the samples that were loaded before it.
 ghost use Rattle.promql_tool.specs.Loads.{left_by, loads_judged};
 ghost use Rattle.promql_tool.specs.Readings.{Leaves};
-ghost use Rattle.promql_tool.specs.Runs.{AreTimely, IsRefusedFor, IsTimely};
-ghost use Rattle.promql_tool.specs.Samples.{answer};
-ghost use Rattle.promql_tool.specs.Verdicts.{judged, verdict_of, verdicts_of};
-ghost use Rattle.std.specs.Prelude.{◌≡◌, ◌++◌, IfErr, IfOk, OnOk};
-ghost use Rattle.ticks.specs.Walks.{IsTime};
+ghost use Rattle.promql_tool.specs.Runs.{AreTimely, IsRefusedFor, IsTimely, Judges};
+ghost use Rattle.promql_tool.specs.Verdicts.{AreVerdicts, IsReason};
+ghost use Rattle.std.specs.Prelude.{◌≡◌, [], pos, IfErr, IfOk, OnOk};
+ghost use Rattle.ticks.specs.Grids.{IsInRange};
 
 use crate::fault::ReadFault;
 use crate::load::change_store;
-use crate::samples::answer;
-use crate::script::{Command, Row, Script, What};
+use crate::script::{Command, Expected, Script, What};
 use crate::verdict::{Reason, Verdict, judge};
 use holders::{Items, Text};
+use query_engine::evaluate;
 use sample_store::Store;
 use std::alloc::{AllocError, Global};
 use std::sync::ledger::Ledger;
-use ticks::{Ms, Work};
+use ticks::{Grid, Ms, Work};
 
-/// Why what a metric's name gives at a time isn't as expected. The only error is want of memory.
+/// The grid of one instant.
+fn instant_grid(at: Ms) -> Grid
+    requires { IsInRange at.0 at.0 (pos 1) }
+    ensures starts { result.start ≡ at }
+    ensures ends { result.end ≡ at }
+{
+    match Grid::of(at, at, Ms(1)) {
+        Ok(grid) => grid,
+        Err(_) => unreachable!(),
+    }
+}
+
+/// Why what a text comes to at a time isn't as expected. The only error is want of memory.
 fn judge_at<W: Ledger>(
     alloc: Global,
     store: &Store,
     at: Ms,
-    name: &Text,
-    expected: &[Row],
+    text: &Text,
+    expected: &Expected,
     work: &mut Work<W>,
 ) -> Result<Option<Reason>, AllocError>
-    requires { IsTime at.0 }
-    ensures { IfOk result (λ reason. reason ≡ judged expected.now (answer store.now name.now at)) }
+    requires { IsInRange at.0 at.0 (pos 1) }
+    ensures { IfOk result (IsReason store.now text.now at expected.now) }
 {
-    let got = answer(alloc, store, name, at, work)?;
-    judge(alloc, expected, got.as_slice())
+    let grid = instant_grid(at);
+    let outcome = evaluate(alloc, text.as_str(), &grid, true, store, work)?;
+    judge(alloc, expected, &outcome)
 }
 
 fn run_command<W: Ledger>(
@@ -43,11 +55,11 @@ fn run_command<W: Ledger>(
 ) -> Result<(), ReadFault>
     requires { IsTimely command.now.what }
     ensures left { Leaves result store.new (left_by command.now.what store.old) }
-    ensures verdict { OnOk result (verdicts.new ≡ verdicts.old ++ verdict_of store.old command.now) }
+    ensures verdict { OnOk result (Judges store.old command.now.line command.now.what verdicts.old verdicts.new) }
 {
     match &command.what {
-        What::Eval { at, name, expected } => {
-            let reason = judge_at(alloc, store, *at, name, expected.as_slice(), work)?;
+        What::Eval { at, text, expected } => {
+            let reason = judge_at(alloc, store, *at, text, expected, work)?;
             verdicts.push(Verdict {
                 line: command.line,
                 reason,
@@ -67,7 +79,7 @@ pub fn verdicts_in<W: Ledger>(
     work: &mut Work<W>,
 ) -> Result<Items<Verdict>, ReadFault>
     requires { AreTimely script.now.commands }
-    ensures verdicts { IfOk result (λ verdicts. verdicts ≡ verdicts_of script.now) }
+    ensures verdicts { IfOk result (AreVerdicts [] script.now.commands) }
     ensures refused { IfErr result (IsRefusedFor (loads_judged script.now)) }
 {
     let mut store = Store::new(alloc);

@@ -69,12 +69,21 @@ pub enum What {
         interval: Ms,
         lines: Items<SeriesLine>,
     },
-    /// Asks for the newest samples of a metric at a time, and says which rows are expected.
+    /// Asks what the text of a query comes to at a time, and says what is expected.
     Eval {
         at: Ms,
-        name: Text,
-        expected: Items<Row>,
+        text: Text,
+        expected: Expected,
     },
+}
+
+/// What an evaluation must come to.
+#[derive(Debug, Drop)]
+pub enum Expected {
+    /// A vector of these rows; none, where it is an empty one.
+    Rows(Items<Row>),
+    /// A scalar of this value.
+    Scalar(XFrac),
 }
 
 /// A series of a load: the number of its line, its labels and its items.

@@ -176,18 +176,56 @@ REFUSED a.test:1 Malformed|eval instant at 1e15 x|
 REFUSED a.test:1 Malformed|eval range at 0 x|
 REFUSED a.test:1 Malformed|eval instant in 0 x|
 REFUSED a.test:1 Malformed|eval_fail instant at 0 x|
-REFUSED a.test:1 Malformed|eval instant at 0 5x|
-REFUSED a.test:1 Malformed|eval instant at 0 nan|
-REFUSED a.test:1 Malformed|eval instant at 0 x y|
+FAIL a.test:1 expected a vector;passed 0 failed 1|eval instant at 0 nan|
+FAIL a.test:1 unexpected Expected at 2;passed 0 failed 1|eval instant at 0 x y|
 REFUSED a.test:2 Malformed|eval instant at 0 x|x|
 REFUSED a.test:2 Malformed|eval instant at 0 x|x 1 2|
 REFUSED a.test:2 Malformed|eval instant at 0 x|x _|
 REFUSED a.test:2 Malformed|eval instant at 0 x|x 1x2|
 REFUSED a.test:2 Malformed|eval instant at 0 x|x 1 # behind|
-REFUSED a.test:2 Malformed|eval instant at 0 x|1|
+FAIL a.test:1 expected a scalar;passed 0 failed 1|eval instant at 0 x|1|
 REFUSED a.test:3 Malformed|eval instant at 0 x|x 1|x 1|
 REFUSED a.test:3 Malformed|eval instant at 0 x|x{a="1",b="2"} 1|x{b="2",a="1"} 1|
 REFUSED a.test:4 Malformed|eval instant at 0 x|||x 1|
+PASS a.test:4;PASS a.test:7;passed 2 failed 0|load 1m|c_total 0+60x10||eval instant at 5m rate(c_total[5m])|{} 1||eval instant at 5m increase(c_total[5m])|{} 300|
+PASS a.test:4;passed 1 failed 0|load 1m|c_total 0 10 5 15||eval instant at 3m increase(c_total[4m])|{} 25|
+PASS a.test:1;FAIL a.test:4 scalar expected 0.33333 got 1/3;passed 1 failed 1|eval instant at 0 1/3|0.3333333333333333||eval instant at 0 1/3|0.33333|
+PASS a.test:1;FAIL a.test:4 unexpected NumberRange at 0;FAIL a.test:6 unexpected overflow;FAIL a.test:8 unexpected overflow;passed 1 failed 3|eval instant at 0 1e30|1e30||eval instant at 0 1e31||eval instant at 0 1e30 * 10||eval instant at 0 1e30 - 1e30|
+FAIL a.test:5 unexpected overflow;FAIL a.test:7 unexpected overflow;passed 0 failed 2|load 1m|x{region="eu"} 6e29|x{region="us"} -6e29||eval instant at 0 sum(x)||eval instant at 0 avg(x)|
+PASS a.test:1;PASS a.test:4;PASS a.test:7;PASS a.test:10;FAIL a.test:13 unexpected irrational result;passed 4 failed 1|eval instant at 0 -1 ^ 2|-1||eval instant at 0 2 ^ 3 ^ 2|512||eval instant at 0 -1 % 3|-1||eval instant at 0 0/0|NaN||eval instant at 0 2 ^ 0.5|
+PASS a.test:4;passed 1 failed 0|load 1m|x 0+1x10||eval instant at 5m max_over_time(x[3m:2m])|{} 4|
+FAIL a.test:6 unexpected many-to-one matching must be explicit for {};PASS a.test:8;FAIL a.test:12 unexpected found duplicate series for the match group {};passed 1 failed 2|load 1m|a{i="1"} 1|a{i="2"} 2|b 1||eval instant at 0 a * on() b||eval instant at 0 a * on() group_left b|{i="1"} 1|{i="2"} 2||eval instant at 0 b * on() a|
+FAIL a.test:7 unexpected found duplicate series for the match group {x="2"};passed 0 failed 1|load 1m|a{x="1"} 1|a{x="2"} 1|b{x="2"} 1|c{x="1"} 2||eval instant at 0 c{x="1"} * {__name__=~"a`7c`b"}|
+PASS a.test:5;FAIL a.test:8 unexpected vector cannot contain metrics with the same labelset: {};passed 1 failed 1|load 10m|a 1 _ 3|b _ 2 3||eval instant at 10m -{__name__=~"a`7c`b"}|{} -2||eval instant at 20m -{__name__=~"a`7c`b"}|
+PASS a.test:6;PASS a.test:9;PASS a.test:12;passed 3 failed 0|load 1m|h_bucket{le="1"} 10|h_bucket{le="2"} 20|h_bucket{le="+Inf"} 20||eval instant at 0 histogram_quantile(0.75, h_bucket)|{} 1.5||eval instant at 0 histogram_quantile(2, h_bucket)|{} Inf||eval instant at 0 histogram_quantile(0.75, h_bucket{le!="+Inf"})|{} NaN|
+PASS a.test:7;PASS a.test:11;PASS a.test:15;passed 3 failed 0|load 1m|x{i="1"} 5|x{i="2"} 5|x{i="3"} 5|x{i="4"} NaN||eval instant at 0 topk(2, x)|x{i="1"} 5|x{i="2"} 5||eval instant at 0 sort(topk(2, x))|x{i="1"} 5|x{i="2"} 5||eval instant at 0 topk(2, sort(x))|x{i="1"} 5|x{i="2"} 5|
+PASS a.test:4;PASS a.test:7;passed 2 failed 0|load 1m|x 0+1x10||eval instant at 4m x @ end() offset 1m|x 3||eval instant at 4m x offset 1m @ end()|x 3|
+PASS a.test:5;passed 1 failed 0|load 1m|metric{a="b",c="d"} 2|metric{a="b"} 6||eval instant at 0 sum(metric{a="b",c="d"}) / scalar(sum(metric{a="b"}))|{} 0.25|
+FAIL a.test:5 missing y{a="1"};FAIL a.test:9 unexpected series x;passed 0 failed 2|load 1m|  x 0 60|  y 5||eval instant at 0 y|  y 5|  y{a="1"} 5||eval instant at 0 {__name__=~"x`7c`y"}|  y 5|
+FAIL a.test:1 unexpected RefusedFunction sqrt at 0;FAIL a.test:3 unexpected RefusedFunction stddev at 0;FAIL a.test:5 unexpected UnknownFunction foo at 0;passed 0 failed 3|eval instant at 0 sqrt(x)||eval instant at 0 stddev(x)||eval instant at 0 foo(x)|
+PASS a.test:4;PASS a.test:7;passed 2 failed 0|load 1m|x{i="7"} 1||eval instant at 0 label_replace(x, "j", "$1", "i", "(.*)")|x{i="7",j="7"} 1||eval instant at 0 label_join(x, "k", "-", "i", "i")|x{i="7",k="7-7"} 1|
+PASS a.test:4;PASS a.test:6;PASS a.test:10;PASS a.test:13;passed 4 failed 0|load 1m|x{i="1"} 1||eval instant at 0 x unless x||eval instant at 0 x or vector(9)|{} 9|x{i="1"} 1||eval instant at 0 x or on() vector(9)|x{i="1"} 1||eval instant at 0 x and on() vector(9)|x{i="1"} 1|
+PASS a.test:4;passed 1 failed 0|load 1m|y 1||eval instant at 0 y or vector(9)|y 1|
+FAIL a.test:1 unexpected BadPattern at 5;FAIL a.test:3 unexpected EmptySelector at 5;passed 0 failed 2|eval instant at 0 x{a=~"("}||eval instant at 0 {a=""}|
+FAIL a.test:4 unexpected Expected at 3;passed 0 failed 1|load 1m|x 1||eval instant at 0 1 +|
+FAIL a.test:1 unexpected Expected at 8;FAIL a.test:3 unexpected Expected at 11;FAIL a.test:5 unexpected Expected at 12;FAIL a.test:7 unexpected Expected at 4;passed 0 failed 4|eval instant at 0 up{a="b"||eval instant at 0 sum by (a) by (b) (x)||eval instant at 0 x offset 5m offset 1m||eval instant at 0 a:b{c:d="e"}|
+FAIL a.test:1 unexpected RefusedFunction sqrt at 4;FAIL a.test:3 unexpected RefusedFunction atan2 at 2;FAIL a.test:5 unexpected WrongType at 5;FAIL a.test:7 unexpected WrongArity at 0;passed 0 failed 4|eval instant at 0 1 + sqrt(x) + (||eval instant at 0 1 atan2 2||eval instant at 0 rate(x)||eval instant at 0 round()|
+FAIL a.test:1 unexpected NeedsBool at 0;FAIL a.test:3 unexpected SetOnScalar at 0;FAIL a.test:5 unexpected RangeResult at 0;FAIL a.test:7 unexpected StringResult at 0;passed 0 failed 4|eval instant at 0 1 == 1||eval instant at 0 1 and x||eval instant at 0 x[5m]||eval instant at 0 "a"|
+FAIL a.test:1 unexpected TooManyPoints at 5;FAIL a.test:3 unexpected LeadingZero at 0;FAIL a.test:5 unexpected Unterminated at 0;passed 0 failed 3|eval instant at 0 rate(x[1y:1ms])||eval instant at 0 08||eval instant at 0 "a|
+PASS a.test:5;PASS a.test:8;PASS a.test:11;PASS a.test:14;PASS a.test:18;PASS a.test:21;PASS a.test:24;FAIL a.test:28 unexpected overflow;FAIL a.test:30 unexpected overflow;passed 7 failed 2|load 1m|x{i="1"} 1|x{i="2"} 2||eval instant at 0 avg(x)|{} 1.5||eval instant at 0 quantile(0.25, x)|{} 1.25||eval instant at 0 stdvar(x)|{} 0.25||eval instant at 0 count_values("v", x)|{v="1"} 1|{v="2"} 1||eval instant at 0 count_values by (i) ("i", x * 0)|{i="0"} 2||eval instant at 0 count_values without (i) ("i", x)|{} 2||eval instant at 0 topk by (i) (1, x)|x{i="1"} 1|x{i="2"} 2||eval instant at 0 topk(NaN, x)||eval instant at 0 topk(Inf, x)|
+PASS a.test:4;PASS a.test:7;PASS a.test:10;PASS a.test:13;passed 4 failed 0|load 1m|c 1 1 2 1||eval instant at 3m changes(c[4m])|{} 2||eval instant at 3m resets(c[4m])|{} 1||eval instant at 3m idelta(c[4m])|{} -1||eval instant at 3m irate(c[4m])|{} 0.016666666666666666|
+PASS a.test:6;FAIL a.test:10 unexpected many-to-one matching must be explicit for {i="1"};FAIL a.test:12 unexpected found duplicate series for the match group {i="1"};passed 1 failed 2|load 1m|a{i="1",p="x"} 1|a{i="1",p="y"} 2|m{i="1",t="z"} 10||eval instant at 0 a + on(i) group_left(t) m|{i="1",p="x",t="z"} 11|{i="1",p="y",t="z"} 12||eval instant at 0 a + on(i) m||eval instant at 0 m + on(i) a|
+PASS a.test:4;PASS a.test:7;PASS a.test:10;PASS a.test:13;PASS a.test:16;passed 5 failed 0|load 1m|x 0+60x10||eval instant at 3m predict_linear(x[3m], 60)|{} 240||eval instant at 3m quantile_over_time(0.5, x[3m])|{} 120||eval instant at 3m absent(x{a="b"})|{a="b"} 1||eval instant at 3m absent(x{a=~"b",a="b"})|{a="b"} 1||eval instant at 3m absent(x{a="b",a=~"b"})|{} 1|
+FAIL a.test:6 unexpected multiple matches for labels {i="1"};passed 0 failed 1|load 1m|a{i="1"} 1|a{i="2"} 2|b{i="1"} 1||eval instant at 0 a * on() group_left(i) b|
+PASS a.test:4;FAIL a.test:7 expected a scalar;FAIL a.test:10 expected a vector;FAIL a.test:12 expected a vector;FAIL a.test:15 scalar expected 2 got NaN;PASS a.test:18;passed 2 failed 4|load 1m|x 1||eval instant at 0 scalar(x)|1||eval instant at 0 x|1||eval instant at 0 1||eval instant at 0 1|{} 1||eval instant at 0 scalar(y)|2||eval instant at 1h  time() - 3600`09`+ `09` 0|0|
+REFUSED a.test:3 Malformed|eval instant at 0 1|1|x 1|
+REFUSED a.test:3 Malformed|eval instant at 0 1|x 1|1|
+REFUSED a.test:3 Malformed|eval instant at 0 1|1|1|
+REFUSED a.test:2 NumberRange|eval instant at 0 1|1e31|
+REFUSED a.test:3 NumberRange|eval instant at 0 1|1|1e31|
+REFUSED a.test:1 Malformed|eval instant at 0`09` |
+REFUSED a.test:1 Malformed|eval instant at x 0|
+REFUSED a.test:2 Malformed|eval instant at 0 1|expect fail|
 REFUSED a.test:1 NotUtf8|`ff`|load 5m|
 REFUSED a.test:4 NotUtf8|load 5m|x 1||# `c3`(||eval instant at 0 x|
 REFUSED a.test:2 NotUtf8|load 5m|x 1 `e2``82`
@@ -428,7 +466,7 @@ fn run_rows(rt: &impl Abort, alloc: Global, table: &str) -> Result<u32, Fail> {
 fn reports(rt: HostRuntime) -> Result<(), Fail> {
     passes_exactly_where_rows_agree();
     loads_put_their_samples();
-    assert_eq!(rt; run_rows(&rt, rt.alloc(), REPORTS)?, 181);
+    assert_eq!(rt; run_rows(&rt, rt.alloc(), REPORTS)?, 219);
     assert_eq!(rt; read_item(b""), Err(WordRefusal::NoForm));
     assert!(rt; read_series(rt.alloc(), b"")?.is_err());
     Ok(())

@@ -1,35 +1,89 @@
 //! The lines of a report.
-ghost use Rattle.promql_tool.specs.Report.{fault_text, reason_text, refusal_name, refusal_text, refused_line, totals_text, verdict_text};
+ghost use Rattle.promql_tool.specs.OutcomeTexts.{outcome_text};
+ghost use Rattle.promql_tool.specs.Report.{fault_text, reason_text, refusal_name, refusal_text, refused_line, totals_text, value_text, values_text, verdict_text};
+ghost use Rattle.promql_tool.specs.declared.verdict.Reason.TheVariants.{Differs, ScalarDiffers};
 ghost use Rattle.std.specs.Prelude.{◌≡◌, ◌++◌, string_bytes, IfOk, OnOk};
 
+use crate::outcome_text::{append_labelled, append_outcome};
 use crate::script::ScriptRefusal;
 use crate::verdict::{Reason, Verdict};
 use frac_text::write_number;
+use label_set::Labels;
+use promql_meaning::Outcome;
 use std::alloc::{AllocError, Global};
+use xfrac::XFrac;
 
-fn append_reason(reason: &Reason, into: &mut Vec<u8>) -> Result<(), AllocError>
+/// Appends a scalar's value, or that it has none.
+fn append_value(value: Option<XFrac>, into: &mut Vec<u8>) -> Result<(), AllocError>
+    ensures { OnOk result (into.new.items ≡ into.old.items ++ value_text value) }
+{
+    match value {
+        Some(value) => write_number(&value, into),
+        None => into.extend_from_slice(b"nothing"),
+    }
+}
+
+/// Appends a text, and that of an outcome behind it.
+fn append_told(
+    alloc: Global,
+    text: &str,
+    outcome: &Outcome,
+    into: &mut Vec<u8>,
+) -> Result<(), AllocError>
+    ensures { OnOk result (into.new.items ≡ into.old.items ++ (text.now ++ outcome_text outcome.now)) }
+{
+    into.extend_from_slice(text.as_bytes())?;
+    append_outcome(alloc, outcome, into)
+}
+
+/// Appends which value was expected, and which is there instead.
+fn append_values(wanted: &XFrac, got: Option<XFrac>, into: &mut Vec<u8>) -> Result<(), AllocError>
+    ensures { OnOk result (into.new.items ≡ into.old.items ++ values_text wanted.now got) }
+{
+    into.extend_from_slice(b" expected ")?;
+    write_number(wanted, into)?;
+    into.extend_from_slice(b" got ")?;
+    append_value(got, into)
+}
+
+fn append_differing(
+    labels: &Labels,
+    wanted: &XFrac,
+    got: &XFrac,
+    into: &mut Vec<u8>,
+) -> Result<(), AllocError>
+    ensures { OnOk result (into.new.items ≡ into.old.items ++ reason_text (Differs labels.now wanted.now got.now)) }
+{
+    labels.write(into)?;
+    append_values(wanted, Some(*got), into)
+}
+
+fn append_scalar_differing(
+    wanted: &XFrac,
+    got: Option<XFrac>,
+    into: &mut Vec<u8>,
+) -> Result<(), AllocError>
+    ensures { OnOk result (into.new.items ≡ into.old.items ++ reason_text (ScalarDiffers wanted.now got)) }
+{
+    into.extend_from_slice(b"scalar")?;
+    append_values(wanted, got, into)
+}
+
+fn append_reason(alloc: Global, reason: &Reason, into: &mut Vec<u8>) -> Result<(), AllocError>
     ensures { OnOk result (into.new.items ≡ into.old.items ++ reason_text reason.now) }
 {
     match reason {
-        Reason::Missing(labels) => {
-            into.extend_from_slice(b"missing ")?;
-            labels.write(into)
-        }
-        Reason::Extra(labels) => {
-            into.extend_from_slice(b"unexpected series ")?;
-            labels.write(into)
-        }
+        Reason::Unexpected(outcome) => append_told(alloc, "unexpected ", outcome, into),
+        Reason::NotScalar => into.extend_from_slice(b"expected a scalar"),
+        Reason::NotVector => into.extend_from_slice(b"expected a vector"),
+        Reason::Missing(labels) => append_labelled("missing ", labels, into),
+        Reason::Extra(labels) => append_labelled("unexpected series ", labels, into),
         Reason::Differs {
             labels,
             wanted,
             got,
-        } => {
-            labels.write(into)?;
-            into.extend_from_slice(b" expected ")?;
-            write_number(wanted, into)?;
-            into.extend_from_slice(b" got ")?;
-            write_number(got, into)
-        }
+        } => append_differing(labels, wanted, got, into),
+        Reason::ScalarDiffers { wanted, got } => append_scalar_differing(wanted, *got, into),
     }
 }
 
@@ -42,7 +96,7 @@ pub fn verdict_line(alloc: Global, path: &str, verdict: &Verdict) -> Result<Vec<
         None => Ok(format!(in alloc; "PASS {path}:{line}\n")?.into_bytes()),
         Some(reason) => {
             let mut text = format!(in alloc; "FAIL {path}:{line} ")?.into_bytes();
-            append_reason(reason, &mut text)?;
+            append_reason(alloc, reason, &mut text)?;
             text.extend_from_slice(b"\n")?;
             Ok(text)
         }

@@ -3,9 +3,8 @@ ghost use Rattle.edge_io.specs.Causes.{Rose};
 ghost use Rattle.edge_io.specs.Fetches.{FetchesFront};
 ghost use Rattle.edge_io.specs.Written.{appended, WroteFront};
 ghost use Rattle.promql_tool.specs.Grammar.{reading};
-ghost use Rattle.promql_tool.specs.Found.{IsFound};
-ghost use Rattle.promql_tool.specs.Report.{Report, fault_text, files_of, names_file, path_of, refusal_text, report, report_found, usage};
-ghost use Rattle.promql_tool.specs.Ends.{Ends, IsCut, IsOneOf, IsRefused, Reports, RunsPath, RunsWords, usage_report};
+ghost use Rattle.promql_tool.specs.Report.{HasReport, fault_text, files_of, names_file, path_of, usage, usage_report};
+ghost use Rattle.promql_tool.specs.Ends.{Ends, IsCut, IsOneOf, IsRefused, Reports, RunsPath, RunsWords};
 ghost use Rattle.std.specs.Prelude.{◌≡◌, ◌⊎◌, ℕ, List, [], ◌∷◌, None, Some, Err, Ok, Option, map, option_map, string_bytes, IfSome, IsErr, IsSomeAnd};
 
 use crate::fetch::read_file;
@@ -126,13 +125,13 @@ pub fn run_tool<L: Library, S: Sink, W: Ledger>(
 ) -> Status
     ensures statuses { IsOneOf (0 ∷ 1 ∷ 2 ∷ 3 ∷ 4 ∷ 6 ∷ 7 ∷ []) result.0 }
 
-    // What is printed is the report of the words and the files, and the status is the report's.
+    // What is printed is a report of the words and the files, and the status is the report's.
     ensures report { IfSome (L.told library.old) (λ files. IsOneOf (0 ∷ 1 ∷ 2 ∷ 6 ∷ []) result.0 →
-        Reports (S.written out.old) (S.written out.new) result.0 (report (map string_bytes words.now) files)) }
+        HasReport (map string_bytes words.now) files (Reports (S.written out.old) (S.written out.new) result.0)) }
 
-    // Where nothing can fail, the status is the report's, unless memory runs out.
+    // Where nothing can fail, the status is a report's, unless memory runs out.
     ensures answered { IfSome (L.told library.old) (λ files. L.sound library.old → S.sound out.old →
-        (result.0 ≡ (report (map string_bytes words.now) files).status) ⊎ (result.0 ≡ 7)) }
+        HasReport (map string_bytes words.now) files (λ report. result.0 ≡ report.status) ⊎ (result.0 ≡ 7)) }
 
     // The files of the words were fetched, from the first on, each at most once, and nothing else: of words that are no
     // command nothing. What library and sink tell of themselves stays.
@@ -160,7 +159,7 @@ pub fn run_tool<L: Library, S: Sink, W: Ledger>(
     ensures there { IfSome (path_of (map string_bytes words.now)) (λ path. IfSome (L.told library.old) (λ files. L.sound library.old → result.0 ≡ 3 → files path ≡ None)) }
     ensures missing { IfSome (path_of (map string_bytes words.now)) (λ path. IfSome (L.told library.old) (λ files. files path ≡ None → IsOneOf (3 ∷ 4 ∷ 7 ∷ []) result.0)) }
 
-    // 4: a write failed. After it, or want of memory, a front of what would have been printed is there.
+    // 4: a write failed. After it, or want of memory, nothing was written or a front of a report is there.
     ensures write { result.0 ≡ 4 → Rose (S.faults out.old) (S.faults out.new) }
     ensures sound { S.sound out.old → result.0 ≡ 4 → ⊥ }
     ensures cut { IsOneOf (4 ∷ 7 ∷ []) result.0 →

@@ -1,11 +1,13 @@
 //! Whether a result is as expected.
 ghost use Rattle.promql_tool.specs.Lookups.{HasValues};
-ghost use Rattle.promql_tool.specs.Verdicts.{is_differing, is_lacking, judged, least, lesser};
+ghost use Rattle.promql_tool.specs.Verdicts.{answer_judged, first_value, is_differing, is_lacking, judged, least, lesser, row_of_series, rows_in, rows_judged, scalar_in, scalar_judged};
 ghost use Rattle.promql_tool.specs.declared.script.Row.{Row};
-ghost use Rattle.std.specs.Prelude.{◌≡◌, filter, option_map, IfOk, List};
+ghost use Rattle.std.specs.Prelude.{◌≡◌, ◌++◌, filter, option_map, option_to_list, IfOk, List, OnOk};
 
-use crate::script::Row;
+use crate::script::{Expected, Row};
+use holders::Items;
 use label_set::Labels;
+use promql_meaning::{Answer, Outcome, Point, ResultSeries};
 use std::alloc::{AllocError, Global};
 use std::cmp::Ordering;
 use std::collections::BTreeMap;
@@ -14,6 +16,12 @@ use xfrac::{XFrac, near};
 /// Why a result isn't as expected.
 #[derive(Debug, Drop)]
 pub enum Reason {
+    /// The query has no answer, but this outcome.
+    Unexpected(Outcome),
+    /// A scalar is expected, and the answer is a vector.
+    NotScalar,
+    /// A vector is expected, and the answer is a scalar.
+    NotVector,
     /// These labels are expected and aren't there.
     Missing(Labels),
     /// These labels are there and aren't expected.
@@ -24,6 +32,8 @@ pub enum Reason {
         wanted: XFrac,
         got: XFrac,
     },
+    /// The scalar isn't near the expected one, or has no value.
+    ScalarDiffers { wanted: XFrac, got: Option<XFrac> },
 }
 
 /// The line of an evaluation, counted from 1, and why its result isn't as expected; there is no reason where it passes.
@@ -115,8 +125,8 @@ fn least_differing<'a>(rows: &'a [Row], others: &Values) -> Option<&'a Row>
 }
 
 /// The first reason why rows aren't those that are expected, if there is one. The only error is want of memory.
-pub fn judge(alloc: Global, expected: &[Row], got: &[Row]) -> Result<Option<Reason>, AllocError>
-    ensures { IfOk result (λ reason. reason ≡ judged expected.now got.now) }
+fn judge_rows(alloc: Global, expected: &[Row], got: &[Row]) -> Result<Option<Reason>, AllocError>
+    ensures { IfOk result (λ reason. reason ≡ rows_judged expected.now got.now) }
 {
     let wanted = values_of(alloc, expected)?;
     let values = values_of(alloc, got)?;
@@ -136,5 +146,108 @@ pub fn judge(alloc: Global, expected: &[Row], got: &[Row]) -> Result<Option<Reas
             got: *value,
         })),
         None => Ok(None),
+    }
+}
+
+// ---- outcomes
+
+fn first_value(points: &[Point]) -> Option<XFrac>
+    ensures { result ≡ first_value points.now }
+{
+    match points {
+        [] => None,
+        [point, ..] => Some(point.value),
+    }
+}
+
+/// Adds the row of a series, if it has a point.
+fn add_row(series: &ResultSeries, rows: &mut Items<Row>) -> Result<(), AllocError>
+    ensures { OnOk result (rows.new ≡ rows.old ++ option_to_list (row_of_series series.now)) }
+{
+    match first_value(series.points.as_slice()) {
+        Some(value) => rows.push(Row {
+            labels: series.labels.copy()?,
+            value,
+        }),
+        None => Ok(()),
+    }
+}
+
+/// The series of an instant as rows. The only error is want of memory.
+fn rows_in(alloc: Global, all: &[ResultSeries]) -> Result<Items<Row>, AllocError>
+    ensures { IfOk result (λ rows. rows ≡ rows_in all.now) }
+{
+    let mut rows = Items::new(alloc);
+    for series in all {
+        add_row(series, &mut rows)?;
+    }
+    Ok(rows)
+}
+
+fn scalar_in(all: &[ResultSeries]) -> Option<XFrac>
+    ensures { result ≡ scalar_in all.now }
+{
+    match all {
+        [] => None,
+        [series, ..] => first_value(series.points.as_slice()),
+    }
+}
+
+fn judge_scalar(wanted: XFrac, got: Option<XFrac>) -> Option<Reason>
+    ensures { result ≡ scalar_judged wanted got }
+{
+    match got {
+        Some(value) if near(&wanted, &value) => None,
+        _ => Some(Reason::ScalarDiffers { wanted, got }),
+    }
+}
+
+fn judge_vector(
+    alloc: Global,
+    expected: &[Row],
+    all: &[ResultSeries],
+) -> Result<Option<Reason>, AllocError>
+    ensures { IfOk result (λ reason. reason ≡ rows_judged expected.now (rows_in all.now)) }
+{
+    let got = rows_in(alloc, all)?;
+    judge_rows(alloc, expected, got.as_slice())
+}
+
+fn judge_answer(
+    alloc: Global,
+    expected: &Expected,
+    answer: &Answer,
+) -> Result<Option<Reason>, AllocError>
+    ensures { IfOk result (λ reason. reason ≡ answer_judged expected.now answer.now) }
+{
+    match expected {
+        Expected::Rows(rows) => {
+            if answer.scalar {
+                Ok(Some(Reason::NotVector))
+            } else {
+                judge_vector(alloc, rows.as_slice(), answer.series.as_slice())
+            }
+        }
+        Expected::Scalar(value) => {
+            if answer.scalar {
+                Ok(judge_scalar(*value, scalar_in(answer.series.as_slice())))
+            } else {
+                Ok(Some(Reason::NotScalar))
+            }
+        }
+    }
+}
+
+/// The first reason why an outcome at an instant isn't what is expected, if there is one. The only error is want of memory.
+pub fn judge(
+    alloc: Global,
+    expected: &Expected,
+    outcome: &Outcome,
+) -> Result<Option<Reason>, AllocError>
+    ensures { IfOk result (λ reason. reason ≡ judged expected.now outcome.now) }
+{
+    match outcome {
+        Outcome::Answer(answer) => judge_answer(alloc, expected, answer),
+        _ => Ok(Some(Reason::Unexpected(outcome.copy()?))),
     }
 }
