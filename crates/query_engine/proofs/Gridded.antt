@@ -37,7 +37,7 @@ grid_in start end s =
           let span : pos (unsigned_abs (end -ℤ start)) ≡ end -ℤ start = omega (arith, ints, h) in
           let within : unsigned_abs (end -ℤ start) / s * s ≤ unsigned_abs (end -ℤ start) = div-mul-le_self (unsigned_abs (end -ℤ start)) s in
           subst (λ c. AllByRecursion (Between start end) (instants start (pos s) c)) (sym (add-one (unsigned_abs (end -ℤ start) / s)))
-              (all_in start end start s (unsigned_abs (end -ℤ start) / s) (omega (arith, ints)) (omega (arith, ints, within, span)))
+          (all_in start end start s (unsigned_abs (end -ℤ start) / s) (omega (arith, ints)) (omega (arith, ints, within, span)))
     ] refl
 
 all_between : (start end step : ℤ) → IsInRange start end step → AllByRecursion (λ t. IsAtMost time_limit (record { 0 = t })) (instants_up_to start end step)
@@ -83,6 +83,6 @@ grid_met samples kept grid e law few within =
       end = (omega (arith, ints, r.ordered, r.first), omega (arith, ints, r.last));
     } in
     each_met asked (needs_of asked e) (instants_up_to grid.start.0 grid.end.0 grid.step.0)
-        (recursion_map (λ t. IsAtMost time_limit (record { 0 = t })) (λ t. AreMet asked (needs_of asked e t))
-            (λ t near. law asked e t hundred_years time_limit (omega arith) (reach_few (depth e) few) ends near within)
-            (instants_up_to grid.start.0 grid.end.0 grid.step.0) (all_between grid.start.0 grid.end.0 grid.step.0 r))
+    (recursion_map (λ t. IsAtMost time_limit (record { 0 = t })) (λ t. AreMet asked (needs_of asked e t))
+    (λ t near. law asked e t hundred_years time_limit (omega arith) (reach_few (depth e) few) ends near within)
+    (instants_up_to grid.start.0 grid.end.0 grid.step.0) (all_between grid.start.0 grid.end.0 grid.step.0 r))

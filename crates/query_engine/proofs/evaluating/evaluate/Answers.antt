@@ -27,4 +27,4 @@ pub returns-in-Err-Refused-clause-outcome : goal.returns-in-Err-Refused-clause-o
 returns-in-Err-Refused-clause-outcome g c =
     let told = subst (MayFault (IsRefusedWith c.args.text.now)) c.in-Err-Refused.field-0-is c.in-Err-Refused.ensures.refused in
     subst (λ (r : QueryRefusal). ComesTo c.args.text.now c.args.store.now c.args.grid.now c.args.instant (outcome.Refused r)) (sym c.in-Err-Refused.refusal-is)
-        (refused c.in-Err-Refused.refusal told)
+    (refused c.in-Err-Refused.refusal told)
