@@ -1,0 +1,26 @@
+//! Scripts of the promqltest format, read from the bytes of a file.
+#![tactic(auto)]
+
+mod command;
+mod cut;
+mod expectation;
+mod fault;
+mod item;
+mod line;
+mod quote;
+mod reader;
+mod rows;
+mod script;
+mod series;
+mod word;
+
+pub use fault::ReadFault;
+pub use reader::read;
+pub use script::{
+    Command, Expectations, Expected, Point, ResultSeries, Script, ScriptRefusal, SeriesItem,
+    SeriesLine, Wanted, What,
+};
+pub use std::alloc::AllocError as Memory;
+
+#[cfg(test)]
+mod tests;
