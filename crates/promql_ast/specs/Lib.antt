@@ -1,3 +1,4 @@
 pub mod Depth
 pub mod Folds
+pub mod Parts
 pub mod Refusals

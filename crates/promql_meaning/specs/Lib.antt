@@ -10,7 +10,6 @@ pub mod Meaning
 pub mod NumberOrder
 pub mod Orders
 pub mod Outcomes
-pub mod Parts
 pub mod Ranges
 pub mod RankedGroups
 pub mod Ranks
