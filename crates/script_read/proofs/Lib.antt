@@ -14,3 +14,5 @@ pub mod Parts
 pub mod Cells
 pub mod Bodies
 pub mod Growing
+mod Fronts
+mod FirstWords

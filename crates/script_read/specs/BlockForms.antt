@@ -6,17 +6,16 @@ use Rattle.script_read.specs.CommandForms.{IsCommand}
 use Rattle.script_read.specs.Commands.{Clearing, Loading, Evaluating}
 use Rattle.script_read.specs.ExpectationForms.{IsExpectation}
 use Rattle.script_read.specs.Expects.{Expectation, fits, is_expectation, mode_wants, with_asked}
-use Rattle.script_read.specs.Lines.{Numbered, blocks_of, broken_line, is_blank}
+use Rattle.script_read.specs.Lines.{Numbered, blocks_of, broken_line, words_of}
 use Rattle.script_read.specs.Moments.{Moments}
 use Rattle.script_read.specs.Outcomes.{PatternList}
-use Rattle.script_read.specs.Parted.{AreBlanks, Parted}
 use Rattle.script_read.specs.Quotes.{has_histogram, without_comment}
 use Rattle.script_read.specs.Reading.{Deed, Clears, Loads, Evaluates, Instruction}
 use Rattle.script_read.specs.Refusals.{limit}
 use Rattle.script_read.specs.Results.{begins_series, labels_in, points_of, stands_in, total_places}
 use Rattle.script_read.specs.Moments.{places}
 use Rattle.script_read.specs.Series.{LabelList}
-use Rattle.script_read.specs.SeriesForms.{IsItem, IsSeries}
+use Rattle.script_read.specs.SeriesForms.{IsItem, IsWorded}
 use Rattle.script_read.specs.Words.{number_spelled}
 use Rattle.script_read.specs.declared.expectation.Mode.{Mode}
 use Rattle.script_read.specs.declared.script.Expectations.{Expectations}
@@ -32,11 +31,6 @@ pub data AreItems : List (List ℕ) → List SeriesItem → Type 0 where
   one_item : (word : List ℕ) (item : SeriesItem) → IsItem word item → AreItems (word ∷ []) (item ∷ [])
   more_items : (word : List ℕ) (words : List (List ℕ)) (item : SeriesItem) (items : List SeriesItem) → IsItem word item → AreItems words items
       → AreItems (word ∷ words) (item ∷ items)
-
--- a series, blanks, and words
-pub data IsWorded : List ℕ → LabelList → List (List ℕ) → Type 0 where
-  worded : (series gap rest text : List ℕ) (labels : LabelList) (words : List (List ℕ)) → IsSeries series labels → AreBlanks gap
-      → Parted words [] rest → text ≡ series ++ (gap ++ rest) → IsWorded text labels words
 
 -- the lines behind `load`: each a series with labels, and its items
 pub data AreLoaded : List Numbered → List SeriesLine → Type 0 where
@@ -66,9 +60,9 @@ pub data AreExpected (kept : PatternList) (m : Moments) : Expectations → List 
       → AreExpected kept m (record e { result = Rows (rows ++ record { labels = labels; points = points } ∷ []) }) body all
       → AreExpected kept m e (line ∷ body) all
   -- a scalar, the only line of an instant's result
-  scalar_line : (e all : Expectations) (line : Numbered) (body : List Numbered) (value : XFrac) → m.instant ≡ true → e.fail ≡ [] → e.result ≡ Rows []
-      → begins_series line.text ≡ false → number_spelled line.text ≡ Ok value → AreExpected kept m (record e { result = Scalar value }) body all
-      → AreExpected kept m e (line ∷ body) all
+  scalar_line : (e all : Expectations) (line : Numbered) (body : List Numbered) (word : List ℕ) (value : XFrac) → is_expectation line.text ≡ false
+      → m.instant ≡ true → e.fail ≡ [] → e.result ≡ Rows [] → begins_series line.text ≡ false → words_of line.text ≡ word ∷ []
+      → number_spelled word ≡ Ok value → AreExpected kept m (record e { result = Scalar value }) body all → AreExpected kept m e (line ∷ body) all
 
 -- a block: its first line is a command, and behind `clear` stands the next one
 pub data IsBlock (kept : PatternList) : List Numbered → List Instruction → Type 0 where
