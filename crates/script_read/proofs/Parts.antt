@@ -1,11 +1,14 @@
 -- The parts of the braces that are left.
-use Rattle.std.proofs.Common.{◌≡◌, ◌≤◌, ◌<◌, ℕ, ◌+◌, Bool, true, false, cond, List, [], ◌∷◌, length, Bor, Option, None, Some, is_none, MatchOption, ap, ◌∙◌, ◌&&◌, ◌==◌, refl, arith, Ok, Err}
+use Rattle.std.proofs.Common.{◌≡◌, subst, sym, ◌≤◌, ◌<◌, ℕ, ◌+◌, Bool, true, false, cond, List, [], ◌∷◌, length, Bor, Option, None, Some, is_none, MatchOption, ap, ◌∙◌, ◌&&◌, ◌==◌, refl, arith, Result, Ok, Err}
 use Rattle.std.specs.List.{slice_split}
 use Rattle.std.proofs.lemmas.List.Splits.{length-slice_split}
 use Rattle.promql_lex.specs.declared.token.Token.{Token}
 use Rattle.promql_lex.specs.declared.token.TokenKind.TheVariants.{Sign}
 use Rattle.script_read.specs.Lines.{is_empty}
-use Rattle.script_read.specs.Series.{LabelList, is_comma, labels_with, without_empty_end}
+use Rattle.script_read.specs.Outcomes.{Fails}
+use Rattle.script_read.specs.Series.{LabelList, is_comma, labels_with, part_put, without_empty_end}
+use Rattle.script_read.specs.declared.fault.LineFault.{LineFault}
+use Rattle.script_read.proofs.Steps.{fails_try}
 
 pub a_token : Token
 a_token = record { at = 0; end = 0; kind = Sign }
@@ -45,6 +48,12 @@ module _ (text : List ℕ) where
       not_both : (b : Bool) → (b && false) ≡ true → ⊥
       not_both true h = cc
       not_both false h = cc
+
+  -- a part that is refused refuses what is left
+  pub part_refused : (first : Bool) (labels : LabelList) (part : List Token) (parts all : List (List Token)) (said : Result LabelList LineFault) (e : LineFault)
+      → Fails e (part_put text first labels part) → all ≡ part ∷ parts → labels_with text first labels all ≡ said → Fails e said
+  part_refused first labels part parts all said e h is k =
+      subst (Fails e) (ap (labels_with text first labels) (sym is) ∙ k) (fails_try e (part_put text first labels part) (λ more. labels_with text false more parts) h)
 
 abbrev pub tokens_left : Option (Bor (List Token)) → ℕ
 tokens_left None = 0
