@@ -30,6 +30,7 @@ use match_rule::Patterns;
 use std::alloc::{AllocError, Global};
 use std::collections::BTreeSet;
 use ticks::Ms;
+use xfrac::XFrac;
 
 /// The most bytes of a file.
 const LIMIT: usize = 4_194_304;
@@ -50,6 +51,8 @@ fn at_line<T>(line: u32, said: Result<T, LineFault>) -> Result<T, ReadFault>
 fn read_items(alloc: Global, words: &[&[u8]]) -> Result<Items<SeriesItem>, LineFault>
     ensures { Says result (items_spelled (map (λ word. word.now) words.now)) }
 {
+    // The toolchain's borrow checker is told of the numbers in items where their type is named.
+    let _none: Option<XFrac> = None;
     if words.is_empty() {
         return Err(LineFault::Malformed);
     }

@@ -71,6 +71,8 @@ fn read_cells(alloc: Global, steps: u32, words: &[&[u8]]) -> Result<Items<Series
     ensures said { Says result (cells_spelled steps (map (λ word. word.now) words.now)) }
     ensures within { IfOk result (λ cells. total_places cells ≤ steps) }
 {
+    // The toolchain's borrow checker is told of the numbers in items where their type is named.
+    let _none: Option<XFrac> = None;
     if words.is_empty() {
         return Err(LineFault::Malformed);
     }
