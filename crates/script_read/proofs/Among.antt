@@ -13,7 +13,7 @@ module _ {X : Type 0} where
   grows xs ys [] more h = tt
   grows xs ys (part ∷ parts) more h = (λ x at. more x (h.0 x at), grows xs ys parts more h.1)
 
-  behind : (x : X) (xs : List X) (y : X) → Contains xs y → Contains (x ∷ xs) y
+  pub behind : (x : X) (xs : List X) (y : X) → Contains xs y → Contains (x ∷ xs) y
   behind x xs y at = Contains-append_right (x ∷ []) xs y at
 
   first_or : (x : X) (xs part : List X) (y : X) → ((z : X) → Contains part z → Contains xs z) → Contains (x ∷ []) y ⊎ Contains part y → Contains (x ∷ xs) y

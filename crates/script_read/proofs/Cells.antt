@@ -15,10 +15,11 @@ use Rattle.script_read.proofs.Steps.{fails_front, fails_joined, fails_when, fron
 -- ---- words as items
 
 -- items begin with none, where there is a word
-pub cells_start : (room : ℕ) (words : List (Bor (List ℕ))) → (length words == 0) ≡ false
-    → in_front [] (cells_from room (map (λ word. word.now) (drop 0 words))) ≡ cells_spelled room (map (λ word. word.now) words)
-cells_start room [] h = absurd (cc)
-cells_start room (word ∷ words) h = front_none (cells_from room (map (λ word. word.now) (word ∷ words)))
+pub cells_start : (room : ℕ) (words : List (Bor (List ℕ))) (cells : List SeriesItem) → cells ≡ [] → (length words == 0) ≡ false
+    → in_front cells (cells_from room (map (λ word. word.now) (drop 0 words))) ≡ cells_spelled room (map (λ word. word.now) words)
+cells_start room [] cells none h = absurd (cc)
+cells_start room (word ∷ words) cells none h =
+    ap (λ l. in_front l (cells_from room (map (λ word. word.now) (word ∷ words)))) none ∙ front_none (cells_from room (map (λ word. word.now) (word ∷ words)))
 
 module _ (words : List (Bor (List ℕ))) (i : ℕ) (d : Bor (List ℕ)) (lt : i < length words) where
   -- the words from a place on
@@ -74,10 +75,10 @@ given_room (Ok item) room cell h = given_left (room_after room item) refl h
         subst (λ (c : SeriesItem × ℕ). places_of c.0 + c.1 ≡ room) same (places_fit room left item k)
 
 -- a cell more, within the places
-pub cell_within : (word : List ℕ) (room steps : ℕ) (cells now : List SeriesItem) (cell : SeriesItem × ℕ) → cell_spelled room word ≡ Ok cell → now ≡ cells ++ cell.0 ∷ []
-    → total_places cells + room ≤ steps → total_places now + cell.1 ≤ steps
-cell_within word room steps cells now cell is push h =
-    let fit = given_room (item_spelled word) room cell is in
+pub cell_within : (words : List (Bor (List ℕ))) (i : ℕ) (d : Bor (List ℕ)) (room steps : ℕ) (cells now : List SeriesItem) (cell : SeriesItem × ℕ)
+    → cell_spelled room (get_or words i d).now ≡ Ok cell → now ≡ cells ++ cell.0 ∷ [] → total_places cells + room ≤ steps → total_places now + cell.1 ≤ steps
+cell_within words i d room steps cells now cell is push h =
+    let fit = given_room (item_spelled (get_or words i d).now) room cell is in
     let all : total_places now ≡ total_places cells + places_of cell.0 = ap total_places push ∙ total-append cells cell.0 in
     omega (arith, fit, all)
 

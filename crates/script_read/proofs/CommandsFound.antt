@@ -33,10 +33,10 @@ pub filled_ok : (text t : List ℕ) → begins_word text ≡ true → filled tex
 filled_ok [] t b h = absurd (cc)
 filled_ok (byte ∷ bytes) t b h =
     let told = if_ok (is_utf8 (byte ∷ bytes)) (Ok (byte ∷ bytes)) Malformed t h in
-    (record { some = λ e. cc; begun = b; told = told.0 }, sym (same_ok {E = LineFault} (byte ∷ bytes) t told.1))
+    (record { some = λ e. cc; begun = b; told = told.0 }, sym (same_ok (Ok (byte ∷ bytes)) (byte ∷ bytes) t refl told.1))
 
 alone_ok : (order o : Order) (behind : List ℕ) → if_alone order behind ≡ Ok o → (behind ≡ []) × (order ≡ o)
-alone_ok order o [] h = (refl, same_ok {E = LineFault} order o h)
+alone_ok order o [] h = (refl, same_ok (if_alone order []) order o refl h)
 alone_ok order o (byte ∷ bytes) h = absurd (cc)
 
 -- ---- what stands behind words that have to stand there
@@ -44,7 +44,7 @@ alone_ok order o (byte ∷ bytes) h = absurd (cc)
 after_ok : (word text behind : List ℕ) → after_word word text ≡ Ok behind → (first_word text ≡ word) × (behind_word text ≡ behind)
 after_ok word text behind h =
     let k = if_ok (bytes_eq (first_word text) word) (Ok (behind_word text)) Malformed behind h in
-    (same_bytes (first_word text) word k.0, same_ok {E = LineFault} (behind_word text) behind k.1)
+    (same_bytes (first_word text) word k.0, same_ok (Ok (behind_word text)) (behind_word text) behind refl k.1)
 
 -- a time behind a word
 record TimeBehind (read : List ℕ → Result Ms LineFault) (word text : List ℕ) (found : Ms × List ℕ) : Type 0 where
@@ -79,7 +79,7 @@ evaluated_ok mode m text order b h =
     record {
       grid = g.0;
       text_filled = f.0;
-      is = sym e.2 ∙ ap (Evaluating mode t.0) f.1 ∙ ap (λ n. Evaluating mode n text) (sym (same_ok {E = LineFault} m t.0 g.1));
+      is = sym e.2 ∙ ap (Evaluating mode t.0) f.1 ∙ ap (λ n. Evaluating mode n text) (sym (same_ok (Ok m) m t.0 refl g.1));
     }
 
 -- ---- evaluations

@@ -14,5 +14,9 @@ pub mod Parts
 pub mod Cells
 pub mod Bodies
 pub mod Growing
-mod Fronts
-mod FirstWords
+pub mod Takes
+pub mod Seen
+pub mod Fronts
+pub mod FirstWords
+pub mod CommandsFound
+pub mod CommandsRead

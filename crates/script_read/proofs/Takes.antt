@@ -4,8 +4,8 @@ use Rattle.std.specs.Prelude.{bytes_eq}
 use Rattle.std.proofs.lemmas.Slice.Eq.{bytes_eq-Decides}
 use Rattle.script_read.specs.Outcomes.{in_front, joined, onto, then_give, then_try}
 
-pub same_ok : {X E : Type 0} (x y : X) → Ok {E = E} x ≡ Ok y → x ≡ y
-same_ok x y h = cc
+pub same_ok : {X E : Type 0} (r : Result X E) (x y : X) → r ≡ Ok x → r ≡ Ok y → x ≡ y
+same_ok r x y h k = cc
 
 pub try_ok : {X Y E : Type 0} (r : Result X E) (make : X → Result Y E) (y : Y) → then_try r make ≡ Ok y → (x : X) × (r ≡ Ok x) × (make x ≡ Ok y)
 try_ok (Ok x) make y h = (x, refl, h)

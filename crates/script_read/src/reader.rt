@@ -111,19 +111,19 @@ fn read_load(
 
 // ---- the lines behind `eval`
 
-/// Adds a scalar line. It is the only line of the result of an instant.
+/// Makes a result that of a scalar line. It is the only line of the result of an instant.
 fn add_scalar(
     alloc: Global,
-    expected: &mut Expectations,
+    stated: &mut Expected,
     instant: bool,
     text: &[u8],
 ) -> Result<(), LineFault>
-    ensures { Makes result expected.new.result (scalar_added instant expected.old.result text.now) }
+    ensures { Makes result stated.new (scalar_added instant stated.old text.now) }
 {
-    match &expected.result {
+    match stated {
         Expected::Rows(rows) if instant && rows.as_slice().is_empty() => {
             let words = words_in(alloc, text)?;
-            expected.result = Expected::Scalar(number_alone(&words)?);
+            *stated = Expected::Scalar(number_alone(&words)?);
             Ok(())
         }
         _ => Err(LineFault::Malformed),
@@ -176,7 +176,7 @@ fn add_result(
         return Err(LineFault::Malformed);
     }
     if !begins_series(text) {
-        return add_scalar(alloc, expected, asked.instant, text);
+        return add_scalar(alloc, &mut expected.result, asked.instant, text);
     }
     match &mut expected.result {
         Expected::Scalar(_) => Err(LineFault::Malformed),
