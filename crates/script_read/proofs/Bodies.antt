@@ -1,7 +1,7 @@
 -- The lines of a block, one more at a time, and the commands of a file.
-use Rattle.std.proofs.Common.{◌≡◌, ◌<◌, ℕ, suc, ◌+◌, true, false, List, [], ◌∷◌, ◌++◌, Contains, length, get_or, drop, map, Bor, Result, Ok, Err, IfErr, IfOk, refl, ap, sym, ◌∙◌, subst, arith, add-one, drop-cons}
+use Rattle.std.proofs.Common.{◌≡◌, ◌<◌, ◌≤◌, ℕ, suc, ◌+◌, ◌-◌, true, false, List, [], ◌∷◌, ◌++◌, Contains, length, get_or, take, drop, map, Bor, Result, Ok, Err, IfErr, IfOk, refl, ap, sym, ◌∙◌, subst, arith, add-one, drop-cons}
 use Rattle.std.specs.List.{slice_split}
-use Rattle.std.proofs.lemmas.List.{get_or-map, length-map, map-append}
+use Rattle.std.proofs.lemmas.List.{get_or-map, length-map, map-append, take_rest}
 use Rattle.script_read.specs.Expects.{RefusesOnLine, RefusesPattern, search_on}
 use Rattle.script_read.specs.Lines.{Numbered, has_no_text}
 use Rattle.script_read.specs.Moments.{Moments}
@@ -18,6 +18,7 @@ use Rattle.script_read.specs.declared.script.Expectations.{Expectations}
 use Rattle.script_read.specs.declared.script.SeriesLine.{SeriesLine}
 use Rattle.script_read.proofs.Among.{parts_within, within_at}
 use Rattle.script_read.proofs.Cells.{front_added}
+use Rattle.script_read.proofs.Growing.{gathered}
 use Rattle.script_read.proofs.Spares.{refused_line}
 use Rattle.script_read.proofs.Steps.{front_front, front_onto, refuses_front, refuses_try}
 
@@ -94,6 +95,31 @@ pub behind_refused : {X : Type 0} (e : ReadFault) (front : List X) (said : Resul
 behind_refused files.Memory front said h = tt
 behind_refused (files.Refused r) front (Err d) h = h
 behind_refused (files.Refused r) front (Ok xs) h = absurd (cc)
+
+-- the first line of what is left of a block, and the lines behind it
+pub first_cut : (rest : List Line) (line : Line) → 1 ≤ length rest → line ≡ get_or rest 0 line → map numbered rest ≡ numbered line ∷ map numbered (take (length rest - 1) (drop 1 rest))
+first_cut rest line some is = ap (map numbered) (cut_at rest 0 line (omega (arith, some)) is ∙ ap (λ l. line ∷ l) (sym (take_rest rest 1)))
+
+module _ (before commands : List Command) (block rest : List Numbered) (kept : PatternList)
+    (said : (more : PatternList) → in_front (instructions commands) (commands_in (kept ++ more) rest) ≡ in_front (instructions before) (commands_in (kept ++ more) block)) where
+  -- what is said of a block is said of what is left of it, with more patterns
+  pub left_said : (now last more : PatternList) → now ≡ kept ++ last
+      → in_front (instructions commands) (commands_in (now ++ more) rest) ≡ in_front (instructions before) (commands_in (now ++ more) block)
+  left_said now last more is =
+      subst (λ (all : PatternList). in_front (instructions commands) (commands_in all rest) ≡ in_front (instructions before) (commands_in all block))
+      (gathered kept now last more is) (said (last ++ more))
+
+  pub left_refused : (now last : PatternList) (line : Numbered) (body : List Numbered) (e : ReadFault) → now ≡ kept ++ last → rest ≡ line ∷ body
+      → Refuses e (command_of now line body) → Refuses e (commands_in now block)
+  left_refused now last line body e is cut h =
+      behind_refused e (instructions before) (commands_in now block)
+      (subst (Refuses e) (ap (λ l. in_front (instructions commands) (commands_in now l)) (sym cut)
+      ∙ subst (λ (all : PatternList). in_front (instructions commands) (commands_in all rest) ≡ in_front (instructions before) (commands_in all block)) (sym is) (said last))
+      (command_refused now commands line body e h))
+
+-- what stands in the lines behind the first one
+pub there_cut : (rest : List Numbered) (line : Numbered) (body : List Numbered) (x : Numbered) → rest ≡ line ∷ body → Contains (line ∷ body) x → Contains rest x
+there_cut rest line body x cut at = subst (λ l. Contains l x) (sym cut) at
 
 -- ---- blocks
 
