@@ -2,6 +2,8 @@
 use Rattle.std.proofs.Common.{◌≡◌, ℕ, true, List, [], ◌∷◌, Result, Ok, Err, Option, Some, None, refl, ap, sym, ◌∙◌, subst}
 use Rattle.std.specs.Prelude.{bytes_eq, codes}
 use Rattle.std.specs.Str.{is_utf8}
+use Rattle.frac_text.specs.Times.{amount_answer}
+use Rattle.ticks.specs.Durations.{duration_in}
 use Rattle.ticks.specs.declared.moment.Ms.{Ms}
 use Rattle.script_read.specs.CommandForms.{IsCommand, clear_line, load_line, eval_instant, eval_range}
 use Rattle.script_read.specs.Commands.{Order, Clearing, Loading, Evaluating, after_word, duration_after, eval_heading, eval_mode, evaluated, evaluation_of, heading_of, heading_worded, if_alone, instant_heading, load_heading, moment_at, moments_from, range_heading, range_of, time_after}
@@ -15,13 +17,15 @@ use Rattle.script_read.specs.declared.expectation.Mode.{Mode}
 use Rattle.script_read.specs.declared.expectation.Mode.TheVariants as modes
 use Rattle.script_read.specs.declared.fault.LineFault.{LineFault}
 use Rattle.script_read.specs.declared.fault.LineFault.TheVariants.{Malformed, NativeHistogram}
-use Rattle.script_read.proofs.FirstWords.{cut_of, word_alone, word_before, word_beside}
+use Rattle.script_read.proofs.FirstWords.{cut_of, word_alone, word_beside, word_then}
 use Rattle.script_read.proofs.Takes.{by_test, give_ok, if_ok, same_bytes, same_ok, try_ok}
-use Rattle.frac_text.specs.Times.{amount_answer}
+
+no_time : time_spelled [] ≡ Err Malformed
+unfolding amount_answer duration_in
+no_time = refl
 
 time_none : (t : Ms) → time_spelled [] ≡ Ok t → ⊥
-unfolding amount_answer
-time_none t h = absurd (cc)
+time_none t h = let k : Err Malformed ≡ Ok t = sym no_time ∙ h in absurd (cc)
 
 time_some : (word : List ℕ) (t : Ms) → time_spelled word ≡ Ok t → word ≡ [] → ⊥
 time_some word t h e = time_none t (subst (λ w. time_spelled w ≡ Ok t) e h)
@@ -95,7 +99,7 @@ module _ (text word : List ℕ) (first : first_word text ≡ word) (some : word 
       let f : IsFilled (behind_word last) = subst IsFilled (sym a.rest) e.text_filled in
       let parted : Parted (word ∷ (codes "instant" ∷ (codes "at" ∷ (first_word last ∷ [])))) (behind_word last) text =
           word_beside text word first some _ _ (word_beside (behind_word text) (codes "instant") second (λ k. cc) _ _
-          (word_beside rest (codes "at") a.first (λ k. cc) _ _ (word_before last (first_word last) refl (time_some (first_word last) t.0.0 a.time) f))) in
+          (word_beside rest (codes "at") a.first (λ k. cc) _ _ (word_then last (first_word last) refl (time_some (first_word last) t.0.0 a.time)))) in
       subst (IsCommand text) (ap (Evaluating mode (moment_at t.0.0)) a.rest ∙ sym e.is)
       (eval_instant text word (first_word last) (behind_word last) mode t.0.0 parted f named a.time e.grid)
 
@@ -115,7 +119,7 @@ module _ (text word : List ℕ) (first : first_word text ≡ word) (some : word 
       let e = evaluated_ok mode m v.0.1 order (subst (λ l. begins_word l ≡ true) c.rest (cut_of last).begun) v.2 in
       let f : IsFilled (behind_word last) = subst IsFilled (sym c.rest) e.text_filled in
       let third : Parted (codes "step" ∷ (first_word last ∷ [])) (behind_word last) u.0.1 =
-          word_beside u.0.1 (codes "step") c.first (λ k. cc) _ _ (word_before last (first_word last) refl (interval_some (first_word last) v.0.0 c.time) f) in
+          word_beside u.0.1 (codes "step") c.first (λ k. cc) _ _ (word_then last (first_word last) refl (interval_some (first_word last) v.0.0 c.time)) in
       let middle : Parted (codes "to" ∷ (first_word to ∷ (codes "step" ∷ (first_word last ∷ [])))) (behind_word last) t.0.1 =
           word_beside t.0.1 (codes "to") b.first (λ k. cc) _ _ (word_beside to (first_word to) refl (time_some (first_word to) u.0.0 b.time) _ _
           (subst (Parted (codes "step" ∷ (first_word last ∷ [])) (behind_word last)) (sym b.rest) third)) in

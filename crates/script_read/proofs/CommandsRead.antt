@@ -28,15 +28,12 @@ evaluated_is mode m text g f =
 
 -- a time behind a word
 module _ (read : List ℕ → Result Ms LineFault) (word text : List ℕ) (time : Ms) (rest : List ℕ) where
-  timed : Result (Ms × List ℕ) LineFault
-  timed = then_try (after_word word text) (λ behind. then_give (read (first_word behind)) (λ t. (t, behind_word behind)))
-
   time_is : first_word text ≡ word → read (first_word (behind_word text)) ≡ Ok time → behind_word (behind_word text) ≡ rest
-      → then_try (after_word word text) (λ behind. then_give (read (first_word behind)) (λ t. (t, behind_word behind))) ≡ Ok (time, rest)
+      → then_try {Y = Ms × List ℕ} (after_word word text) (λ behind. then_give (read (first_word behind)) (λ t. (t, behind_word behind))) ≡ Ok (time, rest)
   time_is first is behind =
-      ap (λ b. then_try (cond b (Ok (behind_word text)) (Err Malformed)) (λ l. then_give (read (first_word l)) (λ t. (t, behind_word l)))) (bytes_same (first_word text) word first)
-      ∙ ap (λ r. then_give r (λ t. (t, behind_word (behind_word text)))) is
-      ∙ ap (λ l. Ok (time, l)) behind
+      ap (λ b. then_try {Y = Ms × List ℕ} (cond b (Ok (behind_word text)) (Err Malformed)) (λ l. then_give (read (first_word l)) (λ t. (t, behind_word l)))) (bytes_same (first_word text) word first)
+      ∙ ap (λ r. then_give {Y = Ms × List ℕ} r (λ t. (t, behind_word (behind_word text)))) is
+      ∙ ap (λ l. let found : Ms × List ℕ = (time, l) in Ok found) behind
 
 -- ---- the words of an evaluation
 
@@ -54,7 +51,14 @@ module _ (mode : Mode) (behind : List ℕ) where
           let same : n ≡ mode = cc in
           ap (λ w. heading_worded w behind) (same_bytes word name e) ∙ h ∙ ap (λ o. eval_heading o behind) same
 
-module _ (text word : List ℕ) (mode : Mode) (rest expression : List ℕ) where
+range_as : (mode : Mode) (rest : List ℕ) → (mode ≡ modes.Ordered → ⊥) → range_of mode rest ≡ range_heading mode rest
+range_as modes.Plain rest unordered = refl
+range_as modes.Fail rest unordered = refl
+range_as modes.Warn rest unordered = refl
+range_as modes.Info rest unordered = refl
+range_as modes.Ordered rest unordered = absurd (unordered refl)
+
+module _ (text word : List ℕ) (mode : Mode) (expression : List ℕ) where
   instant_read : (time : List ℕ) (at : Ms) → Parted (word ∷ (codes "instant" ∷ (codes "at" ∷ (time ∷ [])))) expression text → IsFilled expression
       → eval_mode word ≡ Some mode → time_spelled time ≡ Ok at → is_grid (moment_at at) ≡ true → heading_of text ≡ Ok (Evaluating mode (moment_at at) expression)
   instant_read time at h f named is grid =
@@ -73,12 +77,50 @@ module _ (text word : List ℕ) (mode : Mode) (rest expression : List ℕ) where
       ∙ ap (λ r. then_try r (λ at. evaluated mode (moment_at at.0) at.1)) (time_is time_spelled (codes "at") c at expression third (ap time_spelled fourth ∙ is) (parted_behind _ _ _ h3))
       ∙ evaluated_is mode (moment_at at) expression grid f
 
-  range_as : (mode ≡ modes.Ordered → ⊥) → range_of mode rest ≡ range_heading mode rest
-  range_as unordered = by mode refl
-    where
-      by : (n : Mode) → mode ≡ n → range_of n rest ≡ range_heading n rest
-      by modes.Plain e = refl
-      by modes.Fail e = refl
-      by modes.Warn e = refl
-      by modes.Info e = refl
-      by modes.Ordered e = absurd (unordered e)
+module _ (text word : List ℕ) (mode : Mode) (first last duration expression : List ℕ) (start end step : Ms) where
+  range_read : Parted (word ∷ (codes "range" ∷ (codes "from" ∷ (first ∷ (codes "to" ∷ (last ∷ (codes "step" ∷ (duration ∷ [])))))))) expression text → IsFilled expression
+      → eval_mode word ≡ Some mode → (mode ≡ modes.Ordered → ⊥) → time_spelled first ≡ Ok start → time_spelled last ≡ Ok end → interval_spelled duration ≡ Ok step
+      → is_grid (moments_from start end step) ≡ true → heading_of text ≡ Ok (Evaluating mode (moments_from start end step) expression)
+  range_read h f named unordered ks ke kd grid =
+      let b = behind_word text in
+      let c = behind_word b in
+      let h1 = parted_behind _ _ _ h in
+      let h2 = parted_behind _ _ _ h1 in
+      let h3 = parted_behind _ _ _ h2 in
+      let h4 = parted_behind _ _ _ h3 in
+      let h5 = parted_behind _ _ _ h4 in
+      let h6 = parted_behind _ _ _ h5 in
+      let h7 = parted_behind _ _ _ h6 in
+      let to = behind_word (behind_word c) in
+      let by = behind_word (behind_word to) in
+      ap (λ w. heading_worded w b) (parted_first _ _ _ h)
+      ∙ heading_as mode b word named
+      ∙ ap (λ w. cond (bytes_eq w (codes "instant")) (instant_heading mode c) (cond (bytes_eq w (codes "range")) (range_of mode c) (Err Malformed))) (parted_first _ _ _ h1)
+      ∙ range_as mode c unordered
+      ∙ ap (λ r. then_try r (λ start. then_try (time_after (codes "to") start.1) (λ end. then_try (duration_after (codes "step") end.1) (λ step. evaluated mode (moments_from start.0 end.0 step.0) step.1))))
+      (time_is time_spelled (codes "from") c start to (parted_first _ _ _ h2) (ap time_spelled (parted_first _ _ _ h3) ∙ ks) refl)
+      ∙ ap (λ r. then_try r (λ end. then_try (duration_after (codes "step") end.1) (λ step. evaluated mode (moments_from start end.0 step.0) step.1)))
+      (time_is time_spelled (codes "to") to end by (parted_first _ _ _ h4) (ap time_spelled (parted_first _ _ _ h5) ∙ ke) refl)
+      ∙ ap (λ r. then_try r (λ step. evaluated mode (moments_from start end step.0) step.1))
+      (time_is interval_spelled (codes "step") by step expression (parted_first _ _ _ h6) (ap interval_spelled (parted_first _ _ _ h7) ∙ kd) (parted_behind _ _ _ h7))
+      ∙ evaluated_is mode (moments_from start end step) expression grid f
+
+-- ---- commands
+
+load_read : (text duration : List ℕ) (interval : Ms) → Parted (codes "load" ∷ (duration ∷ [])) [] text → interval_spelled duration ≡ Ok interval → heading_of text ≡ Ok (Loading interval)
+load_read text duration interval h is =
+    let b = behind_word text in
+    let h1 = parted_behind _ _ _ h in
+    ap (λ w. heading_worded w b) (parted_first _ _ _ h)
+    ∙ ap (λ r. then_try r (λ t. if_alone (Loading t) (behind_word b))) (ap interval_spelled (parted_first _ _ _ h1) ∙ is)
+    ∙ ap (if_alone (Loading interval)) (parted_behind _ _ _ h1)
+
+clear_read : (text : List ℕ) → Parted (codes "clear" ∷ []) [] text → heading_of text ≡ Ok Clearing
+clear_read text h = ap (λ w. heading_worded w (behind_word text)) (parted_first _ _ _ h) ∙ ap (if_alone Clearing) (parted_behind _ _ _ h)
+
+pub heading_read : (text : List ℕ) (order : Order) → IsCommand text order → heading_of text ≡ Ok order
+heading_read _ _ (clear_line text h) = clear_read text h
+heading_read _ _ (load_line text duration interval h is) = load_read text duration interval h is
+heading_read _ _ (eval_instant text word time expression mode at h f named is grid) = instant_read text word mode expression time at h f named is grid
+heading_read _ _ (eval_range text word first last duration expression mode start end step h f named unordered ks ke kd grid) =
+    range_read text word mode first last duration expression start end step h f named unordered ks ke kd grid

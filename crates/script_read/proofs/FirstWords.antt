@@ -67,17 +67,17 @@ word_some (b ∷ word) back text h is e = cc
 
 parted_some : (words : List (List ℕ)) (rest text : List ℕ) → Parted words rest text → text ≡ [] → ⊥
 parted_some _ _ _ (last_word word gap text w g is) = word_some word gap text w is
-parted_some _ _ _ (before_rest word gap rest text w g f is) = word_some word (gap ++ rest) text w is
+parted_some _ _ _ (before_rest word gap rest text w g some b is) = word_some word (gap ++ rest) text w is
 parted_some _ _ _ (more_words word gap behind text rest words w g h is) = word_some word (gap ++ behind) text w is
 
 parted_begins : (words : List (List ℕ)) (rest text : List ℕ) → Parted words rest text → begins_word text ≡ true
 parted_begins _ _ _ (last_word word gap text w g is) = subst (λ l. begins_word l ≡ true) (sym is) (word_begins word gap w)
-parted_begins _ _ _ (before_rest word gap rest text w g f is) = subst (λ l. begins_word l ≡ true) (sym is) (word_begins word (gap ++ rest) w)
+parted_begins _ _ _ (before_rest word gap rest text w g some b is) = subst (λ l. begins_word l ≡ true) (sym is) (word_begins word (gap ++ rest) w)
 parted_begins _ _ _ (more_words word gap behind text rest words w g h is) = subst (λ l. begins_word l ≡ true) (sym is) (word_begins word (gap ++ behind) w)
 
 none_parted : (words : List (List ℕ)) (rest text : List ℕ) → Parted words rest text → words ≡ [] → ⊥
 none_parted _ _ _ (last_word word gap text w g is) e = cc
-none_parted _ _ _ (before_rest word gap rest text w g f is) e = cc
+none_parted _ _ _ (before_rest word gap rest text w g some b is) e = cc
 none_parted _ _ _ (more_words word gap behind text rest words w g h is) e = cc
 
 abbrev pub first_of : List (List ℕ) → List ℕ
@@ -93,7 +93,7 @@ behind_joined word back text w s is = ap behind_word is ∙ ap from_blank (front
 -- its first word
 pub parted_first : (words : List (List ℕ)) (rest text : List ℕ) → Parted words rest text → first_word text ≡ first_of words
 parted_first _ _ _ (last_word word gap text w g is) = first_joined word gap text w (end_stops gap g) is
-parted_first _ _ _ (before_rest word gap rest text w g f is) = first_joined word (gap ++ rest) text w (word_stops gap rest g) is
+parted_first _ _ _ (before_rest word gap rest text w g some b is) = first_joined word (gap ++ rest) text w (word_stops gap rest g) is
 parted_first _ _ _ (more_words word gap behind text rest words w g h is) = first_joined word (gap ++ behind) text w (word_stops gap behind g) is
 
 -- what stands behind it
@@ -109,7 +109,7 @@ behind_more word (next ∷ words) rest text behind is h = subst (λ b. Parted (n
 pub parted_behind : (words : List (List ℕ)) (rest text : List ℕ) → Parted words rest text → Behind words rest (behind_word text)
 parted_behind _ _ _ (last_word word gap text w g is) =
     behind_joined word gap text w (end_stops gap g) is ∙ ap from_blank (sym (append-nil gap)) ∙ skipped gap [] g refl
-parted_behind _ _ _ (before_rest word gap rest text w g f is) = behind_joined word (gap ++ rest) text w (word_stops gap rest g) is ∙ skipped gap rest g.blank f.begun
+parted_behind _ _ _ (before_rest word gap rest text w g some b is) = behind_joined word (gap ++ rest) text w (word_stops gap rest g) is ∙ skipped gap rest g.blank b
 parted_behind _ _ _ (more_words word gap behind text rest words w g h is) =
     behind_more word words rest text behind (behind_joined word (gap ++ behind) text w (word_stops gap behind g) is ∙ skipped gap behind g.blank (parted_begins words rest behind h)) h
 
@@ -168,8 +168,13 @@ module _ (text word : List ℕ) (first : first_word text ≡ word) (some : word 
   gap_blanks : (behind_word text ≡ [] → ⊥) → AreBlanks (cut_of text).gap
   gap_blanks filled = record { some = (cut_of text).parts filled; blank = (cut_of text).blank }
 
-  pub word_before : IsFilled (behind_word text) → Parted (word ∷ []) (behind_word text) text
-  word_before f = before_rest word (cut_of text).gap (behind_word text) text cut_word (gap_blanks f.some) f cut_joined
+  -- what stands behind the word
+  pub word_then : Parted (word ∷ []) (behind_word text) text
+  word_then = by (behind_word text) refl
+    where
+      by : (behind : List ℕ) → behind_word text ≡ behind → Parted (word ∷ []) (behind_word text) text
+      by [] e = subst (λ r. Parted (word ∷ []) r text) (sym e) (word_alone e)
+      by (x ∷ xs) e = before_rest word (cut_of text).gap (behind_word text) text cut_word (gap_blanks (λ k. cc)) (λ k. cc) (cut_of text).begun cut_joined
 
   pub word_beside : (words : List (List ℕ)) (rest : List ℕ) → Parted words rest (behind_word text) → Parted (word ∷ words) rest text
   word_beside words rest h = more_words word (cut_of text).gap (behind_word text) text rest words cut_word (gap_blanks (parted_some words rest (behind_word text) h)) h cut_joined

@@ -20,3 +20,8 @@ pub mod Fronts
 pub mod FirstWords
 pub mod CommandsFound
 pub mod CommandsRead
+pub mod ExpectationsFound
+pub mod ExpectationsRead
+pub mod ItemsFound
+pub mod Spelled
+pub mod ItemsRead

@@ -16,3 +16,4 @@ pub mod CommandForms
 pub mod SeriesForms
 pub mod ExpectationForms
 pub mod BlockForms
+pub mod Laws

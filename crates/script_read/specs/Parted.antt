@@ -29,7 +29,8 @@ pub data Parted : List (List ℕ) → List ℕ → List ℕ → Type 0 where
   -- nothing but blanks stands behind the word
   last_word : (word gap text : List ℕ) → IsWord word → IsTrue (list_all is_blank gap) → text ≡ word ++ gap → Parted (word ∷ []) [] text
   -- text stands behind it
-  before_rest : (word gap rest text : List ℕ) → IsWord word → AreBlanks gap → IsFilled rest → text ≡ word ++ (gap ++ rest) → Parted (word ∷ []) rest text
+  before_rest : (word gap rest text : List ℕ) → IsWord word → AreBlanks gap → rest ≢ [] → IsTrue (begins_word rest) → text ≡ word ++ (gap ++ rest)
+      → Parted (word ∷ []) rest text
   -- words stand behind it
   more_words : (word gap behind text rest : List ℕ) (words : List (List ℕ)) → IsWord word → AreBlanks gap → Parted words rest behind
       → text ≡ word ++ (gap ++ behind) → Parted (word ∷ words) rest text

@@ -6,6 +6,7 @@ mod cut;
 mod expectation;
 mod fault;
 mod item;
+mod laws;
 mod line;
 mod quote;
 mod reader;
@@ -15,6 +16,7 @@ mod series;
 mod word;
 
 pub use fault::ReadFault;
+pub use laws::{items_are_told, lines_are_told};
 pub use reader::read;
 pub use script::{
     Command, Expectations, Expected, Point, ResultSeries, Script, ScriptRefusal, SeriesItem,

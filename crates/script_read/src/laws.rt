@@ -1,0 +1,17 @@
+//! Laws of the reading of scripts and the grammar.
+ghost use Rattle.script_read.specs.Laws.{CommandsAreInGrammar, ExpectationsAreInGrammar, ItemsAreInGrammar};
+
+use frac_text::numbers_are_told;
+
+/// A law, with nothing to run: a line is read as a command, and as an expectation, exactly where it is one by its form.
+pub fn lines_are_told()
+    ensures commands { CommandsAreInGrammar }
+    ensures expectations { ExpectationsAreInGrammar }
+{}
+
+/// A law, with nothing to run: a word is read as an item exactly where it is one by its form.
+pub fn items_are_told()
+    ensures { ItemsAreInGrammar }
+{
+    numbers_are_told();
+}
