@@ -25,3 +25,6 @@ pub mod ExpectationsRead
 pub mod ItemsFound
 pub mod Spelled
 pub mod ItemsRead
+pub mod Braces
+pub mod SeriesFound
+pub mod SeriesRead
