@@ -64,7 +64,7 @@ total-append : (items : List SeriesItem) (item : SeriesItem) → total_places (i
 total-append [] item = omega arith
 total-append (first ∷ items) item = omega (arith, total-append items item)
 
-given_room : (r : Result SeriesItem LineFault) (room : ℕ) (cell : SeriesItem × ℕ) → then_try r (λ item. then_give (room_after room item) (λ left. (item, left))) ≡ Ok cell → places_of cell.0 + cell.1 ≡ room
+pub given_room : (r : Result SeriesItem LineFault) (room : ℕ) (cell : SeriesItem × ℕ) → then_try r (λ item. then_give (room_after room item) (λ left. (item, left))) ≡ Ok cell → places_of cell.0 + cell.1 ≡ room
 given_room (Err e) room cell h = absurd (cc)
 given_room (Ok item) room cell h = given_left (room_after room item) refl h
   where

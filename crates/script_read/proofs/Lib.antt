@@ -28,3 +28,4 @@ pub mod ItemsRead
 pub mod Braces
 pub mod SeriesFound
 pub mod SeriesRead
+pub mod BlocksFound

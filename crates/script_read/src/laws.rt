@@ -1,5 +1,5 @@
 //! Laws of the reading of scripts and the grammar.
-ghost use Rattle.script_read.specs.Laws.{CommandsAreInGrammar, ExpectationsAreInGrammar, ItemsAreInGrammar};
+ghost use Rattle.script_read.specs.Laws.{CommandsAreInGrammar, ExpectationsAreInGrammar, InGrammarIsRead, ItemsAreInGrammar, OneScript, ReadIsInGrammar};
 
 use frac_text::numbers_are_told;
 
@@ -15,3 +15,8 @@ pub fn items_are_told()
 {
     numbers_are_told();
 }
+
+/// A law, with nothing to run: a file that is read is a script by the grammar, with these commands.
+pub fn what_is_read_is_a_script()
+    ensures { ReadIsInGrammar }
+{}

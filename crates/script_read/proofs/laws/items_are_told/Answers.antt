@@ -1,7 +1,5 @@
 use Rattle.script_read.proofs.ItemsFound.{item_found}
 use Rattle.script_read.proofs.ItemsRead.{item_read}
-use Rattle.script_read.proofs.SeriesFound.{worded_found}
-use Rattle.script_read.proofs.SeriesRead.{worded_read}
 use Rattle.script_read.proofs.laws.items_are_told.Goals as goal
 
 pub returns : goal.returns
