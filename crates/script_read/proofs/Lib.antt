@@ -29,3 +29,4 @@ pub mod Braces
 pub mod SeriesFound
 pub mod SeriesRead
 pub mod BlocksFound
+pub mod BlocksRead

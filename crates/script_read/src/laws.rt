@@ -20,3 +20,11 @@ pub fn items_are_told()
 pub fn what_is_read_is_a_script()
     ensures { ReadIsInGrammar }
 {}
+
+/// A law, with nothing to run: each script of the grammar is read, and it is one script.
+pub fn each_script_is_read()
+    ensures read { InGrammarIsRead }
+    ensures one { OneScript }
+{
+    numbers_are_told();
+}

@@ -16,7 +16,9 @@ mod series;
 mod word;
 
 pub use fault::ReadFault;
-pub use laws::{items_are_told, lines_are_told, what_is_read_is_a_script};
+pub use laws::{
+    each_script_is_read, items_are_told, lines_are_told, what_is_read_is_a_script,
+};
 pub use reader::read;
 pub use script::{
     Command, Expectations, Expected, Point, ResultSeries, Script, ScriptRefusal, SeriesItem,
