@@ -30,3 +30,4 @@ pub mod SeriesFound
 pub mod SeriesRead
 pub mod BlocksFound
 pub mod BlocksRead
+pub mod FirstRefused

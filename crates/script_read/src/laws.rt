@@ -1,5 +1,5 @@
 //! Laws of the reading of scripts and the grammar.
-ghost use Rattle.script_read.specs.Laws.{CommandsAreInGrammar, ExpectationsAreInGrammar, InGrammarIsRead, ItemsAreInGrammar, OneScript, ReadIsInGrammar};
+ghost use Rattle.script_read.specs.Laws.{CommandsAreInGrammar, ExpectationsAreInGrammar, InGrammarIsRead, ItemsAreInGrammar, OneScript, ReadIsInGrammar, RefusalIsFirst};
 
 use frac_text::numbers_are_told;
 
@@ -28,3 +28,9 @@ pub fn each_script_is_read()
 {
     numbers_are_told();
 }
+
+/// A law, with nothing to run: a text of at most 4,194,304 bytes that is refused is so by the first line that is: those before
+/// it are commands, and with it they are refused, whatever stands behind.
+pub fn refusals_are_of_first_lines()
+    ensures { RefusalIsFirst }
+{}

@@ -17,7 +17,8 @@ mod word;
 
 pub use fault::ReadFault;
 pub use laws::{
-    each_script_is_read, items_are_told, lines_are_told, what_is_read_is_a_script,
+    each_script_is_read, items_are_told, lines_are_told, refusals_are_of_first_lines,
+    what_is_read_is_a_script,
 };
 pub use reader::read;
 pub use script::{
