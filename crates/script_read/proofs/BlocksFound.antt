@@ -37,7 +37,7 @@ use Rattle.script_read.proofs.ExpectationsFound.{expectation_found}
 use Rattle.script_read.proofs.ItemsFound.{item_found}
 use Rattle.script_read.proofs.SeriesFound.{worded_found}
 use Rattle.script_read.proofs.Steps.{at_line_ok}
-use Rattle.script_read.proofs.Takes.{by_test, give_ok, if_ok, same_ok, try_ok, unless_ok}
+use Rattle.script_read.proofs.Takes.{by_test, give_ok, if_ok, no_element, same_ok, try_ok, unless_ok}
 
 -- ---- lists
 
@@ -54,10 +54,6 @@ joined_ok : {X E : Type 0} (r s : Result (List X) E) (all : List X) → joined r
 joined_ok (Ok xs) (Ok ys) all h = (xs, ys, refl, refl, cc)
 joined_ok (Ok xs) (Err e) all h = absurd (cc)
 joined_ok (Err e) s all h = absurd (cc)
-
-no_element : {X : Type 0} (xs : List X) → is_empty xs ≡ true → xs ≡ []
-no_element [] h = refl
-no_element (x ∷ xs) h = absurd (omega (arith, eqb-true (length (x ∷ xs)) 0 h))
 
 -- ---- loads
 

@@ -7,11 +7,7 @@ use Rattle.script_read.specs.Quotes.{before_place, is_open, place_from, place_ou
 use Rattle.script_read.specs.declared.quote.Quoting.{Quoting}
 use Rattle.script_read.specs.declared.quote.Quoting.TheVariants.{Outside}
 use Rattle.script_read.proofs.Names.{and_left}
-use Rattle.script_read.proofs.Takes.{by_test}
-
-map_some : (o : Option ℕ) (place : ℕ) → option_map (λ p. p + 1) o ≡ Some place → (p : ℕ) × (o ≡ Some p) × (p + 1 ≡ place)
-map_some (Some p) place h = (p, refl, cc)
-map_some None place h = absurd (cc)
+use Rattle.script_read.proofs.Takes.{by_test, map_some}
 
 map_none : (o : Option ℕ) → option_map (λ p. p + 1) o ≡ None → o ≡ None
 map_none (Some p) h = absurd (cc)

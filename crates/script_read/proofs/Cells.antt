@@ -10,7 +10,7 @@ use Rattle.script_read.specs.declared.script.Point.{Point}
 use Rattle.std.proofs.lemmas.Bool.Decides.{nat_tests}
 use Rattle.script_read.specs.declared.script.SeriesItem.{SeriesItem}
 use Rattle.script_read.specs.declared.script.SeriesItem.TheVariants.{Gap, Stale, Run}
-use Rattle.script_read.proofs.Steps.{fails_front, fails_joined, fails_when, front_front, front_joined, front_none, front_onto, front_refused}
+use Rattle.script_read.proofs.Steps.{front_front, front_joined, front_none}
 
 -- ---- words as items
 
@@ -25,14 +25,6 @@ module _ (words : List (Bor (List ℕ))) (i : ℕ) (d : Bor (List ℕ)) (lt : i 
   -- the words from a place on
   pub words_cut : map (λ word. word.now) (drop i words) ≡ (get_or words i d).now ∷ map (λ word. word.now) (drop (i + 1) words)
   words_cut = rw (add-one, drop-cons words i d lt) refl
-
-  pub item_more : (items : List SeriesItem) (item : SeriesItem) → item_spelled (get_or words i d).now ≡ Ok item
-      → in_front items (each_of item_spelled (map (λ word. word.now) (drop i words))) ≡ in_front (items ++ item ∷ []) (each_of item_spelled (map (λ word. word.now) (drop (i + 1) words)))
-  item_more items item is = rw (words_cut, is) (front_onto items item (each_of item_spelled (map (λ word. word.now) (drop (i + 1) words))))
-
-  pub item_refused : (items : List SeriesItem) (e : LineFault) → item_spelled (get_or words i d).now ≡ Err e
-      → in_front items (each_of item_spelled (map (λ word. word.now) (drop i words))) ≡ Err e
-  item_refused items e is = rw (words_cut, is) refl
 
   pub cell_more : (cells : List SeriesItem) (room : ℕ) (cell : SeriesItem × ℕ) → cell_spelled room (get_or words i d).now ≡ Ok cell
       → in_front cells (cells_from room (map (λ word. word.now) (drop i words))) ≡ in_front (cells ++ cell.0 ∷ []) (cells_from cell.1 (map (λ word. word.now) (drop (i + 1) words)))
@@ -99,9 +91,6 @@ module _ (m : Moments) (points : List Point) (place : ℕ) (value by : XFrac) wh
   pub run_past : (n left : ℕ) (e : LineFault) → n ≡ suc left → next_value value by ≡ Err e → in_front points (run_points m place n value by) ≡ Err e
   run_past n left e en is = rw (en, is) refl
 
-  pub run_ends : (n : ℕ) → n ≡ 0 → in_front points (run_points m place n value by) ≡ Ok (points ++ run_point m place value ∷ [])
-  run_ends n en = rw en refl
-
 -- ---- points of items
 
 same_inside : {X E : Type 0} (a b : List X) (r : Result (List X) E) → r ≡ Ok a → r ≡ Ok b → a ≡ b
@@ -111,18 +100,3 @@ same_inside a b r h k = cc
 pub front_added : {X E : Type 0} (before now : List X) (r s : Result (List X) E) → in_front before r ≡ Ok now → in_front before (joined r s) ≡ in_front now s
 front_added before now (Ok xs) s h = front_joined before xs s ∙ ap (λ l. in_front l s) (same_inside (before ++ xs) now (in_front before (Ok xs)) refl h)
 front_added before now (Err e) s h = absurd (cc)
-
-module _ (m : Moments) (cells : List SeriesItem) (i : ℕ) (d : SeriesItem) (lt : i < length cells) where
-  pub cells_cut : drop i cells ≡ get_or cells i d ∷ drop (i + 1) cells
-  cells_cut = rw (add-one, drop-cons cells i d lt) refl
-
-  pub points_more : (points more : List Point) (place next : ℕ) → AddsPoints m place (get_or cells i d) points more (Ok next)
-      → in_front points (points_from m place (drop i cells)) ≡ in_front more (points_from m next (drop (i + 1) cells))
-  points_more points more place next h = rw cells_cut (h (drop (i + 1) cells))
-
-  pub points_refused : (points more : List Point) (place : ℕ) (e : LineFault) → AddsPoints m place (get_or cells i d) points more (Err e)
-      → Fails e (in_front points (points_from m place (drop i cells)))
-  points_refused points more place e h = rw cells_cut (fails_front e points (points_from m place (get_or cells i d ∷ drop (i + 1) cells)) (h (drop (i + 1) cells)))
-
-  pub places_cut : total_places (drop i cells) ≡ places_of (get_or cells i d) + total_places (drop (i + 1) cells)
-  places_cut = rw cells_cut refl

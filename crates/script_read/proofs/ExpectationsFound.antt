@@ -11,13 +11,9 @@ use Rattle.script_read.specs.declared.fault.LineFault.{LineFault}
 use Rattle.script_read.specs.declared.fault.LineFault.TheVariants.{Malformed}
 use Rattle.script_read.proofs.CommandsFound.{filled_ok}
 use Rattle.script_read.proofs.FirstWords.{cut_of, gap_of, word_alone, word_beside, word_then}
-use Rattle.script_read.proofs.Takes.{by_test, give_ok, same_bytes, same_ok, try_ok}
+use Rattle.script_read.proofs.Takes.{by_test, give_ok, no_element, same_bytes, same_ok, try_ok}
 
 -- ---- tests
-
-no_text : (text : List ℕ) → is_empty text ≡ true → text ≡ []
-no_text [] h = refl
-no_text (byte ∷ bytes) h = absurd (omega (arith, eqb-true (length (byte ∷ bytes)) 0 h))
 
 -- a mark, blanks and a text
 module _ (mark text : List ℕ) (marked : is_marked mark text ≡ true) where
@@ -29,7 +25,7 @@ module _ (mark text : List ℕ) (marked : is_marked mark text ≡ true) where
 
 test_found : (text : List ℕ) (test : Tested) → test_of text ≡ Ok test → IsTest text test
 test_found text test h =
-    by_test (is_empty text) _ _ (Ok test) h (λ e k. subst (λ t. IsTest t test) (sym (no_text text e)) (subst (IsTest []) (same_ok (Ok Anything) Anything test refl k) any_test)) (λ _ l.
+    by_test (is_empty text) _ _ (Ok test) h (λ e k. subst (λ t. IsTest t test) (sym (no_element text e)) (subst (IsTest []) (same_ok (Ok Anything) Anything test refl k) any_test)) (λ _ l.
     by_test (is_marked (codes "msg:") text) _ _ (Ok test) l (λ e k.
       let mark = codes "msg:" in
       let g = give_ok (filled (behind_mark mark text)) Message test k in

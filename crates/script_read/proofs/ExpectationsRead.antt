@@ -11,13 +11,7 @@ use Rattle.script_read.specs.declared.fault.LineFault.{LineFault}
 use Rattle.script_read.specs.declared.fault.LineFault.TheVariants.{Malformed}
 use Rattle.script_read.proofs.CommandsRead.{filled_is}
 use Rattle.script_read.proofs.FirstWords.{parted_behind, parted_first, skipped}
-
-some_text : (byte : ℕ) (bytes : List ℕ) → is_empty (byte ∷ bytes) ≡ false
-some_text byte bytes = by (is_empty (byte ∷ bytes)) refl
-  where
-    by : (b : Bool) → is_empty (byte ∷ bytes) ≡ b → b ≡ false
-    by true h = absurd (omega (arith, eqb-true (length (byte ∷ bytes)) 0 h))
-    by false h = refl
+use Rattle.script_read.proofs.Takes.{some_element}
 
 -- what a text that isn't empty tests
 abbrev marked : List ℕ → Result Tested LineFault
@@ -28,9 +22,9 @@ marked text =
 test_read : (text : List ℕ) (test : Tested) → IsTest text test → test_of text ≡ Ok test
 test_read _ _ any_test = refl
 test_read _ _ (message_test gap message text g f is) =
-    ap test_of is ∙ ap (λ b. cond b (Ok Anything) (marked (codes "msg:" ++ (gap ++ message)))) (some_text 109 (codes "sg:" ++ (gap ++ message))) ∙ ap (λ l. then_give (filled l) Message) (skipped gap message g f.begun) ∙ ap (λ r. then_give r Message) (filled_is message f)
+    ap test_of is ∙ ap (λ b. cond b (Ok Anything) (marked (codes "msg:" ++ (gap ++ message)))) (some_element 109 (codes "sg:" ++ (gap ++ message))) ∙ ap (λ l. then_give (filled l) Message) (skipped gap message g f.begun) ∙ ap (λ r. then_give r Message) (filled_is message f)
 test_read _ _ (search_test gap pattern text g f is) =
-    ap test_of is ∙ ap (λ b. cond b (Ok Anything) (marked (codes "regex:" ++ (gap ++ pattern)))) (some_text 114 (codes "egex:" ++ (gap ++ pattern))) ∙ ap (λ l. then_give (filled l) Search) (skipped gap pattern g f.begun) ∙ ap (λ r. then_give r Search) (filled_is pattern f)
+    ap test_of is ∙ ap (λ b. cond b (Ok Anything) (marked (codes "regex:" ++ (gap ++ pattern)))) (some_element 114 (codes "egex:" ++ (gap ++ pattern))) ∙ ap (λ l. then_give (filled l) Search) (skipped gap pattern g f.begun) ∙ ap (λ r. then_give r Search) (filled_is pattern f)
 
 -- an expectation by its first word, and what stands behind it
 abbrev worded : List ℕ → List ℕ → Result Expectation LineFault

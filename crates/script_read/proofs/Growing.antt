@@ -9,34 +9,6 @@ use Rattle.script_read.specs.Expects.{Gathers, GrowsBy, IsSearch, search_on}
 use Rattle.script_read.specs.Lines.{Numbered}
 use Rattle.script_read.specs.Outcomes.{PatternList}
 
-pub nothing_in : {X : Type 0} {P : Type 0} (x : X) → Contains [] x → P
-nothing_in x at = absurd (omega (arith, at.1))
-
--- ---- one line
-
-pub by_none : (search : Option (List ℕ)) (a b : PatternList) → b ≡ a → GrowsBy search a b
-by_none search a b is = record { more = []; behind = is ∙ sym (append-nil a); named = λ p at. nothing_in p at }
-
-only : {X : Type 0} (x y : X) → Contains (x ∷ []) y → x ≡ y
-only x y (zero, lt, at) = at
-only x y (suc k, lt, at) = absurd (omega arith)
-
-added : (b : Bool) (text : List ℕ) (kept now : PatternList) → now ≡ cond b kept (kept ++ (false, text) ∷ []) → GrowsBy (Some text) kept now
-added true text kept now is = by_none (Some text) kept now is
-added false text kept now is = record {
-  more = (false, text) ∷ [];
-  behind = is;
-  named = λ p at. (sym (ap (λ q. q.0) (only (false, text) p at)), ap (λ q. Some q.1) (only (false, text) p at));
-}
-
-pub by_search : (text : List ℕ) (kept now : PatternList) → now ≡ with_pattern (false, text) kept → GrowsBy (Some text) kept now
-by_search text kept now is = added (is_kept (false, text) kept) text kept now is
-
--- ---- lines
-
-pub gathers_none : (lines : List Numbered) (a b : PatternList) → b ≡ a → Gathers lines a b
-gathers_none lines a b is = record { more = []; behind = is ∙ sym (append-nil a); named = λ p at. nothing_in p at }
-
 pub gathers_line : (lines : List Numbered) (line : Numbered) (a b : PatternList) → Contains lines line → GrowsBy (search_on line.text) a b → Gathers lines a b
 gathers_line lines line a b there h = record { more = h.more; behind = h.behind; named = λ p at. (line, there, h.named p at) }
 

@@ -19,7 +19,7 @@ use Rattle.script_read.specs.declared.fault.LineFault.TheVariants.{Malformed}
 use Rattle.script_read.specs.declared.script.SeriesItem.{SeriesItem}
 use Rattle.script_read.specs.declared.script.SeriesItem.TheVariants.{Gap, Stale, Run}
 use Rattle.script_read.proofs.Names.{and_left}
-use Rattle.script_read.proofs.Takes.{by_test, give_ok, if_ok, same_bytes, same_ok, try_ok}
+use Rattle.script_read.proofs.Takes.{by_test, give_ok, if_ok, map_some, same_bytes, same_ok, try_ok}
 
 -- ---- where a sign stands
 
@@ -34,10 +34,6 @@ signed_more : (byte : ℕ) (bytes : List ℕ) (place : ℕ) → IsSigned bytes p
 signed_more byte bytes place h =
     let e : place + 1 ≡ suc place = omega arith in
     record { sign = h.sign; rest = h.rest; is = ap (λ n. drop n (byte ∷ bytes)) e ∙ h.is; signs = h.signs }
-
-map_some : (o : Option ℕ) (place : ℕ) → option_map (λ p. p + 1) o ≡ Some place → (p : ℕ) × (o ≡ Some p) × (p + 1 ≡ place)
-map_some (Some p) place h = (p, refl, cc)
-map_some None place h = absurd (cc)
 
 sign_behind : (before : ℕ) (text : List ℕ) (place : ℕ) → step_behind before text ≡ Some place → IsSigned text place
 sign_behind before [] place h = absurd (cc)

@@ -65,20 +65,3 @@ pub search_stands : (text : List ℕ) (before now more : PatternList) (id : Patt
 search_stands text before now more id is at =
     let kept = kept_after text before now id.0 is at in
     wanted_stays now more text kept.0 ∙ ap (λ n. Ok (Regex (record { 0 = n }))) kept.1
-
--- a search that was refused
-refused_by : (r : PatternRefusal) (said : Result Wanted LineFault) → said ≡ Err lines.BadPattern → Fails (pattern_fault r) said
-refused_by patterns.BadPattern said h = h
-refused_by patterns.TooManyPatterns said h = h
-refused_by patterns.Memory said h = tt
-
-pub search_refused : (text : List ℕ) (before now : PatternList) (r : PatternRefusal) → now ≡ before → is_kept (false, text) before ≡ false
-    → Fails (pattern_fault r) (wanted_for now (Search text))
-search_refused text before now r is fresh = refused_by r (wanted_for now (Search text)) (rw (is, fresh) refl)
-
-pub search_told : (text : List ℕ) (before now : PatternList) (r : PatternRefusal) → now ≡ before
-    → MayRefuse ((is_plain text ≡ false) × IsRefused (regex_text false text)) ((is_readable false text ≡ true) × (is_kept (false, text) before ≡ false) × (length before ≡ 32)) r
-    → RefusesPattern now (Some text) (pattern_fault r)
-search_told text before now patterns.BadPattern is h = inl h
-search_told text before now patterns.TooManyPatterns is h = rw is (inr (h.1, h.2))
-search_told text before now patterns.Memory is h = tt

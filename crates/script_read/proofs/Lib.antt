@@ -9,7 +9,6 @@ pub mod Sparing
 pub mod Spares
 pub mod Among
 pub mod Instants
-pub mod Labels
 pub mod Parts
 pub mod Cells
 pub mod Bodies

@@ -26,10 +26,6 @@ module _ (text : List ℕ) where
   last_part part h =
       elim (is_empty part) as (λ v. (v && true) ≡ false → cond v [] (part ∷ []) ≡ part ∷ []) [ true ↦ λ e. absurd (cc) | false ↦ λ _. refl ] h
 
-  end_part : (part : List Token) → (is_empty part && true) ≡ true → without_empty_end (part ∷ []) ≡ []
-  end_part part h =
-      elim (is_empty part) as (λ v. (v && true) ≡ true → cond v [] (part ∷ []) ≡ []) [ true ↦ λ _. refl | false ↦ λ e. absurd (cc) ] h
-
   -- a part that is no empty end comes before what is left
   pub part_taken : (tokens part : List Token) (rest : Option (Bor (List Token)))
       → MatchOption rest (slice_split (is_comma text) tokens ≡ part ∷ []) (λ left. (slice_split (is_comma text) tokens ≡ part ∷ slice_split (is_comma text) left.now) × (length left.now < length tokens))
@@ -37,17 +33,6 @@ module _ (text : List ℕ) where
   part_taken tokens part None is some = ap without_empty_end is ∙ last_part part some
   part_taken tokens part (Some left) is some =
       ap without_empty_end is.0 ∙ some_parts part (slice_split (is_comma text) left.now) (omega (arith, length-slice_split (is_comma text) left.now))
-
-  -- an empty end is left out
-  pub end_dropped : (tokens part : List Token) (rest : Option (Bor (List Token)))
-      → MatchOption rest (slice_split (is_comma text) tokens ≡ part ∷ []) (λ left. (slice_split (is_comma text) tokens ≡ part ∷ slice_split (is_comma text) left.now) × (length left.now < length tokens))
-      → (is_empty part && is_none rest) ≡ true → without_empty_end (slice_split (is_comma text) tokens) ≡ []
-  end_dropped tokens part None is none = ap without_empty_end is ∙ end_part part none
-  end_dropped tokens part (Some left) is none = absurd (not_both (is_empty part) none)
-    where
-      not_both : (b : Bool) → (b && false) ≡ true → ⊥
-      not_both true h = cc
-      not_both false h = cc
 
   -- a part that is refused refuses what is left
   pub part_refused : (first : Bool) (labels : LabelList) (part : List Token) (parts all : List (List Token)) (said : Result LabelList LineFault) (e : LineFault)

@@ -20,7 +20,7 @@ use Rattle.script_read.specs.declared.fault.LineFault.TheVariants.{Malformed}
 use Rattle.script_read.specs.declared.quote.Quoting.TheVariants.{Outside}
 use Rattle.script_read.proofs.Braces.{stands_at, uncommented}
 use Rattle.script_read.proofs.FirstWords.{gap_of}
-use Rattle.script_read.proofs.Takes.{give_ok, if_ok, same_ok, try_ok}
+use Rattle.script_read.proofs.Takes.{give_ok, if_ok, same_ok, some_element, try_ok}
 
 -- ---- what stands in braces
 
@@ -47,15 +47,8 @@ module _ (text : List ℕ) where
   part_found labels more (name ∷ []) h = absurd (cc)
   part_found labels more (label ∷ (sign ∷ part)) h = pair_found labels more (label ∷ (sign ∷ part)) h
 
-  some_tokens : (t : Token) (part : List Token) → is_empty (t ∷ part) ≡ false
-  some_tokens t part = by (is_empty (t ∷ part)) refl
-    where
-      by : (b : Bool) → is_empty (t ∷ part) ≡ b → b ≡ false
-      by true h = absurd (omega (arith, eqb-true (length (t ∷ part)) 0 h))
-      by false h = refl
-
   pub last_kept : (t : Token) (part : List Token) → without_empty_end ((t ∷ part) ∷ []) ≡ (t ∷ part) ∷ []
-  last_kept t part = ap (λ b. cond b [] ((t ∷ part) ∷ [])) (some_tokens t part)
+  last_kept t part = ap (λ b. cond b [] ((t ∷ part) ∷ [])) (some_element t part)
 
   pairs_found : (labels all : LabelList) (part : List Token) (parts : List (List Token)) → labels_with text false labels (without_empty_end (part ∷ parts)) ≡ Ok all → ArePairs text labels (part ∷ parts) all
   pairs_found labels all [] [] h = let same : labels ≡ all = cc in subst (ArePairs text labels ([] ∷ [])) same (no_pairs labels)

@@ -20,17 +20,8 @@ module _ {X Y : Type 0} (make : Result X LineFault → Result Y LineFault) (keep
 pub fails_try : {X Y : Type 0} (e : LineFault) (said : Result X LineFault) (make : X → Result Y LineFault) → Fails e said → Fails e (then_try said make)
 fails_try e said make h = fails_through (λ s. then_try s make) (λ e. refl) e said h
 
-pub fails_give : {X Y : Type 0} (e : LineFault) (said : Result X LineFault) (make : X → Y) → Fails e said → Fails e (then_give said make)
-fails_give e said make h = fails_through (λ s. then_give s make) (λ e. refl) e said h
-
 pub fails_front : {X : Type 0} (e : LineFault) (front : List X) (said : Result (List X) LineFault) → Fails e said → Fails e (in_front front said)
 fails_front e front said h = fails_through (λ s. in_front front s) (λ e. refl) e said h
-
-pub fails_onto : {X : Type 0} (e : LineFault) (said : Result X LineFault) (rest : Result (List X) LineFault) → Fails e said → Fails e (onto said rest)
-fails_onto e said rest h = fails_through (λ s. onto s rest) (λ e. refl) e said h
-
-pub fails_joined : {X : Type 0} (e : LineFault) (said rest : Result (List X) LineFault) → Fails e said → Fails e (joined said rest)
-fails_joined e said rest h = fails_through (λ s. joined s rest) (λ e. refl) e said h
 
 -- the same of a file
 module _ {X Y : Type 0} (make : Result X ReadFault → Result Y ReadFault) (keeps : (e : ReadFault) → make (Err e) ≡ Err e) where
@@ -41,17 +32,8 @@ module _ {X Y : Type 0} (make : Result X ReadFault → Result Y ReadFault) (keep
 pub refuses_try : {X Y : Type 0} (e : ReadFault) (said : Result X ReadFault) (make : X → Result Y ReadFault) → Refuses e said → Refuses e (then_try said make)
 refuses_try e said make h = refuses_through (λ s. then_try s make) (λ e. refl) e said h
 
-pub refuses_give : {X Y : Type 0} (e : ReadFault) (said : Result X ReadFault) (make : X → Y) → Refuses e said → Refuses e (then_give said make)
-refuses_give e said make h = refuses_through (λ s. then_give s make) (λ e. refl) e said h
-
 pub refuses_front : {X : Type 0} (e : ReadFault) (front : List X) (said : Result (List X) ReadFault) → Refuses e said → Refuses e (in_front front said)
 refuses_front e front said h = refuses_through (λ s. in_front front s) (λ e. refl) e said h
-
-pub refuses_onto : {X : Type 0} (e : ReadFault) (said : Result X ReadFault) (rest : Result (List X) ReadFault) → Refuses e said → Refuses e (onto said rest)
-refuses_onto e said rest h = refuses_through (λ s. onto s rest) (λ e. refl) e said h
-
-pub refuses_joined : {X : Type 0} (e : ReadFault) (said rest : Result (List X) ReadFault) → Refuses e said → Refuses e (joined said rest)
-refuses_joined e said rest h = refuses_through (λ s. joined s rest) (λ e. refl) e said h
 
 -- a line's fault is the file's
 pub refuses_at : {X : Type 0} (n : ℕ) (e : LineFault) (said : Result X LineFault) → Fails e said → Refuses (fault_at n e) (at_line n said)
@@ -85,11 +67,6 @@ pub front_refused : {X E : Type 0} (xs : List X) (said : Result (List X) E) (e :
 front_refused xs (Err d) e h = h
 front_refused xs (Ok ys) e h = absurd (cc)
 
--- what a line says, as the file's
-pub says_at : {X : Type 0} (n : ℕ) (r said : Result X LineFault) → Says r said → Gives (at_line n r) (at_line n said)
-says_at n (Ok x) said h = ap (at_line n) h
-says_at n (Err e) said h = refuses_at n e said h
-
 pub at_line_ok : {X : Type 0} (n : ℕ) (said : Result X LineFault) (x : X) → at_line n said ≡ Ok x → said ≡ Ok x
 at_line_ok n (Ok y) x h = cc
 at_line_ok n (Err e) x h = absurd (cc)
@@ -106,10 +83,3 @@ fails_when NumberRange said h = h
 fails_when BadPattern said h = h
 fails_when BadLabels said h = h
 fails_when Memory said h = tt
-
--- what is given back by a view of an answer
-pub gives_ok : {X Y E : Type 0} (r : Result X E) (view : X → Y) (said : Result Y E) (x : X) → then_give r view ≡ said → r ≡ Ok x → said ≡ Ok (view x)
-gives_ok r view said x h is = rw is at (sym h)
-
-pub gives_err : {X Y E : Type 0} (r : Result X E) (view : X → Y) (said : Result Y E) (e : E) → then_give r view ≡ said → r ≡ Err e → said ≡ Err e
-gives_err r view said e h is = rw is at (sym h)
