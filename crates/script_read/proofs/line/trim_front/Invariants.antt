@@ -1,0 +1,12 @@
+use Rattle.std.proofs.Common.{◌≡◌, ◌≤◌, length}
+use Rattle.script_read.specs.Lines.{from_text}
+use Rattle.script_read.proofs.line.trim_front.Given as goal
+
+abbrev pub invariant-loop-left : goal.invariant-loop-left
+invariant-loop-left l = record {
+  is : from_text l.left ≡ from_text l.text;
+  shorter : length l.left ≤ length l.text;
+}
+
+abbrev pub decreases-loop-left : goal.decreases-loop-left
+decreases-loop-left l = length l.left

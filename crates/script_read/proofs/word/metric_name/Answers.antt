@@ -1,0 +1,6 @@
+use Rattle.std.proofs.Common.{sym, ◌∙◌}
+use Rattle.script_read.proofs.Names.{name_is_text}
+use Rattle.script_read.proofs.word.metric_name.Goals as goal
+
+pub returns-in-Err : goal.returns-in-Err
+returns-in-Err c = absurd (c.in-Err.ensures.cases.0 (name_is_text c.args.word.now (sym c.is_metric_name.ensures ∙ c.if-not-is_metric_name.false)))
