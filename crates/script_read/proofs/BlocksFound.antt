@@ -1,9 +1,8 @@
 -- A file that is read is a script by the grammar.
 use Rattle.std.proofs.Common.{◌≡◌, ◌≤◌, ℕ, Bool, true, false, cond, List, [], ◌∷◌, ◌++◌, length, Option, Some, None, Result, Ok, Err, refl, ap, sym, ◌∙◌, subst, arith}
-use Rattle.std.specs.Prelude.{◌==◌, nat_lt}
-use Rattle.std.proofs.lemmas.Bool.{eqb-true, ltb-false}
+use Rattle.std.specs.Prelude.{nat_lt}
+use Rattle.std.proofs.lemmas.Bool.{ltb-false}
 use Rattle.xfrac.specs.declared.value.XFrac.{XFrac}
-use Rattle.ticks.specs.declared.moment.Ms.{Ms}
 use Rattle.script_read.specs.BlockForms.{AreBlocks, AreExpected, AreItems, AreLoaded, ArePoints, IsBlock, IsScript, clear_block, eval_block, expectation_line, load_block, more_blocks, more_items, no_blocks, no_lines, no_series, nothing_more, on_grid, one_item, one_number, row_line, scalar_line, series_line}
 use Rattle.script_read.specs.Commands.{Order, Clearing, Loading, Evaluating, heading_of}
 use Rattle.script_read.specs.Expects.{expectation_added, expectation_of, fits, is_expectation, mode_wants, with_asked}
@@ -12,14 +11,12 @@ use Rattle.script_read.specs.Lines.{Numbered, blocks_of, broken_line, is_blank, 
 use Rattle.script_read.specs.Moments.{Moments, places}
 use Rattle.script_read.specs.Outcomes.{PatternList, each_of, in_front, joined, onto, then_give, then_try}
 use Rattle.script_read.specs.Quotes.{has_histogram, without_comment}
-use Rattle.script_read.specs.Reading.{Clears, Evaluates, Instruction, Loads, body_line, command_headed, command_of, commands_in, commands_of, eval_of, expected_after, followed, items_spelled, line_with, load_of, reading, series_lines, series_of, series_worded, text_read}
+use Rattle.script_read.specs.Reading.{Clears, Evaluates, Instruction, Loads, body_line, command_headed, command_of, commands_in, commands_of, expected_after, followed, items_spelled, line_with, reading, series_lines, series_of, series_worded, text_read}
 use Rattle.script_read.specs.Refusals.{at_line, limit}
 use Rattle.script_read.specs.Results.{begins_series, cell_spelled, cells_from, cells_spelled, instant_points, labels_in, line_added, number_alone, points_behind, points_of, range_points, result_added, room_after, row_added, row_beside, rows_with, scalar_added, stands_in, total_places}
-use Rattle.script_read.specs.Series.{LabelList, Series, series_at}
+use Rattle.script_read.specs.Series.{LabelList, series_at}
 use Rattle.script_read.specs.SeriesForms.{begins_blank}
 use Rattle.script_read.specs.Words.{number_spelled}
-use Rattle.script_read.specs.declared.expectation.Mode.{Mode}
-use Rattle.script_read.specs.declared.fault.LineFault.{LineFault}
 use Rattle.script_read.specs.declared.fault.LineFault.TheVariants as lines
 use Rattle.script_read.specs.declared.fault.ReadFault.{ReadFault}
 use Rattle.script_read.specs.declared.fault.ReadFault.TheVariants.{Refused}

@@ -1,5 +1,5 @@
 -- The lines of a block, one more at a time, and the commands of a file.
-use Rattle.std.proofs.Common.{◌≡◌, ◌<◌, ◌≤◌, ℕ, suc, ◌+◌, ◌-◌, true, false, List, [], ◌∷◌, ◌++◌, Contains, length, get_or, take, drop, map, Bor, Result, Ok, Err, IfErr, IfOk, refl, ap, sym, ◌∙◌, subst, arith, add-one, drop-cons}
+use Rattle.std.proofs.Common.{◌≡◌, ◌<◌, ◌≤◌, ℕ, suc, ◌+◌, ◌-◌, true, false, List, [], ◌∷◌, ◌++◌, Contains, length, get_or, take, drop, map, Bor, Result, Ok, Err, IfErr, IfOk, ap, sym, ◌∙◌, subst, arith, add-one, drop-cons}
 use Rattle.std.specs.List.{slice_split}
 use Rattle.std.proofs.lemmas.List.{get_or-map, length-map, map-append, take_rest}
 use Rattle.script_read.specs.Expects.{RefusesOnLine, RefusesPattern, search_on}

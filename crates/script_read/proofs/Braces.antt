@@ -1,6 +1,6 @@
 -- Where a byte stands outside quotes.
-use Rattle.std.proofs.Common.{◌≡◌, ◌≤◌, ℕ, suc, ◌+◌, ◌-◌, Bool, true, false, not, cond, List, [], ◌∷◌, ◌++◌, length, take, drop, Option, Some, None, option_map, refl, ap, sym, ◌∙◌, subst, arith, append-nil}
-use Rattle.std.proofs.Math.Seq.{take-append_seam, take-append-add, drop-append-add}
+use Rattle.std.proofs.Common.{◌≡◌, ◌≤◌, ℕ, suc, ◌+◌, ◌-◌, Bool, true, false, not, cond, List, [], ◌∷◌, ◌++◌, length, take, Option, Some, None, option_map, refl, ap, sym, ◌∙◌, arith, append-nil}
+use Rattle.std.proofs.Math.Seq.{take-append_seam, take-append-add}
 use Rattle.std.specs.Prelude.{◌==◌, ◌&&◌}
 use Rattle.std.proofs.lemmas.Bool.{eqb-true}
 use Rattle.script_read.specs.Quotes.{before_place, is_open, place_from, place_outside, quoting_behind, without_comment}
@@ -33,29 +33,29 @@ stands_at wanted quoting [] place h = absurd (cc)
 stands_at wanted quoting (byte ∷ bytes) place h =
     by_test (byte == wanted && not (is_open quoting)) _ _ (Some place) h
     (λ e k.
-      let same : 0 ≡ place = cc in
-      let is : byte ≡ wanted = eqb-true byte wanted (and_left (byte == wanted) (not (is_open quoting)) e) in
-      record {
-        front = [];
-        back = bytes;
-        joined = ap (λ b. b ∷ bytes) is;
-        long = same;
-        none = refl;
-        closes = ap (λ b. place_from wanted quoting (b ∷ [])) (sym is) ∙ from_step wanted quoting byte [] true e ∙ ap Some same;
-        clear = λ other _. refl;
-      })
+    let same : 0 ≡ place = cc in
+    let is : byte ≡ wanted = eqb-true byte wanted (and_left (byte == wanted) (not (is_open quoting)) e) in
+    record {
+      front = [];
+      back = bytes;
+      joined = ap (λ b. b ∷ bytes) is;
+      long = same;
+      none = refl;
+      closes = ap (λ b. place_from wanted quoting (b ∷ [])) (sym is) ∙ from_step wanted quoting byte [] true e ∙ ap Some same;
+      clear = λ other _. refl;
+    })
     (λ e k.
-      let m = map_some (place_from wanted (quoting_behind quoting byte) bytes) place k in
-      let s = stands_at wanted (quoting_behind quoting byte) bytes m.0 m.1 in
-      record {
-        front = byte ∷ s.front;
-        back = s.back;
-        joined = ap (λ l. byte ∷ l) s.joined;
-        long = omega (arith, s.long, m.2);
-        none = from_step wanted quoting byte s.front false e ∙ ap (option_map (λ place. place + 1)) s.none;
-        closes = from_step wanted quoting byte (s.front ++ (wanted ∷ [])) false e ∙ ap (option_map (λ place. place + 1)) s.closes ∙ ap Some m.2;
-        clear = λ other h. clear_more quoting byte bytes s.front other h s.clear;
-      })
+    let m = map_some (place_from wanted (quoting_behind quoting byte) bytes) place k in
+    let s = stands_at wanted (quoting_behind quoting byte) bytes m.0 m.1 in
+    record {
+      front = byte ∷ s.front;
+      back = s.back;
+      joined = ap (λ l. byte ∷ l) s.joined;
+      long = omega (arith, s.long, m.2);
+      none = from_step wanted quoting byte s.front false e ∙ ap (option_map (λ place. place + 1)) s.none;
+      closes = from_step wanted quoting byte (s.front ++ (wanted ∷ [])) false e ∙ ap (option_map (λ place. place + 1)) s.closes ∙ ap Some m.2;
+      clear = λ other h. clear_more quoting byte bytes s.front other h s.clear;
+    })
   where
     clear_more : (quoting : Quoting) (byte : ℕ) (bytes front : List ℕ) (other : ℕ) → place_from other quoting (byte ∷ bytes) ≡ None
         → ((o : ℕ) → place_from o (quoting_behind quoting byte) bytes ≡ None → place_from o (quoting_behind quoting byte) front ≡ None) → place_from other quoting (byte ∷ front) ≡ None
@@ -72,8 +72,8 @@ place_stays wanted quoting (byte ∷ bytes) more place h =
     by_test (byte == wanted && not (is_open quoting)) _ _ (Some place) h
     (λ e k. from_step wanted quoting byte (bytes ++ more) true e ∙ k)
     (λ e k.
-      let m = map_some (place_from wanted (quoting_behind quoting byte) bytes) place k in
-      from_step wanted quoting byte (bytes ++ more) false e ∙ ap (option_map (λ p. p + 1)) (place_stays wanted (quoting_behind quoting byte) bytes more m.0 m.1) ∙ ap Some m.2)
+    let m = map_some (place_from wanted (quoting_behind quoting byte) bytes) place k in
+    from_step wanted quoting byte (bytes ++ more) false e ∙ ap (option_map (λ p. p + 1)) (place_stays wanted (quoting_behind quoting byte) bytes more m.0 m.1) ∙ ap Some m.2)
 
 -- what doesn't stand in a text, nor right behind it, stands further on
 pub place_past : (wanted : ℕ) (quoting : Quoting) (text : List ℕ) (other : ℕ) (more : List ℕ) (place : ℕ) → place_from wanted quoting text ≡ None → (other == wanted) ≡ false
@@ -85,9 +85,9 @@ place_past wanted quoting [] other more place h o k =
 place_past wanted quoting (byte ∷ bytes) other more place h o k =
     by_test (byte == wanted && not (is_open quoting)) _ _ None h (λ _ l. absurd (cc))
     (λ e l.
-      let m = map_some (place_from wanted (quoting_behind quoting byte) (bytes ++ (other ∷ more))) place (sym (from_step wanted quoting byte (bytes ++ (other ∷ more)) false e) ∙ k) in
-      let past = place_past wanted (quoting_behind quoting byte) bytes other more m.0 (map_none (place_from wanted (quoting_behind quoting byte) bytes) l) o m.1 in
-      omega (arith, past, m.2))
+    let m = map_some (place_from wanted (quoting_behind quoting byte) (bytes ++ (other ∷ more))) place (sym (from_step wanted quoting byte (bytes ++ (other ∷ more)) false e) ∙ k) in
+    let past = place_past wanted (quoting_behind quoting byte) bytes other more m.0 (map_none (place_from wanted (quoting_behind quoting byte) bytes) l) o m.1 in
+    omega (arith, past, m.2))
 
 -- ---- comments
 
@@ -121,6 +121,8 @@ kept_front front other more h o = by (place_outside 35 (front ++ (other ∷ more
         let past = place_past 35 Outside front other more place h o e in
         let k = place - (length front + 1) in
         let at : place ≡ length front + (k + 1) = omega (arith, past) in
-        let one : k + 1 ≡ suc k = omega arith in
-        (take k more, ap (λ p. before_place p (front ++ (other ∷ more))) e ∙ ap (λ n. take n (front ++ (other ∷ more))) at ∙ take-append-add front (other ∷ more) (k + 1)
-        ∙ ap (λ n. front ++ take n (other ∷ more)) one)
+        let one : k + 1 ≡ suc k = omega arith in (
+          take k more,
+          ap (λ p. before_place p (front ++ (other ∷ more))) e ∙ ap (λ n. take n (front ++ (other ∷ more))) at ∙ take-append-add front (other ∷ more) (k + 1)
+              ∙ ap (λ n. front ++ take n (other ∷ more)) one,
+        )

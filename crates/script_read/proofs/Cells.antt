@@ -1,10 +1,10 @@
 -- Items and points of results, one more at a time.
-use Rattle.std.proofs.Common.{◌≡◌, ◌≤◌, ◌<◌, ℕ, suc, ◌+◌, ◌-◌, List, [], ◌∷◌, ◌++◌, length, get_or, drop, map, Bor, Result, Ok, Err, Bool, false, ◌==◌, refl, ap, sym, ◌∙◌, arith, add-one, drop-cons, length-append, subst}
+use Rattle.std.proofs.Common.{◌≡◌, ◌≤◌, ◌<◌, ℕ, suc, ◌+◌, List, [], ◌∷◌, ◌++◌, length, get_or, drop, map, Bor, Result, Ok, Err, false, ◌==◌, refl, ap, ◌∙◌, arith, add-one, drop-cons, subst}
 use Rattle.xfrac.specs.declared.value.XFrac.{XFrac}
 use Rattle.script_read.specs.Items.{item_spelled}
 use Rattle.script_read.specs.Moments.{Moments, point_at}
-use Rattle.script_read.specs.Outcomes.{Appends, Fails, each_of, in_front, joined, onto, then_give, then_try}
-use Rattle.script_read.specs.Results.{AddsPoints, cell_spelled, cells_from, cells_spelled, next_value, points_from, room_after, run_points, total_places, places_of}
+use Rattle.script_read.specs.Outcomes.{in_front, joined, then_give, then_try}
+use Rattle.script_read.specs.Results.{cell_spelled, cells_from, cells_spelled, next_value, room_after, run_points, total_places, places_of}
 use Rattle.script_read.specs.declared.fault.LineFault.{LineFault}
 use Rattle.script_read.specs.declared.script.Point.{Point}
 use Rattle.std.proofs.lemmas.Bool.Decides.{nat_tests}
@@ -35,8 +35,10 @@ module _ (words : List (Bor (List ℕ))) (i : ℕ) (d : Bor (List ℕ)) (lt : i 
     where
       rest : List (List ℕ)
       rest = map (λ word. word.now) (drop (i + 1) words)
+
       in_front_of : (xs : List SeriesItem) {r s : Result (List SeriesItem) LineFault} → r ≡ s → in_front xs r ≡ in_front xs s
       in_front_of xs h = ap (in_front xs) h
+
       cells_cut_from : (room : ℕ) → cells_from room (map (λ word. word.now) (drop i words)) ≡ cells_from room ((get_or words i d).now ∷ rest)
       cells_cut_from room = ap (cells_from room) words_cut
 

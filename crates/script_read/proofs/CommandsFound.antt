@@ -6,7 +6,7 @@ use Rattle.frac_text.specs.Times.{amount_answer}
 use Rattle.ticks.specs.Durations.{duration_in}
 use Rattle.ticks.specs.declared.moment.Ms.{Ms}
 use Rattle.script_read.specs.CommandForms.{IsCommand, clear_line, load_line, eval_instant, eval_range}
-use Rattle.script_read.specs.Commands.{Order, Clearing, Loading, Evaluating, after_word, duration_after, eval_heading, eval_mode, evaluated, evaluation_of, heading_of, heading_worded, if_alone, instant_heading, load_heading, moment_at, moments_from, range_heading, range_of, time_after}
+use Rattle.script_read.specs.Commands.{Order, Clearing, Loading, Evaluating, after_word, duration_after, eval_heading, eval_mode, evaluated, evaluation_of, heading_of, if_alone, instant_heading, load_heading, moment_at, moments_from, range_heading, range_of, time_after}
 use Rattle.script_read.specs.Expects.{filled}
 use Rattle.script_read.specs.Lines.{behind_word, first_word}
 use Rattle.script_read.specs.Moments.{Moments, grid_taken, is_grid}
@@ -16,7 +16,7 @@ use Rattle.script_read.specs.Words.{interval_spelled, time_spelled}
 use Rattle.script_read.specs.declared.expectation.Mode.{Mode}
 use Rattle.script_read.specs.declared.expectation.Mode.TheVariants as modes
 use Rattle.script_read.specs.declared.fault.LineFault.{LineFault}
-use Rattle.script_read.specs.declared.fault.LineFault.TheVariants.{Malformed, NativeHistogram}
+use Rattle.script_read.specs.declared.fault.LineFault.TheVariants.{Malformed}
 use Rattle.script_read.proofs.FirstWords.{cut_of, word_alone, word_beside, word_then}
 use Rattle.script_read.proofs.Takes.{by_test, give_ok, if_ok, same_bytes, same_ok, try_ok}
 
@@ -98,8 +98,8 @@ module _ (text word : List ℕ) (first : first_word text ≡ word) (some : word 
       let e = evaluated_ok mode (moment_at t.0.0) t.0.1 order (subst (λ l. begins_word l ≡ true) a.rest (cut_of last).begun) t.2 in
       let f : IsFilled (behind_word last) = subst IsFilled (sym a.rest) e.text_filled in
       let parted : Parted (word ∷ (codes "instant" ∷ (codes "at" ∷ (first_word last ∷ [])))) (behind_word last) text =
-          word_beside text word first some _ _ (word_beside (behind_word text) (codes "instant") second (λ k. cc) _ _
-          (word_beside rest (codes "at") a.first (λ k. cc) _ _ (word_then last (first_word last) refl (time_some (first_word last) t.0.0 a.time)))) in
+      word_beside text word first some _ _ (word_beside (behind_word text) (codes "instant") second (λ k. cc) _ _
+      (word_beside rest (codes "at") a.first (λ k. cc) _ _ (word_then last (first_word last) refl (time_some (first_word last) t.0.0 a.time)))) in
       subst (IsCommand text) (ap (Evaluating mode (moment_at t.0.0)) a.rest ∙ sym e.is)
       (eval_instant text word (first_word last) (behind_word last) mode t.0.0 parted f named a.time e.grid)
 
@@ -119,14 +119,14 @@ module _ (text word : List ℕ) (first : first_word text ≡ word) (some : word 
       let e = evaluated_ok mode m v.0.1 order (subst (λ l. begins_word l ≡ true) c.rest (cut_of last).begun) v.2 in
       let f : IsFilled (behind_word last) = subst IsFilled (sym c.rest) e.text_filled in
       let third : Parted (codes "step" ∷ (first_word last ∷ [])) (behind_word last) u.0.1 =
-          word_beside u.0.1 (codes "step") c.first (λ k. cc) _ _ (word_then last (first_word last) refl (interval_some (first_word last) v.0.0 c.time)) in
+      word_beside u.0.1 (codes "step") c.first (λ k. cc) _ _ (word_then last (first_word last) refl (interval_some (first_word last) v.0.0 c.time)) in
       let middle : Parted (codes "to" ∷ (first_word to ∷ (codes "step" ∷ (first_word last ∷ [])))) (behind_word last) t.0.1 =
-          word_beside t.0.1 (codes "to") b.first (λ k. cc) _ _ (word_beside to (first_word to) refl (time_some (first_word to) u.0.0 b.time) _ _
-          (subst (Parted (codes "step" ∷ (first_word last ∷ [])) (behind_word last)) (sym b.rest) third)) in
+      word_beside t.0.1 (codes "to") b.first (λ k. cc) _ _ (word_beside to (first_word to) refl (time_some (first_word to) u.0.0 b.time) _ _
+      (subst (Parted (codes "step" ∷ (first_word last ∷ [])) (behind_word last)) (sym b.rest) third)) in
       let parted : Parted (word ∷ (codes "range" ∷ (codes "from" ∷ (first_word from ∷ (codes "to" ∷ (first_word to ∷ (codes "step" ∷ (first_word last ∷ [])))))))) (behind_word last) text =
-          word_beside text word first some _ _ (word_beside (behind_word text) (codes "range") second (λ k. cc) _ _
-          (word_beside rest (codes "from") a.first (λ k. cc) _ _ (word_beside from (first_word from) refl (time_some (first_word from) t.0.0 a.time) _ _
-          (subst (Parted (codes "to" ∷ (first_word to ∷ (codes "step" ∷ (first_word last ∷ [])))) (behind_word last)) (sym a.rest) middle)))) in
+      word_beside text word first some _ _ (word_beside (behind_word text) (codes "range") second (λ k. cc) _ _
+      (word_beside rest (codes "from") a.first (λ k. cc) _ _ (word_beside from (first_word from) refl (time_some (first_word from) t.0.0 a.time) _ _
+      (subst (Parted (codes "to" ∷ (first_word to ∷ (codes "step" ∷ (first_word last ∷ [])))) (behind_word last)) (sym a.rest) middle)))) in
       subst (IsCommand text) (ap (Evaluating mode m) c.rest ∙ sym e.is)
       (eval_range text word (first_word from) (first_word to) (first_word last) (behind_word last) mode t.0.0 u.0.0 v.0.0 parted f named unordered a.time b.time c.time e.grid)
 

@@ -1,12 +1,12 @@
 -- A command is read as what its form says.
-use Rattle.std.proofs.Common.{◌≡◌, ℕ, Bool, true, cond, List, [], ◌∷◌, Result, Ok, Err, Option, Some, None, refl, ap, sym, ◌∙◌, subst}
+use Rattle.std.proofs.Common.{◌≡◌, ℕ, true, cond, List, [], ◌∷◌, Result, Ok, Err, Some, refl, ap, ◌∙◌}
 use Rattle.std.specs.Prelude.{bytes_eq, codes}
 use Rattle.ticks.specs.declared.moment.Ms.{Ms}
 use Rattle.script_read.specs.CommandForms.{IsCommand, clear_line, load_line, eval_instant, eval_range}
-use Rattle.script_read.specs.Commands.{Order, Clearing, Loading, Evaluating, after_word, duration_after, eval_heading, eval_mode, evaluated, evaluation_of, heading_of, heading_worded, if_alone, instant_heading, load_heading, moment_at, moments_from, range_heading, range_of, time_after}
+use Rattle.script_read.specs.Commands.{Order, Clearing, Loading, Evaluating, after_word, duration_after, eval_heading, eval_mode, evaluated, heading_of, heading_worded, if_alone, instant_heading, moment_at, moments_from, range_heading, range_of, time_after}
 use Rattle.script_read.specs.Expects.{filled}
 use Rattle.script_read.specs.Lines.{behind_word, first_word}
-use Rattle.script_read.specs.Moments.{Moments, grid_taken, is_grid}
+use Rattle.script_read.specs.Moments.{Moments, is_grid}
 use Rattle.script_read.specs.Outcomes.{then_give, then_try}
 use Rattle.script_read.specs.Parted.{IsFilled, Parted}
 use Rattle.script_read.specs.Words.{interval_spelled, time_spelled}

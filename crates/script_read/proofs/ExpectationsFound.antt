@@ -1,14 +1,10 @@
 -- A line that is read as an expectation is one by its form.
-use Rattle.std.proofs.Common.{◌≡◌, ℕ, Bool, true, List, [], ◌∷◌, ◌++◌, length, take, drop, Result, Ok, Err, Option, Some, None, refl, ap, sym, ◌∙◌, subst, arith, take-append-drop}
-use Rattle.std.proofs.lemmas.Bool.{eqb-true}
+use Rattle.std.proofs.Common.{◌≡◌, ℕ, true, List, [], ◌∷◌, ◌++◌, length, take, drop, Ok, Option, Some, None, refl, ap, sym, ◌∙◌, subst, take-append-drop}
 use Rattle.std.specs.Prelude.{bytes_eq, codes}
 use Rattle.script_read.specs.ExpectationForms.{IsExpectation, IsTest, any_test, message_test, search_test, expect_ordered, expect_no_warn, expect_no_info, expect_fail, expect_warn, expect_info, old_message, old_search}
-use Rattle.script_read.specs.Expects.{Expectation, Tested, Anything, Message, Search, InOrder, Failing, Warning, Informing, WithoutWarnings, WithoutInfos, alone, behind_mark, expect_of, expectation_of, expected_by, filled, is_marked, plain_worded, test_of, tested_worded}
-use Rattle.script_read.specs.Lines.{behind_word, first_word, from_blank, is_empty}
-use Rattle.script_read.specs.Outcomes.{then_give, then_try}
-use Rattle.script_read.specs.Parted.{IsFilled, Parted}
-use Rattle.script_read.specs.declared.fault.LineFault.{LineFault}
-use Rattle.script_read.specs.declared.fault.LineFault.TheVariants.{Malformed}
+use Rattle.script_read.specs.Expects.{Expectation, Tested, Anything, Message, Search, InOrder, Failing, Warning, Informing, WithoutWarnings, WithoutInfos, alone, behind_mark, expectation_of, expected_by, filled, is_marked, plain_worded, test_of, tested_worded}
+use Rattle.script_read.specs.Lines.{behind_word, first_word, is_empty}
+use Rattle.script_read.specs.Parted.{Parted}
 use Rattle.script_read.proofs.CommandsFound.{filled_ok}
 use Rattle.script_read.proofs.FirstWords.{cut_of, gap_of, word_alone, word_beside, word_then}
 use Rattle.script_read.proofs.Takes.{by_test, give_ok, no_element, same_bytes, same_ok, try_ok}
@@ -27,15 +23,15 @@ test_found : (text : List ℕ) (test : Tested) → test_of text ≡ Ok test → 
 test_found text test h =
     by_test (is_empty text) _ _ (Ok test) h (λ e k. subst (λ t. IsTest t test) (sym (no_element text e)) (subst (IsTest []) (same_ok (Ok Anything) Anything test refl k) any_test)) (λ _ l.
     by_test (is_marked (codes "msg:") text) _ _ (Ok test) l (λ e k.
-      let mark = codes "msg:" in
-      let g = give_ok (filled (behind_mark mark text)) Message test k in
-      let f = filled_ok (behind_mark mark text) g.0 (gap_of (drop 4 text)).begun g.1 in
-      subst (IsTest text) (ap Message (sym f.1) ∙ g.2) (message_test (gap_of (drop 4 text)).gap (behind_mark mark text) text (gap_of (drop 4 text)).blank f.0 (mark_joined mark text e))) (λ _ m.
+    let mark = codes "msg:" in
+    let g = give_ok (filled (behind_mark mark text)) Message test k in
+    let f = filled_ok (behind_mark mark text) g.0 (gap_of (drop 4 text)).begun g.1 in
+    subst (IsTest text) (ap Message (sym f.1) ∙ g.2) (message_test (gap_of (drop 4 text)).gap (behind_mark mark text) text (gap_of (drop 4 text)).blank f.0 (mark_joined mark text e))) (λ _ m.
     by_test (is_marked (codes "regex:") text) _ _ (Ok test) m (λ e k.
-      let mark = codes "regex:" in
-      let g = give_ok (filled (behind_mark mark text)) Search test k in
-      let f = filled_ok (behind_mark mark text) g.0 (gap_of (drop 6 text)).begun g.1 in
-      subst (IsTest text) (ap Search (sym f.1) ∙ g.2) (search_test (gap_of (drop 6 text)).gap (behind_mark mark text) text (gap_of (drop 6 text)).blank f.0 (mark_joined mark text e))) (λ _ k. absurd (cc))))
+    let mark = codes "regex:" in
+    let g = give_ok (filled (behind_mark mark text)) Search test k in
+    let f = filled_ok (behind_mark mark text) g.0 (gap_of (drop 6 text)).begun g.1 in
+    subst (IsTest text) (ap Search (sym f.1) ∙ g.2) (search_test (gap_of (drop 6 text)).gap (behind_mark mark text) text (gap_of (drop 6 text)).blank f.0 (mark_joined mark text e))) (λ _ k. absurd (cc))))
 
 -- ---- expectations
 
@@ -84,10 +80,10 @@ expectation_found text x h =
     let rest = behind_word text in
     by_test (bytes_eq w (codes "expect")) _ _ (Ok x) h (λ e k. expect_found text (same_bytes w (codes "expect") e) x (plain_worded (first_word rest)) refl k) (λ _ l.
     by_test (bytes_eq w (codes "expected_fail_message")) _ _ (Ok x) l (λ e k.
-      let g = give_ok (filled rest) (λ message. Failing (Message message)) x k in
-      let f = filled_ok rest g.0 (cut_of text).begun g.1 in
-      subst (IsExpectation text) (ap (λ m. Failing (Message m)) (sym f.1) ∙ g.2) (old_message text rest (word_then text (codes "expected_fail_message") (same_bytes w (codes "expected_fail_message") e) (λ k. cc)) f.0)) (λ _ m.
+    let g = give_ok (filled rest) (λ message. Failing (Message message)) x k in
+    let f = filled_ok rest g.0 (cut_of text).begun g.1 in
+    subst (IsExpectation text) (ap (λ m. Failing (Message m)) (sym f.1) ∙ g.2) (old_message text rest (word_then text (codes "expected_fail_message") (same_bytes w (codes "expected_fail_message") e) (λ k. cc)) f.0)) (λ _ m.
     by_test (bytes_eq w (codes "expected_fail_regexp")) _ _ (Ok x) m (λ e k.
-      let g = give_ok (filled rest) (λ pattern. Failing (Search pattern)) x k in
-      let f = filled_ok rest g.0 (cut_of text).begun g.1 in
-      subst (IsExpectation text) (ap (λ m. Failing (Search m)) (sym f.1) ∙ g.2) (old_search text rest (word_then text (codes "expected_fail_regexp") (same_bytes w (codes "expected_fail_regexp") e) (λ k. cc)) f.0)) (λ _ k. absurd (cc))))
+    let g = give_ok (filled rest) (λ pattern. Failing (Search pattern)) x k in
+    let f = filled_ok rest g.0 (cut_of text).begun g.1 in
+    subst (IsExpectation text) (ap (λ m. Failing (Search m)) (sym f.1) ∙ g.2) (old_search text rest (word_then text (codes "expected_fail_regexp") (same_bytes w (codes "expected_fail_regexp") e) (λ k. cc)) f.0)) (λ _ k. absurd (cc))))

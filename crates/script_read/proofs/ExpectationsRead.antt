@@ -1,10 +1,9 @@
 -- An expectation is read as what its form says.
-use Rattle.std.proofs.Common.{◌≡◌, ℕ, Bool, true, cond, List, [], ◌∷◌, ◌++◌, Result, Ok, Err, refl, ap, ◌∙◌, arith, length, false}
-use Rattle.std.proofs.lemmas.Bool.{eqb-true}
+use Rattle.std.proofs.Common.{◌≡◌, ℕ, Bool, true, cond, List, [], ◌∷◌, ◌++◌, Result, Ok, Err, refl, ap, ◌∙◌}
 use Rattle.std.specs.Prelude.{◌||◌, bytes_eq, codes}
 use Rattle.script_read.specs.ExpectationForms.{IsExpectation, IsTest, any_test, message_test, search_test, expect_ordered, expect_no_warn, expect_no_info, expect_fail, expect_warn, expect_info, old_message, old_search}
-use Rattle.script_read.specs.Expects.{Expectation, Tested, Anything, Message, Search, InOrder, Failing, Warning, Informing, WithoutWarnings, WithoutInfos, behind_mark, is_marked, expect_of, expectation_of, expected_by, filled, is_expectation, plain_worded, test_of, tested_worded}
-use Rattle.script_read.specs.Lines.{behind_word, first_word, is_empty}
+use Rattle.script_read.specs.Expects.{Expectation, Tested, Anything, Message, Search, Failing, behind_mark, is_marked, expect_of, expectation_of, expected_by, filled, is_expectation, plain_worded, test_of, tested_worded}
+use Rattle.script_read.specs.Lines.{behind_word, first_word}
 use Rattle.script_read.specs.Outcomes.{then_give, then_try}
 use Rattle.script_read.specs.Parted.{Parted}
 use Rattle.script_read.specs.declared.fault.LineFault.{LineFault}

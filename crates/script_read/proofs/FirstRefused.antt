@@ -1,8 +1,7 @@
 -- The lines of a file, one after the other: a refusal is that of the first line that is refused.
-use Rattle.std.proofs.Common.{◌≡◌, ◌<◌, ℕ, Bool, true, false, cond, List, [], ◌∷◌, ◌++◌, length, Option, Some, None, Result, Ok, Err, refl, ap, sym, ◌∙◌, subst, arith}
+use Rattle.std.proofs.Common.{◌≡◌, ◌<◌, ℕ, Bool, true, false, cond, List, [], ◌∷◌, ◌++◌, length, Option, Some, None, Result, Ok, Err, refl, ap, sym, ◌∙◌, arith}
 use Rattle.std.specs.List.{onto_first, slice_split}
 use Rattle.std.proofs.lemmas.List.Splits.{length-slice_split}
-use Rattle.ticks.specs.declared.moment.Ms.{Ms}
 use Rattle.script_read.specs.Commands.{Order, Clearing, Loading, Evaluating, heading_of}
 use Rattle.script_read.specs.Expects.{mode_wants}
 use Rattle.script_read.specs.Laws.{IsFirstRefused, lines_read}
@@ -93,6 +92,7 @@ module _ (kept : PatternList) where
     where
       loads : List SeriesLine → Instruction
       loads series = record { line = line.number; deed = Loads interval series }
+
       by : (r : Result (List SeriesLine) ReadFault) → fault (then_try (then_give r loads) (followed (commands_in kept part))) ≡ fault r
       by (Ok series) = refl
       by (Err e) = refl
@@ -100,6 +100,7 @@ module _ (kept : PatternList) where
     where
       evaluates : Expectations → Instruction
       evaluates expected = record { line = line.number; deed = Evaluates m text expected }
+
       by : (r : Result Expectations ReadFault) → fault (then_try (then_give r evaluates) (followed (commands_in kept part))) ≡ fault r
       by (Ok expected) = refl
       by (Err e) = refl

@@ -1,10 +1,9 @@
 -- The words at the front of a line: how it is cut, and what it is joined of.
-use Rattle.std.proofs.Common.{◌≡◌, ◌≢◌, ℕ, Bool, true, false, not, cond, List, [], ◌∷◌, ◌++◌, drop, refl, ap, sym, ◌∙◌, subst, append-nil}
-use Rattle.std.specs.Prelude.{take_while}
-use Rattle.std.specs.List.{list_all, prefix_len}
+use Rattle.std.proofs.Common.{◌≡◌, ℕ, Bool, true, false, not, cond, List, [], ◌∷◌, ◌++◌, refl, ap, sym, ◌∙◌, subst, append-nil}
+use Rattle.std.specs.List.{list_all}
 use Rattle.std.proofs.lemmas.Bool.{not-true}
 use Rattle.script_read.specs.Lines.{behind_word, first_word, from_blank, is_blank}
-use Rattle.script_read.specs.Parted.{AreBlanks, IsFilled, IsWord, Parted, last_word, before_rest, more_words, begins_word}
+use Rattle.script_read.specs.Parted.{AreBlanks, IsWord, Parted, last_word, before_rest, more_words, begins_word}
 use Rattle.script_read.proofs.Fronts.{Parts, and_both, front_dropped, front_taken, parts_of, stops}
 use Rattle.script_read.proofs.Names.{and_left, and_right}
 
@@ -33,6 +32,7 @@ gap_of (b ∷ text) = by (gap_of text) (is_blank b) refl
   where
     from : (v : Bool) → is_blank b ≡ v → from_blank (b ∷ text) ≡ cond v (from_blank text) (b ∷ text)
     from v e = ap (λ w. cond w (from_blank text) (b ∷ text)) e
+
     by : Gap text → (v : Bool) → is_blank b ≡ v → Gap (b ∷ text)
     by more true e = record {
       gap = b ∷ more.gap;

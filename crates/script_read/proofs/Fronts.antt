@@ -1,9 +1,9 @@
 -- The front of a list that passes a test, and what stands behind it.
-use Rattle.std.proofs.Common.{◌≡◌, ℕ, suc, ◌+◌, Bool, true, false, not, cond, List, [], ◌∷◌, ◌++◌, length, take, drop, refl, ap, sym, ◌∙◌, arith}
+use Rattle.std.proofs.Common.{◌≡◌, ◌+◌, Bool, true, false, not, cond, List, [], ◌∷◌, ◌++◌, length, take, drop, refl, ap, ◌∙◌, arith}
 use Rattle.std.proofs.Math.Seq.{take-append_seam, drop-append_seam}
 use Rattle.std.specs.Prelude.{◌&&◌, take_while}
 use Rattle.std.specs.List.{list_all, prefix_len}
-use Rattle.std.proofs.lemmas.Bool.{not-true, not_from_true}
+use Rattle.std.proofs.lemmas.Bool.{not-true}
 use Rattle.script_read.proofs.Names.{and_left, and_right}
 
 pub and_both : (a b : Bool) → a ≡ true → b ≡ true → (a && b) ≡ true

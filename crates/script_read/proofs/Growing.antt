@@ -1,10 +1,9 @@
 -- Patterns that are gathered.
-use Rattle.std.proofs.Common.{◌≡◌, ◌⊎◌, inl, inr, ℕ, Bool, true, false, cond, Option, None, Some, List, [], ◌∷◌, ◌++◌, Contains, refl, ap, sym, subst, ◌∙◌, arith, append_assoc, append-nil, length-append, slice_get, length, ◌<◌, zero, suc}
+use Rattle.std.proofs.Common.{◌≡◌, ◌⊎◌, inl, inr, ℕ, Bool, false, Some, List, [], ◌++◌, Contains, ap, sym, ◌∙◌, arith, append_assoc, length-append, slice_get, length, ◌<◌}
 use Rattle.std.proofs.lemmas.List.Elements.{Contains-append_cases}
 use Rattle.std.proofs.lemmas.Option.{slice_get-get_or}
 use Rattle.std.proofs.Math.ListN.{get_or-append}
 use Rattle.match_rule.specs.Gains.{Gains}
-use Rattle.match_rule.specs.Patterns.{is_kept, with_pattern}
 use Rattle.script_read.specs.Expects.{Gathers, GrowsBy, IsSearch, search_on}
 use Rattle.script_read.specs.Lines.{Numbered}
 use Rattle.script_read.specs.Outcomes.{PatternList}

@@ -1,5 +1,5 @@
 -- A word that is read as an item is one by its form.
-use Rattle.std.proofs.Common.{◌≡◌, ℕ, suc, ◌+◌, Bool, true, false, not, List, [], ◌∷◌, ◌++◌, length, take, drop, position, Option, Some, None, option_map, Result, Ok, Err, refl, ap, sym, ◌∙◌, subst, arith, append_assoc, take-append-drop}
+use Rattle.std.proofs.Common.{◌≡◌, ℕ, suc, ◌+◌, Bool, true, false, not, List, [], ◌∷◌, ◌++◌, length, take, drop, position, Option, Some, None, Ok, refl, ap, sym, ◌∙◌, subst, arith, append_assoc, take-append-drop}
 use Rattle.std.specs.Prelude.{◌==◌, ◌&&◌, bytes_eq, codes}
 use Rattle.std.specs.List.{position_or_len}
 use Rattle.std.proofs.lemmas.Bool.{eqb-true, ltb-true}
@@ -10,11 +10,10 @@ use Rattle.std.proofs.Math.Dec.{ltb}
 use Rattle.xfrac.specs.Arithmetic.{whole_number}
 use Rattle.xfrac.specs.Forming.{negated}
 use Rattle.xfrac.specs.declared.value.XFrac.{XFrac}
-use Rattle.script_read.specs.Items.{count_spelled, gap_spelled, is_exponent, is_sign, item_spelled, item_unmarked, run_spelled, run_values, step_behind, step_place, step_signed, value_spelled, values_spelled}
-use Rattle.script_read.specs.Outcomes.{then_give, then_try}
+use Rattle.script_read.specs.Items.{count_spelled, gap_spelled, is_exponent, is_sign, item_spelled, item_unmarked, run_spelled, run_values, step_behind, step_place, step_signed, values_spelled}
+use Rattle.script_read.specs.Outcomes.{then_give}
 use Rattle.script_read.specs.SeriesForms.{IsItem, IsStep, one_gap, more_gaps, stale_marker, number, same, stepped, up, down}
 use Rattle.script_read.specs.Words.{number_spelled}
-use Rattle.script_read.specs.declared.fault.LineFault.{LineFault}
 use Rattle.script_read.specs.declared.fault.LineFault.TheVariants.{Malformed}
 use Rattle.script_read.specs.declared.script.SeriesItem.{SeriesItem}
 use Rattle.script_read.specs.declared.script.SeriesItem.TheVariants.{Gap, Stale, Run}

@@ -1,24 +1,22 @@
 -- An item is read as what its form says.
-use Rattle.std.proofs.Common.{◌≡◌, ◌<◌, ℕ, suc, ◌+◌, Bool, true, false, not, cond, List, [], ◌∷◌, ◌++◌, length, take, drop, position, Option, Some, None, option_map, Result, Ok, Err, refl, ap, sym, ◌∙◌, subst, arith, append-nil, append_assoc, length-append}
-use Rattle.std.proofs.Math.Dec.{ltb}
+use Rattle.std.proofs.Common.{◌≡◌, ◌<◌, ℕ, ◌+◌, Bool, true, false, not, cond, List, [], ◌∷◌, ◌++◌, length, drop, position, Some, None, option_map, Result, Ok, refl, ap, sym, ◌∙◌, subst, arith, append-nil, append_assoc, length-append}
 use Rattle.std.proofs.Math.Seq.{take-append_seam, drop-append_seam, drop-append-add}
-use Rattle.std.specs.Prelude.{◌==◌, ◌&&◌, bytes_eq, codes}
+use Rattle.std.specs.Prelude.{◌==◌, bytes_eq, codes}
 use Rattle.std.specs.List.{list_all, position_or_len}
 use Rattle.std.proofs.lemmas.Bool.{le-ltb, lt-ltb}
 use Rattle.std.proofs.lemmas.List.Folds.{list_all-append}
 use Rattle.xfrac.specs.Arithmetic.{whole_number}
 use Rattle.xfrac.specs.Forming.{negated}
 use Rattle.xfrac.specs.declared.value.XFrac.{XFrac}
-use Rattle.script_read.specs.Items.{count_spelled, is_exponent, is_sign, item_spelled, item_unmarked, run_spelled, run_values, step_behind, step_place, step_signed, value_spelled, values_spelled, gap_spelled}
+use Rattle.script_read.specs.Items.{count_spelled, is_exponent, is_sign, item_spelled, item_unmarked, run_spelled, run_values, step_place, step_signed, values_spelled, gap_spelled}
 use Rattle.script_read.specs.Outcomes.{then_give, then_try}
 use Rattle.script_read.specs.SeriesForms.{IsItem, IsStep, one_gap, more_gaps, stale_marker, number, same, stepped, up, down}
 use Rattle.script_read.specs.Words.{number_spelled}
 use Rattle.script_read.specs.declared.fault.LineFault.{LineFault}
-use Rattle.script_read.specs.declared.fault.LineFault.TheVariants.{Malformed}
 use Rattle.script_read.specs.declared.script.SeriesItem.{SeriesItem}
 use Rattle.script_read.specs.declared.script.SeriesItem.TheVariants.{Gap, Stale, Run}
 use Rattle.script_read.proofs.Fronts.{and_both, front_len}
-use Rattle.script_read.proofs.Spelled.{Ends, NumbersAreTold, ends_some, number_ends, scan, scan_first, scan_stepped, scan_times, scan_unstepped}
+use Rattle.script_read.proofs.Spelled.{Ends, NumbersAreTold, ends_some, number_ends, scan_first, scan_stepped, scan_times, scan_unstepped}
 use Rattle.script_read.proofs.Takes.{same_bytes}
 
 abbrev is_times : ℕ → Bool
@@ -108,17 +106,17 @@ module _ (told : NumbersAreTold) where
       let front = first ∷ rest in
       let values = front ++ (sign ∷ spelled) in
       let lacks : lacks_times values ≡ true =
-          list_all-append (λ byte. not (byte == 120)) front (sign ∷ spelled) ∙ and_both (lacks_times front) (lacks_times (sign ∷ spelled)) (scan_times 101 front e.end e.scanned)
-          (and_both (not (sign == 120)) (lacks_times spelled) (ap not x) (scan_times 101 spelled f.end f.scanned)) in
+      list_all-append (λ byte. not (byte == 120)) front (sign ∷ spelled) ∙ and_both (lacks_times front) (lacks_times (sign ∷ spelled)) (scan_times 101 front e.end e.scanned)
+      (and_both (not (sign == 120)) (lacks_times spelled) (ap not x) (scan_times 101 spelled f.end f.scanned)) in
       let length_is : length rest + 1 ≡ length front = omega arith in
       let place : step_place values ≡ Some (length front) =
-          ap (option_map (λ place. place + 1)) (scan_stepped first rest e.end sign spelled (scan_first 101 first rest e.end e.scanned).1 e.unmarked s) ∙ ap Some length_is in
+      ap (option_map (λ place. place + 1)) (scan_stepped first rest e.end sign spelled (scan_first 101 first rest e.end e.scanned).1 e.unmarked s) ∙ ap Some length_is in
       let run : run_values (step_place values) values ≡ Ok (a, b) =
-          ap (λ p. run_values p values) place
-          ∙ ap (λ l. then_try (number_spelled l) (λ first. then_give (step_signed (drop (length front) values)) (λ by. pair_of first by))) (take-append_seam front (sign ∷ spelled))
-          ∙ ap (λ r. then_try r (λ first. then_give (step_signed (drop (length front) values)) (λ by. pair_of first by))) h
-          ∙ ap (λ l. then_give (step_signed l) (pair_of a)) (drop-append_seam front (sign ∷ spelled))
-          ∙ ap (λ r. then_give r (pair_of a)) m in
+      ap (λ p. run_values p values) place
+      ∙ ap (λ l. then_try (number_spelled l) (λ first. then_give (step_signed (drop (length front) values)) (λ by. pair_of first by))) (take-append_seam front (sign ∷ spelled))
+      ∙ ap (λ r. then_try r (λ first. then_give (step_signed (drop (length front) values)) (λ by. pair_of first by))) h
+      ∙ ap (λ l. then_give (step_signed l) (pair_of a)) (drop-append_seam front (sign ∷ spelled))
+      ∙ ap (λ r. then_give r (pair_of a)) m in
       run_of first (rest ++ (sign ∷ spelled)) count (scan_first 101 first rest e.end e.scanned).0 lacks ∙ runs_read values count (a, b) n run k
     where
       pair_of : XFrac → XFrac → XFrac × XFrac

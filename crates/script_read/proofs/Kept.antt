@@ -1,20 +1,14 @@
 -- Patterns that are kept keep their numbers.
-use Rattle.std.proofs.Common.{◌≡◌, ◌<◌, ◌≤◌, ℕ, ◌+◌, Bool, true, false, not, cond, ltb, eqb, List, [], ◌∷◌, ◌++◌, length, arith, refl, ap, sym, ◌∙◌, Result, Ok, Err, Some, inl, inr, eq-eqb, length-append}
+use Rattle.std.proofs.Common.{◌≡◌, ◌<◌, ◌≤◌, ℕ, ◌+◌, Bool, true, false, not, cond, ltb, List, [], ◌∷◌, ◌++◌, length, arith, refl, ap, sym, ◌∙◌, Ok, eq-eqb, length-append}
 use Rattle.std.specs.List.{position_or_len}
 use Rattle.std.proofs.lemmas.Bool.{lt-ltb, ltb-true, ltb-false}
 use Rattle.std.proofs.lemmas.List.Folds.{position_or_len_push}
 use Rattle.std.proofs.lemmas.List.Sums.{prefix_len-le-length}
 use Rattle.std.proofs.lemmas.Slice.Eq.{bytes_eq-Decides}
-use Rattle.match_rule.specs.Patterns.{IsRefused, MayRefuse, is_kept, is_pattern, is_plain, is_readable, number_of, regex_text, with_pattern}
-use Rattle.match_rule.specs.declared.patterns.PatternRefusal.{PatternRefusal}
-use Rattle.match_rule.specs.declared.patterns.PatternRefusal.TheVariants as patterns
+use Rattle.match_rule.specs.Patterns.{is_kept, is_pattern, number_of, with_pattern}
 use Rattle.label_set.specs.declared.rules.PatternId.{PatternId}
-use Rattle.script_read.specs.Expects.{RefusesPattern, Search, wanted_for}
-use Rattle.script_read.specs.Outcomes.{Fails, PatternList}
-use Rattle.script_read.specs.Refusals.{pattern_fault}
-use Rattle.script_read.specs.declared.fault.LineFault.{LineFault}
-use Rattle.script_read.specs.declared.fault.LineFault.TheVariants as lines
-use Rattle.script_read.specs.declared.script.Wanted.{Wanted}
+use Rattle.script_read.specs.Expects.{Search, wanted_for}
+use Rattle.script_read.specs.Outcomes.{PatternList}
 use Rattle.script_read.specs.declared.script.Wanted.TheVariants.{Regex}
 
 module _ {X : Type 0} (p : X → Bool) where

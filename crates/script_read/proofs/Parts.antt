@@ -1,5 +1,5 @@
 -- The parts of the braces that are left.
-use Rattle.std.proofs.Common.{◌≡◌, subst, sym, ◌≤◌, ◌<◌, ℕ, ◌+◌, Bool, true, false, cond, List, [], ◌∷◌, length, Bor, Option, None, Some, is_none, MatchOption, ap, ◌∙◌, ◌&&◌, ◌==◌, refl, arith, Result, Ok, Err}
+use Rattle.std.proofs.Common.{◌≡◌, subst, sym, ◌<◌, ℕ, ◌+◌, Bool, true, false, cond, List, [], ◌∷◌, length, Bor, Option, None, Some, is_none, MatchOption, ap, ◌∙◌, ◌&&◌, refl, arith, Result}
 use Rattle.std.specs.List.{slice_split}
 use Rattle.std.proofs.lemmas.List.Splits.{length-slice_split}
 use Rattle.promql_lex.specs.declared.token.Token.{Token}

@@ -1,6 +1,6 @@
 -- The labels of a result that are seen, beside lines that leave its series as they are.
-use Rattle.std.proofs.Common.{◌≡◌, ℕ, Bool, true, false, cond, List, [], ◌∷◌, ◌++◌, Result, Ok, Err, refl, ap, sym, ◌∙◌, subst, IfOk}
-use Rattle.script_read.specs.Expects.{Expectation, Tested, InOrder, Failing, Warning, Informing, WithoutWarnings, WithoutInfos, expectation_added, expectation_of, fits, wanted_for, with_asked}
+use Rattle.std.proofs.Common.{◌≡◌, ℕ, Bool, true, false, List, [], ◌∷◌, ◌++◌, Result, Ok, Err, refl, ap, subst, IfOk}
+use Rattle.script_read.specs.Expects.{Expectation, InOrder, Failing, Warning, Informing, WithoutWarnings, WithoutInfos, expectation_added, expectation_of, fits, wanted_for, with_asked}
 use Rattle.script_read.specs.Lines.{words_of}
 use Rattle.script_read.specs.Outcomes.{Makes, MakesWith, PatternList}
 use Rattle.script_read.specs.Results.{AreSeen, number_alone, rows_in, scalar_added}

@@ -1,7 +1,7 @@
 -- A text that is read as a series, and the words behind it, is that by its form.
-use Rattle.std.proofs.Common.{◌≡◌, ℕ, ◌+◌, Bool, true, false, not, cond, List, [], ◌∷◌, ◌++◌, length, take, drop, Option, Some, None, Result, Ok, Err, refl, ap, sym, ◌∙◌, subst, arith, append_assoc, take-append-drop}
+use Rattle.std.proofs.Common.{◌≡◌, ℕ, ◌+◌, Bool, true, false, not, cond, List, [], ◌∷◌, ◌++◌, length, take, drop, Option, Some, None, Ok, refl, ap, sym, ◌∙◌, subst, arith, append_assoc, take-append-drop}
 use Rattle.std.proofs.Math.Seq.{take-append_seam, drop-append-add}
-use Rattle.std.specs.Prelude.{◌==◌, codes}
+use Rattle.std.specs.Prelude.{◌==◌}
 use Rattle.std.specs.List.{filter, list_all, prefix_len, slice_split}
 use Rattle.std.specs.Str.{is_utf8}
 use Rattle.std.proofs.lemmas.Bool.{eqb-true}
@@ -10,12 +10,11 @@ use Rattle.label_set.specs.Labels.{metric_name}
 use Rattle.promql_lex.specs.Tokens.{tokens_of}
 use Rattle.promql_lex.specs.declared.token.Token.{Token}
 use Rattle.script_read.specs.Lines.{from_blank, is_blank, is_empty, words_behind, words_of}
-use Rattle.script_read.specs.Outcomes.{then_give, then_try}
-use Rattle.script_read.specs.Quotes.{before_place, place_outside, without_comment}
+use Rattle.script_read.specs.Outcomes.{then_try}
+use Rattle.script_read.specs.Quotes.{before_place, without_comment}
 use Rattle.script_read.specs.Series.{LabelList, Series, behind_name, closed_at, closing, if_last, is_comma, is_sign, label_at, labels_inside, labels_named, labels_put, labels_with, name_front, opened, pair_put, part_put, series_at, series_bare, series_named, series_open, value_at, without_empty_end}
 use Rattle.script_read.specs.SeriesForms.{AreInside, ArePairs, IsBraced, IsNamed, IsPair, IsWorded, bare_name, bare_worded, begins_blank, braced, braced_worded, more_pairs, name_alone, name_and_pairs, no_name, no_pairs, one_pair, pair, pairs_alone}
 use Rattle.script_read.specs.Words.{continues_name, is_metric_name, text_told}
-use Rattle.script_read.specs.declared.fault.LineFault.{LineFault}
 use Rattle.script_read.specs.declared.fault.LineFault.TheVariants.{Malformed}
 use Rattle.script_read.specs.declared.quote.Quoting.TheVariants.{Outside}
 use Rattle.script_read.proofs.Braces.{stands_at, uncommented}
@@ -145,15 +144,15 @@ module _ (name gap text : List ℕ) (found : Series) (blank : list_all is_blank 
       let c = uncommented text in
       let s = stands_at 125 Outside (without_comment text) place e in
       let inside : before_place (closing text) (without_comment text) ≡ s.front =
-          ap (λ p. before_place p (without_comment text)) e ∙ ap (λ n. take n (without_comment text)) (sym s.long) ∙ ap (take (length s.front)) s.joined ∙ take-append_seam s.front (125 ∷ s.back) in
+      ap (λ p. before_place p (without_comment text)) e ∙ ap (λ n. take n (without_comment text)) (sym s.long) ∙ ap (take (length s.front)) s.joined ∙ take-append_seam s.front (125 ∷ s.back) in
       let n = try_ok (labels_named name) _ labels (ap (labels_inside name) (sym inside) ∙ h) in
       let t = try_ok (text_told s.front) _ labels n.2 in
       let told = told_ok s.front t.0 t.1 in
       let parts = parts_found s.front n.0 labels (tokens_of s.front)
-          (subst (λ w. labels_with w true n.0 (without_empty_end (slice_split (is_comma w) (tokens_of w))) ≡ Ok labels) told.1 t.2) in
+      (subst (λ w. labels_with w true n.0 (without_empty_end (slice_split (is_comma w) (tokens_of w))) ≡ Ok labels) told.1 t.2) in
       let whole : text ≡ s.front ++ (125 ∷ (s.back ++ c.rest)) = c.joined ∙ ap (λ l. l ++ c.rest) s.joined ∙ append_assoc s.front (125 ∷ s.back) c.rest in
       let behind : drop (place + 1) text ≡ s.back ++ c.rest =
-          ap (λ n. drop (n + 1) text) (sym s.long) ∙ ap (drop (length s.front + 1)) whole ∙ drop-append-add s.front (125 ∷ (s.back ++ c.rest)) 1 in
+      ap (λ n. drop (n + 1) text) (sym s.long) ∙ ap (drop (length s.front + 1)) whole ∙ drop-append-add s.front (125 ∷ (s.back ++ c.rest)) 1 in
       let same : (labels, drop (place + 1) text) ≡ found = cc in
       let series = name ++ (gap ++ (123 ∷ (s.front ++ (125 ∷ [])))) in
       record {
@@ -177,6 +176,7 @@ worded_found text found h begins = by (opened (from_blank (behind_name text))) r
   where
     whole : text ≡ name_front text ++ behind_name text
     whole = sym (take-append-drop (prefix_len continues_name text) text)
+
     by : (inside : Option (List ℕ)) → opened (from_blank (behind_name text)) ≡ inside → series_named (name_front text) (behind_name text) inside ≡ Ok found → IsWorded text found.0 (words_behind found.1)
     by None e k =
         let b = bare_ok (name_front text) (behind_name text) found k in

@@ -1,17 +1,17 @@
 -- A series and the words behind it are read as what their form says.
-use Rattle.std.proofs.Common.{◌≡◌, ℕ, ◌+◌, Bool, true, false, not, cond, List, [], ◌∷◌, ◌++◌, length, take, drop, Option, Some, None, Result, Ok, Err, refl, ap, sym, ◌∙◌, subst, arith, append_assoc}
+use Rattle.std.proofs.Common.{◌≡◌, ℕ, Bool, true, false, not, cond, List, [], ◌∷◌, ◌++◌, length, take, Some, None, Result, Ok, Err, refl, ap, sym, ◌∙◌, arith, append_assoc}
 use Rattle.std.proofs.Math.Seq.{take-append_seam, drop-append-add}
-use Rattle.std.specs.Prelude.{◌==◌, ◌&&◌, codes}
-use Rattle.std.specs.List.{list_all, prefix_len, slice_split}
+use Rattle.std.specs.Prelude.{codes}
+use Rattle.std.specs.List.{list_all, slice_split}
 use Rattle.std.specs.Str.{is_utf8}
 use Rattle.std.proofs.lemmas.Bool.Decides.{nat_tests}
 use Rattle.label_set.specs.Labels.{metric_name}
 use Rattle.promql_lex.specs.Tokens.{tokens_of}
 use Rattle.promql_lex.specs.declared.token.Token.{Token}
-use Rattle.script_read.specs.Lines.{from_blank, is_blank, is_empty, words_behind, words_of}
+use Rattle.script_read.specs.Lines.{from_blank, is_blank, words_behind}
 use Rattle.script_read.specs.Outcomes.{then_give, then_try}
 use Rattle.script_read.specs.Quotes.{before_place, place_outside, without_comment}
-use Rattle.script_read.specs.Series.{LabelList, Series, behind_name, closed_at, closing, if_last, is_comma, is_sign, label_at, labels_inside, labels_named, labels_put, labels_with, name_front, opened, pair_put, part_put, series_at, series_bare, series_named, series_open, value_at, without_empty_end}
+use Rattle.script_read.specs.Series.{LabelList, Series, behind_name, closed_at, closing, if_last, is_comma, is_sign, labels_inside, labels_named, labels_put, labels_with, name_front, opened, pair_put, part_put, series_at, series_bare, series_named, series_open, value_at, without_empty_end}
 use Rattle.script_read.specs.SeriesForms.{AreInside, ArePairs, IsBraced, IsNamed, IsPair, IsWorded, bare_name, bare_worded, begins_blank, braced, braced_worded, more_pairs, name_alone, name_and_pairs, no_name, no_pairs, one_pair, pair, pairs_alone}
 use Rattle.script_read.specs.Words.{continues_name, is_identifier, is_metric_name, is_reserved, starts_name, text_told}
 use Rattle.script_read.specs.declared.fault.LineFault.{LineFault}
@@ -114,13 +114,13 @@ open_read name inside rest named labels n closes none told h =
     let text = inside ++ (125 ∷ rest) in
     let k = kept_front inside 125 rest none refl in
     let place : closing text ≡ Some (length inside) =
-        ap (place_outside 125) (k.1 ∙ sym (append_assoc inside (125 ∷ []) k.0)) ∙ place_stays 125 Outside (inside ++ codes "}") k.0 (length inside) closes in
+    ap (place_outside 125) (k.1 ∙ sym (append_assoc inside (125 ∷ []) k.0)) ∙ place_stays 125 Outside (inside ++ codes "}") k.0 (length inside) closes in
     let front : before_place (closing text) (without_comment text) ≡ inside =
-        ap (λ p. before_place p (without_comment text)) place ∙ ap (take (length inside)) k.1 ∙ take-append_seam inside (125 ∷ k.0) in
+    ap (λ p. before_place p (without_comment text)) place ∙ ap (take (length inside)) k.1 ∙ take-append_seam inside (125 ∷ k.0) in
     let read : labels_inside name inside ≡ Ok labels =
-        ap (λ r. then_try r (λ named. then_try (text_told inside) (λ text. labels_with text true named (without_empty_end (slice_split (is_comma text) (tokens_of text)))))) (named_read name named n)
-        ∙ ap (λ b. then_try (cond b (Ok inside) (Err Malformed)) (λ text. labels_with text true named (without_empty_end (slice_split (is_comma text) (tokens_of text))))) told
-        ∙ inside_read inside named labels (slice_split (is_comma inside) (tokens_of inside)) h in
+    ap (λ r. then_try r (λ named. then_try (text_told inside) (λ text. labels_with text true named (without_empty_end (slice_split (is_comma text) (tokens_of text)))))) (named_read name named n)
+    ∙ ap (λ b. then_try (cond b (Ok inside) (Err Malformed)) (λ text. labels_with text true named (without_empty_end (slice_split (is_comma text) (tokens_of text))))) told
+    ∙ inside_read inside named labels (slice_split (is_comma inside) (tokens_of inside)) h in
     ap (λ l. then_try (labels_inside name l) (closed_at (closing text) text)) front
     ∙ ap (λ r. then_try r (closed_at (closing text) text)) read
     ∙ ap (λ p. closed_at p text labels) place
@@ -140,8 +140,8 @@ braced_read : (series rest text : List ℕ) (labels : LabelList) → IsBraced se
 braced_read _ rest text _ (braced name gap inside series named labels n blank closes none told h is) whole =
     let back = gap ++ (123 ∷ (inside ++ (125 ∷ rest))) in
     let joined : text ≡ name ++ back =
-        whole ∙ ap (λ l. l ++ rest) is ∙ append_assoc name (gap ++ (123 ∷ (inside ++ (125 ∷ [])))) rest
-        ∙ ap (λ l. name ++ l) (append_assoc gap (123 ∷ (inside ++ (125 ∷ []))) rest ∙ ap (λ l. gap ++ (123 ∷ l)) (append_assoc inside (125 ∷ []) rest)) in
+    whole ∙ ap (λ l. l ++ rest) is ∙ append_assoc name (gap ++ (123 ∷ (inside ++ (125 ∷ [])))) rest
+    ∙ ap (λ l. name ++ l) (append_assoc gap (123 ∷ (inside ++ (125 ∷ []))) rest ∙ ap (λ l. gap ++ (123 ∷ l)) (append_assoc inside (125 ∷ []) rest)) in
     series_split name back text (named_continues name named n) (brace_stops gap (inside ++ (125 ∷ rest)) blank) joined
     ∙ ap (λ b. series_named name back (opened b)) (skipped gap (123 ∷ (inside ++ (125 ∷ rest))) blank refl)
     ∙ open_read name inside rest named labels n closes none told h

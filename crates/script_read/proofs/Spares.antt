@@ -1,9 +1,6 @@
 -- No line but an expectation is refused for its pattern.
-use Rattle.std.proofs.Common.{◌≡◌, subst, ℕ, zero, suc, ◌+◌, ◌∷◌, ◌++◌, Bool, true, false, List, [], IfErr, Result, Ok, Err, Option, None, Some, cond, drop, take, refl, ap, sym, ◌∙◌, ◌==◌, position}
+use Rattle.std.proofs.Common.{◌≡◌, subst, ℕ, zero, suc, ◌+◌, ◌∷◌, ◌++◌, Bool, true, false, List, [], IfErr, Result, Ok, Err, Option, None, Some, drop, take, refl, ap, sym, ◌∙◌, ◌==◌, position}
 use Rattle.label_set.specs.declared.labels.LabelRefusal.{LabelRefusal}
-use Rattle.frac_text.specs.Readings.{script_answer}
-use Rattle.frac_text.specs.declared.refusal.NumberRefusal.{NumberRefusal}
-use Rattle.frac_text.specs.declared.refusal.NumberRefusal.TheVariants as numbers
 use Rattle.label_set.specs.Labels.{metric_name, put_refusal, with_pair}
 use Rattle.promql_lex.specs.Tokens.{tokens_of}
 use Rattle.promql_lex.specs.declared.token.Token.{Token}
@@ -19,7 +16,7 @@ use Rattle.ticks.specs.declared.moment.Ms.{Ms}
 use Rattle.frac_text.specs.Times.{time_answer}
 use Rattle.frac_text.specs.declared.refusal.TimeRefusal.{TimeRefusal}
 use Rattle.script_read.specs.Commands.{Order, Clearing, Loading, after_word, duration_after, eval_mode, evaluated, evaluation_of, heading_of, if_alone, instant_heading, moment_at, moments_from, load_heading, range_heading, range_of, time_after}
-use Rattle.script_read.specs.Expects.{RefusesOnLine, RefusesPattern, filled, search_on}
+use Rattle.script_read.specs.Expects.{RefusesOnLine, RefusesPattern, search_on}
 use Rattle.script_read.specs.Lines.{Numbered, behind_word, first_word, from_blank, is_empty, words_behind, words_of}
 use Rattle.script_read.specs.Quotes.{has_histogram, without_comment}
 use Rattle.script_read.specs.Reading.{Instruction, items_spelled, line_with, load_of, series_lines, series_of, series_worded}
@@ -29,18 +26,17 @@ use Rattle.script_read.specs.declared.expectation.Mode.TheVariants as modes
 use Rattle.script_read.specs.declared.fault.ReadFault.{ReadFault}
 use Rattle.script_read.specs.declared.fault.ReadFault.TheVariants as files
 use Rattle.script_read.specs.declared.script.ScriptRefusal.TheVariants as refusals
-use Rattle.script_read.specs.Items.{count_spelled, gap_spelled, item_spelled, item_unmarked, run_spelled, run_values, step_place, step_signed, value_spelled, values_spelled}
+use Rattle.script_read.specs.Items.{count_spelled, gap_spelled, item_spelled, item_unmarked, run_spelled, run_values, step_place, step_signed, values_spelled}
 use Rattle.script_read.specs.Moments.{Moments, is_grid, places, point_at}
-use Rattle.script_read.specs.Outcomes.{Fails, Gives, Makes, PatternList, Refuses, each_of, in_front, joined, onto, then_give, then_try}
-use Rattle.script_read.specs.Results.{cells_from, cells_spelled, if_number, instant_points, line_added, next_value, number_alone, begins_series, labels_in, stands_in, points_behind, points_from, points_of, range_points, result_added, room_after, row_added, row_beside, rows_with, run_points, scalar_added}
-use Rattle.script_read.specs.Series.{LabelList, Series, closed_at, if_last, behind_name, name_front, opened, is_comma, without_empty_end, is_sign, label_at, label_named, labels_inside, labels_named, labels_put, labels_with, pair_put, part_put, put_unless, series_at, series_bare, series_named, series_open, value_at, value_quoted}
-use Rattle.script_read.specs.Words.{interval_spelled, is_ascii, is_metric_name, number_spelled, spelled_or_refused, text_told, time_or_refused, time_spelled}
+use Rattle.script_read.specs.Outcomes.{Gives, Makes, PatternList, Refuses, each_of, onto, then_give}
+use Rattle.script_read.specs.Results.{cells_from, cells_spelled, if_number, instant_points, number_alone, begins_series, labels_in, stands_in, points_behind, points_from, range_points, result_added, room_after, row_added, row_beside, run_points, scalar_added}
+use Rattle.script_read.specs.Series.{LabelList, Series, closed_at, if_last, behind_name, name_front, opened, is_comma, without_empty_end, is_sign, label_named, labels_inside, labels_named, labels_put, labels_with, pair_put, part_put, put_unless, series_at, series_bare, series_named, value_quoted}
+use Rattle.script_read.specs.Words.{interval_spelled, is_ascii, is_metric_name, time_or_refused, time_spelled}
 use Rattle.script_read.specs.declared.fault.LineFault.{LineFault}
 use Rattle.script_read.specs.declared.fault.LineFault.TheVariants.{Malformed, NativeHistogram, NumberRange, BadPattern, BadLabels, Memory}
 use Rattle.script_read.specs.declared.script.Expectations.{Expectations}
 use Rattle.script_read.specs.declared.script.Expected.{Expected}
 use Rattle.script_read.specs.declared.script.Expected.TheVariants.{Scalar, Rows}
-use Rattle.script_read.specs.declared.script.Point.{Point}
 use Rattle.script_read.specs.declared.script.ResultSeries.{ResultSeries}
 use Rattle.script_read.specs.declared.script.SeriesItem.{SeriesItem}
 use Rattle.script_read.specs.declared.script.SeriesItem.TheVariants.{Gap, Stale, Run}

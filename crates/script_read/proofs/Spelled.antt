@@ -1,11 +1,10 @@
 -- The bytes of a number: no `x` and no underscore, and a sign at the front or behind `e` or `E` alone.
-use Rattle.std.proofs.Common.{◌≡◌, ◌<◌, ◌≤◌, ◌⊎◌, inl, inr, ℕ, suc, ◌+◌, Bool, true, false, not, cond, List, [], ◌∷◌, ◌++◌, length, map, Option, Some, None, option_map, Result, Ok, Err, refl, ap, sym, ◌∙◌, subst, arith, length-append, ◌↔◌}
-use Rattle.std.specs.Prelude.{◌==◌, ◌&&◌, ◌||◌, codes, IsTrue}
+use Rattle.std.proofs.Common.{◌≡◌, ◌≤◌, inl, inr, ℕ, ◌+◌, Bool, true, false, not, cond, List, [], ◌∷◌, ◌++◌, length, Option, Some, None, option_map, Result, Ok, Err, refl, ap, sym, ◌∙◌, subst, arith, length-append}
+use Rattle.std.specs.Prelude.{◌==◌, ◌&&◌, ◌||◌, codes}
 use Rattle.std.specs.Char.{is_ascii_digit, to_ascii_lowercase}
 use Rattle.std.specs.List.{list_all}
 use Rattle.std.proofs.lemmas.Bool.Decides.{nat_tests}
 use Rattle.frac_text.specs.Decimals.{Decimal, Power}
-use Rattle.frac_text.specs.Digits.{is_digit}
 use Rattle.frac_text.specs.Literals.{IsRun, last, next, parted, IsOptionalRun, IsFraction, IsMark, IsExponent, absent, unsigned, plus, minus, IsDecimal, IsInAnyCase, IsUnsignedNumber, IsScriptNumber}
 use Rattle.frac_text.specs.Readings.{script_answer}
 use Rattle.frac_text.specs.declared.refusal.NumberRefusal.{NumberRefusal}

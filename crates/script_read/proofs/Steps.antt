@@ -1,6 +1,6 @@
 -- A refusal goes through the steps behind it.
 use Rattle.std.proofs.Common.{◌≡◌, ℕ, List, [], ◌∷◌, ◌++◌, Result, Ok, Err, refl, append_assoc, ◌∙◌, ap, sym}
-use Rattle.script_read.specs.Outcomes.{Fails, Refuses, Says, Gives, in_front, joined, onto, then_give, then_try}
+use Rattle.script_read.specs.Outcomes.{Fails, Refuses, in_front, joined, onto, then_try}
 use Rattle.script_read.specs.Refusals.{at_line, fault_at}
 use Rattle.script_read.specs.declared.fault.LineFault.{LineFault}
 use Rattle.script_read.specs.declared.fault.LineFault.TheVariants.{Malformed, NativeHistogram, NumberRange, BadPattern, BadLabels, Memory}

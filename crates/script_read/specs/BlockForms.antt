@@ -10,7 +10,7 @@ use Rattle.script_read.specs.Lines.{Numbered, blocks_of, broken_line, words_of}
 use Rattle.script_read.specs.Moments.{Moments}
 use Rattle.script_read.specs.Outcomes.{PatternList}
 use Rattle.script_read.specs.Quotes.{has_histogram, without_comment}
-use Rattle.script_read.specs.Reading.{Deed, Clears, Loads, Evaluates, Instruction}
+use Rattle.script_read.specs.Reading.{Clears, Loads, Evaluates, Instruction}
 use Rattle.script_read.specs.Refusals.{limit}
 use Rattle.script_read.specs.Results.{begins_series, labels_in, points_of, stands_in, total_places}
 use Rattle.script_read.specs.Moments.{places}
@@ -23,7 +23,6 @@ use Rattle.script_read.specs.declared.script.Expected.TheVariants.{Scalar, Rows}
 use Rattle.script_read.specs.declared.script.Point.{Point}
 use Rattle.script_read.specs.declared.script.ResultSeries.{ResultSeries}
 use Rattle.script_read.specs.declared.script.SeriesItem.{SeriesItem}
-use Rattle.script_read.specs.declared.script.SeriesItem.TheVariants.{Stale}
 use Rattle.script_read.specs.declared.script.SeriesLine.{SeriesLine}
 
 -- each word is an item

@@ -1,10 +1,10 @@
 -- The lines that are commands: `clear`; `load <duration>`; `eval<mode> instant at <time> <expr>`; and
 -- `eval<mode> range from <time> to <time> step <duration> <expr>`, with the mode empty, `_fail`, `_warn`, `_info` or, for
 -- instants, `_ordered`. The expression is the rest of the line, and is not read here. (The promqltest format.)
-use Rattle.std.specs.Prelude.{ℕ, Bool, true, false, if◌then◌else◌, List, [], ◌∷◌, pos, bytes_eq, codes, Option, None, Some, Result, Ok, Err}
+use Rattle.std.specs.Prelude.{ℕ, true, false, if◌then◌else◌, List, [], ◌∷◌, pos, bytes_eq, codes, Option, None, Some, Result, Ok, Err}
 use Rattle.ticks.specs.declared.moment.Ms.{Ms}
 use Rattle.script_read.specs.Expects.{filled}
-use Rattle.script_read.specs.Lines.{behind_word, first_word, is_empty}
+use Rattle.script_read.specs.Lines.{behind_word, first_word}
 use Rattle.script_read.specs.Moments.{Moments, grid_taken}
 use Rattle.script_read.specs.Outcomes.{then_give, then_try}
 use Rattle.script_read.specs.Words.{interval_spelled, time_spelled}

@@ -3,7 +3,6 @@
 -- line. (The promqltest format. What may stand beside what is this project's own.)
 use Rattle.std.specs.Prelude.{◌≡◌, ◌⊎◌, ℕ, Bool, true, false, ◌||◌, not, if◌then◌else◌, List, [], ◌∷◌, ◌++◌, bytes_eq, codes, drop, length, take, Option, None, Some, Result, Ok, Err}
 use Rattle.std.specs.List.{Contains}
-use Rattle.label_set.specs.declared.rules.PatternId.{PatternId}
 use Rattle.match_rule.specs.Patterns.{IsRefused, is_kept, is_plain, number_of, regex_text}
 use Rattle.script_read.specs.Lines.{Numbered, behind_word, first_word, from_blank, is_empty}
 use Rattle.script_read.specs.Outcomes.{PatternList, then_give, then_try}

@@ -4,7 +4,7 @@
 -- A file of more than 4,194,304 bytes is too large. Else one that is no UTF-8 is refused at the line of the first byte that
 -- breaks the encoding. Else the first line that is refused refuses the file; of several faults in a line the leftmost one
 -- is answered.
-use Rattle.std.specs.Prelude.{ℕ, Bool, Result, Ok, Err}
+use Rattle.std.specs.Prelude.{ℕ, Result, Ok, Err}
 use Rattle.label_set.specs.declared.labels.LabelRefusal.{LabelRefusal}
 use Rattle.label_set.specs.declared.labels.LabelRefusal.TheVariants as labels
 use Rattle.match_rule.specs.declared.patterns.PatternRefusal.{PatternRefusal}
@@ -13,7 +13,6 @@ use Rattle.script_read.specs.declared.fault.LineFault.{LineFault}
 use Rattle.script_read.specs.declared.fault.LineFault.TheVariants as lines
 use Rattle.script_read.specs.declared.fault.ReadFault.{ReadFault}
 use Rattle.script_read.specs.declared.fault.ReadFault.TheVariants.{Refused, Memory}
-use Rattle.script_read.specs.declared.script.ScriptRefusal.{ScriptRefusal}
 use Rattle.script_read.specs.declared.script.ScriptRefusal.TheVariants.{Malformed, NativeHistogram, NumberRange, BadPattern, BadLabels}
 
 -- the most bytes of a file

@@ -10,7 +10,7 @@ use Rattle.xfrac.specs.declared.value.XFrac.{XFrac}
 use Rattle.script_read.specs.Items.{item_spelled}
 use Rattle.script_read.specs.Lines.{is_empty, words_behind, words_of}
 use Rattle.script_read.specs.Moments.{Moments, places, point_at}
-use Rattle.script_read.specs.Outcomes.{Fails, in_front, joined, onto, then_give, then_try}
+use Rattle.script_read.specs.Outcomes.{Fails, in_front, joined, then_give, then_try}
 use Rattle.script_read.specs.Series.{LabelList, Series, name_front, series_at}
 use Rattle.script_read.specs.Words.{is_word, number_spelled, starts_name}
 use Rattle.script_read.specs.declared.fault.LineFault.{LineFault}

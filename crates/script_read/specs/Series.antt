@@ -1,6 +1,6 @@
 -- Series as a script writes them: `name`, `name{l="v",..}`, `{l="v",..}`, `{"name",l="v",..}` or `{}`. What stands in braces
 -- are tokens of the query language, so that strings are as there. (The promqltest format, and PromQL's selectors.)
-use Rattle.std.specs.Prelude.{ℕ, ◌+◌, ◌-◌, Bool, true, false, if◌then◌else◌, ◌==◌, ◌&&◌, not, List, [], ◌∷◌, take, drop, bytes_eq, Option, None, Some, Result, Ok, Err, take_while}
+use Rattle.std.specs.Prelude.{ℕ, ◌+◌, ◌-◌, Bool, true, false, if◌then◌else◌, ◌==◌, not, List, [], ◌∷◌, take, drop, bytes_eq, Option, None, Some, Result, Ok, Err, take_while}
 use Rattle.std.specs.List.{list_all, prefix_len, slice_split}
 use Rattle.label_set.specs.Labels.{metric_name, put_refusal, with_pair}
 use Rattle.label_set.specs.declared.labels.LabelRefusal.{LabelRefusal}

@@ -56,7 +56,7 @@ fn read_items(alloc: Global, words: &[&[u8]]) -> Result<Items<SeriesItem>, LineF
     if words.is_empty() {
         return Err(LineFault::Malformed);
     }
-    let mut items = Items::new(alloc);
+    let mut items = Items::with_capacity(alloc, words.len())?;
     for word in words {
         items.push(read_item(word)?)?;
     }

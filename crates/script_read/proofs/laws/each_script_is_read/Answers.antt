@@ -1,4 +1,3 @@
-use Rattle.std.proofs.Common.{sym, ◌∙◌}
 use Rattle.script_read.specs.Reading.{reading}
 use Rattle.script_read.proofs.BlocksRead.{script_read}
 use Rattle.script_read.proofs.Spelled.{NumbersAreTold}

@@ -1,4 +1,4 @@
-use Rattle.std.proofs.Common.{◌≡◌, cond, false, Err, ap, sym, ◌∙◌}
+use Rattle.std.proofs.Common.{cond, Err, ap, sym, ◌∙◌}
 use Rattle.std.proofs.lemmas.Bool.{le-ltb}
 use Rattle.std.specs.Prelude.{length}
 use Rattle.script_read.specs.Lines.{broken_line, lines_of}

@@ -1,4 +1,4 @@
-use Rattle.std.proofs.Common.{◌∷◌, map, ap, sym, ◌∙◌}
+use Rattle.std.proofs.Common.{◌∷◌, map, sym}
 use Rattle.std.proofs.lemmas.Result.{err_from_is_err_and}
 use Rattle.script_read.specs.Views.{heading_seen, instruction, numbered}
 use Rattle.script_read.proofs.Among.{behind}

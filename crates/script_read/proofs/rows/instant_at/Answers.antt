@@ -1,4 +1,4 @@
-use Rattle.std.proofs.Common.{◌≡◌, ℤ, pos, ◌*ℤ◌, arith, rules, ap, to_z, of_z, w64, FitsSigned}
+use Rattle.std.proofs.Common.{◌≡◌, pos, ◌*ℤ◌, arith, rules, ap, to_z, of_z, w64, FitsSigned}
 use Rattle.std.proofs.lemmas.Int.{ints, to_z-of_z}
 use Rattle.ticks.specs.Grids.{IsInRange}
 use Rattle.script_read.proofs.Instants.{as_time, span_is, steps_within}
