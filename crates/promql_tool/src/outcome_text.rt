@@ -80,11 +80,7 @@ fn append_refusal(
 }
 
 /// Appends a text, and labels behind it.
-pub fn append_labelled(
-    text: &str,
-    labels: &Labels,
-    into: &mut Vec<u8>,
-) -> Result<(), AllocError>
+pub fn append_labelled(text: &str, labels: &Labels, into: &mut Vec<u8>) -> Result<(), AllocError>
     ensures { OnOk result (into.new.items ≡ into.old.items ++ (text.now ++ labels_text labels.now)) }
 {
     into.extend_from_slice(text.as_bytes())?;

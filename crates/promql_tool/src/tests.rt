@@ -1,10 +1,10 @@
-ghost use Rattle.std.specs.Prelude.{◌≡◌, None, Some};
+ghost use Rattle.std.specs.Prelude.{◌≡◌};
 
 use crate::item::read_item;
 use crate::script::WordRefusal;
 use crate::series::read_series;
 use crate::{Status, loads_put_their_samples, passes_exactly_where_rows_agree, run_tool};
-use edge_io::{Fetch, Fetched, Library, MemLibrary, MemSink, Sink, SinkFail};
+use edge_io::{MemLibrary, MemSink};
 use holders::{Items, Text};
 use std::alloc::{AllocError, Global};
 use std::marker::Brand;
@@ -15,8 +15,6 @@ use ticks::Work;
 
 const FIRST: &str =
     "load 5m\nup 1 2\n\neval instant at 0 up\nup 1\n\neval instant at 5m up\nup 3\n";
-
-const FIRST_REPORT: &str = "PASS a.test:4\nFAIL a.test:7 up expected 3 got 2\npassed 1 failed 1\n";
 
 /// Each row is a report, its lines parted by `;`, and behind a `|` the script, whose line feeds are written `|`. Between
 /// two backquotes stands a byte in hexadecimal, or a number, `*` and a piece that is repeated, with its place for a `%`.
@@ -242,36 +240,32 @@ passed 0 failed 0|load 1|x{`63*l%="v",`} 1
 REFUSED a.test:2 BadLabels|load 1|x{`64*l%="v",`} 1
 "##;
 
-/// The same, for long files.
-const BYTES: &str = "
+/// The same, for long files and many samples.
+const LONG: &str = "
 passed 0 failed 0|`4194304*|`
 REFUSED a.test:0 TooLarge|`4194305*|`
-";
-
-/// The same, for many samples.
-const SAMPLES: &str = "
 passed 0 failed 0|load 1s|x 0x1999999
 REFUSED a.test:2 TooManySamples|load 1s|x 0x2000000
 REFUSED a.test:2 TooManySamples|load 0.001|x 0x4294967295
 ";
 
-/// Each row is a status, a text with its line feeds written `;`, the paths that were fetched, the words, and the numbers
-/// of the fetch and of the write that fail, of the file of `FIRST`.
+/// Each row is a status, a text with its line feeds written `;`, the words, and the numbers of the fetch and of the write
+/// that fail, of the file of `FIRST`.
 const RUNS: &str = "
-1|PASS a.test:4;FAIL a.test:7 up expected 3 got 2;passed 1 failed 1;|a.test |promqltest a.test|0|0
-2|usage: promqltest [options] FILE.. or query [options] FILE EXPR;|||0|0
-2|usage: promqltest [options] FILE.. or query [options] FILE EXPR;||promqltest|0|0
-2|usage: promqltest [options] FILE.. or query [options] FILE EXPR;||query a.test|0|0
-2|usage: promqltest [options] FILE.. or query [options] FILE EXPR;||Promqltest a.test|0|0
-2|usage: promqltest [options] FILE.. or query [options] FILE EXPR;||promqltest -a.test|0|0
-2|usage: promqltest [options] FILE.. or query [options] FILE EXPR;||promqltest --help|0|0
-2|usage: promqltest [options] FILE.. or query [options] FILE EXPR;||promqltest a.test b.test|0|0
-2|usage: promqltest [options] FILE.. or query [options] FILE EXPR;||a.test promqltest|0|0
-3|FAULT read -;|- |promqltest -|0|0
-3|FAULT read b.test;|b.test |promqltest b.test|0|0
-3|FAULT read a.test;|a.test |promqltest a.test|1|0
-4|PASS a.test:4;|a.test |promqltest a.test|0|2
-4|||promqltest|0|1
+1|PASS a.test:4;FAIL a.test:7 up expected 3 got 2;passed 1 failed 1;|promqltest a.test|0|0
+2|usage: promqltest [options] FILE.. or query [options] FILE EXPR;||0|0
+2|usage: promqltest [options] FILE.. or query [options] FILE EXPR;|promqltest|0|0
+2|usage: promqltest [options] FILE.. or query [options] FILE EXPR;|query a.test|0|0
+2|usage: promqltest [options] FILE.. or query [options] FILE EXPR;|Promqltest a.test|0|0
+2|usage: promqltest [options] FILE.. or query [options] FILE EXPR;|promqltest -a.test|0|0
+2|usage: promqltest [options] FILE.. or query [options] FILE EXPR;|promqltest --help|0|0
+2|usage: promqltest [options] FILE.. or query [options] FILE EXPR;|promqltest a.test b.test|0|0
+2|usage: promqltest [options] FILE.. or query [options] FILE EXPR;|a.test promqltest|0|0
+3|FAULT read -;|promqltest -|0|0
+3|FAULT read b.test;|promqltest b.test|0|0
+3|FAULT read a.test;|promqltest a.test|1|0
+4|PASS a.test:4;|promqltest a.test|0|2
+4||promqltest|0|1
 ";
 
 /// Appends a text with a line feed for each sign.
@@ -331,12 +325,12 @@ fn words_of(alloc: Global, line: &str) -> Result<Vec<String>, AllocError> {
 }
 
 /// Runs words with counters of their own.
-fn run_counted<W: Ledger, L: Library, S: Sink>(
+fn run_counted<W: Ledger>(
     alloc: Global,
     blank: Blank,
     words: &[String],
-    library: &mut L,
-    out: &mut S,
+    library: &mut MemLibrary,
+    out: &mut MemSink,
 ) -> Status
     requires name { blank.name ≡ W.name }
     requires parts { blank.parts ≡ W.parts }
@@ -346,70 +340,40 @@ fn run_counted<W: Ledger, L: Library, S: Sink>(
     run_tool(alloc, words, library, out, &mut work)
 }
 
-fn run_words<L: Library, S: Sink>(
+fn run_words(
     alloc: Global,
     words: &[String],
-    library: &mut L,
-    out: &mut S,
+    library: &mut MemLibrary,
+    out: &mut MemSink,
 ) -> Status {
-    run_counted::<Brand, L, S>(alloc, Blank::new(3), words, library, out)
+    run_counted::<Brand>(alloc, Blank::new(3), words, library, out)
 }
 
-fn status_of(report: &[u8]) -> u8 {
+/// Words, the file `a.test`, and the numbers of the fetch and of the write that fail.
+#[derive(Clone, Copy)]
+struct Run<'a> {
+    line: &'a str,
+    text: &'a [u8],
+    fetch: u32,
+    write: u32,
+}
+
+/// Whether a run ends with this status and has printed this.
+fn runs_so(alloc: Global, run: Run<'_>, status: u32, printed: &[u8]) -> Result<bool, AllocError> {
+    let words = words_of(alloc, run.line)?;
+    let mut library = library_of(alloc, run.text, run.fetch)?;
+    let mut out = sink_of(alloc, run.write)?;
+    let got = run_words(alloc, &words, &mut library, &mut out);
+    Ok(out.written() == printed && u32::from(got.0) == status)
+}
+
+fn status_of(report: &[u8]) -> u32 {
     if report.starts_with(b"REFUSED") {
         6
     } else if report.ends_with(b"failed 0\n") {
         0
     } else {
         1
-    }
-}
-
-/// A sink that takes one byte of each piece.
-#[derive(Drop)]
-struct SlowSink {
-    taken: Vec<u8>,
-}
-
-impl Sink for SlowSink {
-    ghost written = { λ s. Some s.taken.items };
-
-    ghost faults = { λ _. 0 };
-
-    ghost sound = { λ _. Unit {0} };
-
-    fn write(&mut self, piece: &[u8]) -> Result<usize, SinkFail> {
-        match piece.first() {
-            Some(byte) => match self.taken.push(*byte) {
-                Ok(()) => Ok(1),
-                Err(_) => Err(SinkFail::Memory),
-            },
-            None => Ok(0),
-        }
-    }
-}
-
-/// A library that keeps the paths that it was asked for, each with a blank behind it.
-#[derive(Drop)]
-struct AskedLibrary {
-    files: MemLibrary,
-    asked: String,
-}
-
-impl Library for AskedLibrary {
-    ghost told = { λ _. None };
-
-    ghost faults = { λ l. l.files.faults };
-
-    ghost sound = { λ _. ⊥ };
-
-    ghost fetches = { λ _ _ _. Unit {0} };
-
-    fn fetch(&mut self, path: &str, limit: usize, into: &mut Vec<u8>) -> Result<Fetched, Fetch> {
-        if self.asked.push_str(path).is_err() || self.asked.push_str(" ").is_err() {
-            return Err(Fetch::Memory);
-        }
-        self.files.fetch(path, limit, into)
     }
 }
 
@@ -428,26 +392,19 @@ fn script_of(alloc: Global, written: &str) -> Result<Vec<u8>, AllocError> {
     Ok(text)
 }
 
-fn report_of(alloc: Global, told: &str) -> Result<Vec<u8>, AllocError> {
+/// Whether a row's script has its report.
+fn row_reports_so(alloc: Global, told: &str, script: &str) -> Result<bool, AllocError> {
+    let text = script_of(alloc, script)?;
     let mut report = Vec::new(alloc);
     push_lines(&mut report, told, b';')?;
     report.push(b'\n')?;
-    Ok(report)
-}
-
-/// Whether a script has this report.
-fn reports_so(alloc: Global, text: &[u8], report: &[u8]) -> Result<bool, AllocError> {
-    let words = words_of(alloc, "promqltest a.test")?;
-    let mut library = library_of(alloc, text, 0)?;
-    let mut out = sink_of(alloc, 0)?;
-    let status = run_words(alloc, &words, &mut library, &mut out);
-    Ok(out.written() == report && status.0 == status_of(report))
-}
-
-fn row_reports_so(alloc: Global, told: &str, script: &str) -> Result<bool, AllocError> {
-    let text = script_of(alloc, script)?;
-    let report = report_of(alloc, told)?;
-    reports_so(alloc, &text, &report)
+    let run = Run {
+        line: "promqltest a.test",
+        text: &text,
+        fetch: 0,
+        write: 0,
+    };
+    runs_so(alloc, run, status_of(&report), &report)
 }
 
 /// Runs each row of a table, and answers how many there are.
@@ -462,86 +419,41 @@ fn run_rows(rt: &impl Abort, alloc: Global, table: &str) -> Result<u32, Fail> {
     Ok(rows)
 }
 
-#[test]
-fn reports(rt: HostRuntime) -> Result<(), Fail> {
-    passes_exactly_where_rows_agree();
-    loads_put_their_samples();
-    assert_eq!(rt; run_rows(&rt, rt.alloc(), REPORTS)?, 219);
-    assert_eq!(rt; read_item(b""), Err(WordRefusal::NoForm));
-    assert!(rt; read_series(rt.alloc(), b"")?.is_err());
-    Ok(())
-}
-
-#[test]
-fn takes_4194304_bytes(rt: HostRuntime) -> Result<(), Fail> {
-    assert_eq!(rt; run_rows(&rt, rt.alloc(), BYTES)?, 2);
-    Ok(())
-}
-
-#[test]
-fn takes_2000000_samples(rt: HostRuntime) -> Result<(), Fail> {
-    assert_eq!(rt; run_rows(&rt, rt.alloc(), SAMPLES)?, 3);
-    Ok(())
-}
-
-fn asked_library(alloc: Global, fails: u32) -> Result<AskedLibrary, AllocError> {
-    Ok(AskedLibrary {
-        files: library_of(alloc, FIRST.as_bytes(), fails)?,
-        asked: String::new(alloc),
-    })
-}
-
-/// What words come to, where the fetch and the write with these numbers fail: the status, the report with `;` for its line
-/// feeds, and the paths that were fetched, as a row has them.
-fn run_of(alloc: Global, line: &str, fetch: u32, write: u32) -> Result<String, AllocError> {
-    let words = words_of(alloc, line)?;
-    let mut library = asked_library(alloc, fetch)?;
-    let mut out = sink_of(alloc, write)?;
-    let status = run_words(alloc, &words, &mut library, &mut out).0;
-    let asked = library.asked.as_str();
-    told_so(alloc, status, out.written(), asked)
-}
-
-fn told_so(alloc: Global, status: u8, report: &[u8], asked: &str) -> Result<String, AllocError> {
-    let mut text = format!(in alloc; "{status}|")?;
-    for line in std::str::from_utf8(report).unwrap_or("").lines() {
-        text.push_str(line)?;
-        text.push(';')?;
-    }
-    text.push('|')?;
-    text.push_str(asked)?;
-    text.push('|')?;
-    Ok(text)
-}
-
 fn number_in(field: Option<&str>) -> u32 {
     field.unwrap_or("").parse::<u32>().unwrap_or(0)
 }
 
 /// Whether the words of a row come to what stands before them.
 fn row_runs_so(alloc: Global, row: &str) -> Result<bool, AllocError> {
-    let mut fields = row.rsplitn(4, '|');
+    let mut fields = row.rsplitn(5, '|');
     let write = number_in(fields.next());
     let fetch = number_in(fields.next());
     let line = fields.next().unwrap_or("");
-    let wanted = fields.next().unwrap_or("");
-    let got = run_of(alloc, line, fetch, write)?;
-    Ok(got.as_str().strip_suffix('|') == Some(wanted))
-}
-
-/// What a sink that takes one byte of each piece has taken.
-fn taken_slowly(alloc: Global) -> Result<Vec<u8>, AllocError> {
-    let words = words_of(alloc, "promqltest a.test")?;
-    let mut library = library_of(alloc, FIRST.as_bytes(), 0)?;
-    let mut slow = SlowSink {
-        taken: Vec::new(alloc),
+    let mut printed = Vec::new(alloc);
+    push_lines(&mut printed, fields.next().unwrap_or(""), b';')?;
+    let status = number_in(fields.next());
+    let run = Run {
+        line,
+        text: FIRST.as_bytes(),
+        fetch,
+        write,
     };
-    run_words(alloc, &words, &mut library, &mut slow);
-    Ok(slow.taken)
+    runs_so(alloc, run, status, &printed)
 }
 
 #[test]
-fn fetches_the_file_of_the_words(rt: HostRuntime) -> Result<(), Fail> {
+fn reports(rt: HostRuntime) -> Result<(), Fail> {
+    passes_exactly_where_rows_agree();
+    loads_put_their_samples();
+    assert_eq!(rt; run_rows(&rt, rt.alloc(), REPORTS)?, 219);
+    assert_eq!(rt; run_rows(&rt, rt.alloc(), LONG)?, 5);
+    assert_eq!(rt; read_item(b""), Err(WordRefusal::NoForm));
+    assert!(rt; read_series(rt.alloc(), b"")?.is_err());
+    Ok(())
+}
+
+#[test]
+fn words_are_run(rt: HostRuntime) -> Result<(), Fail> {
     let mut rows = 0u32;
     for row in RUNS.lines() {
         if !row.is_empty() {
@@ -550,9 +462,5 @@ fn fetches_the_file_of_the_words(rt: HostRuntime) -> Result<(), Fail> {
         }
     }
     assert_eq!(rt; rows, 14);
-    assert_eq!(rt;
-        taken_slowly(rt.alloc())?.as_slice(),
-        FIRST_REPORT.as_bytes()
-    );
     Ok(())
 }

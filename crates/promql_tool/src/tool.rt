@@ -1,11 +1,11 @@
 //! The whole program, over the words after its name.
 ghost use Rattle.edge_io.specs.Causes.{Rose};
 ghost use Rattle.edge_io.specs.Fetches.{FetchesFront};
-ghost use Rattle.edge_io.specs.Written.{appended, WroteFront};
+ghost use Rattle.edge_io.specs.Written.{appended};
 ghost use Rattle.promql_tool.specs.Grammar.{reading};
 ghost use Rattle.promql_tool.specs.Report.{HasReport, fault_text, files_of, names_file, path_of, usage, usage_report};
 ghost use Rattle.promql_tool.specs.Ends.{Ends, IsCut, IsOneOf, IsRefused, Reports, RunsPath, RunsWords};
-ghost use Rattle.std.specs.Prelude.{◌≡◌, ◌⊎◌, ℕ, List, [], ◌∷◌, None, Some, Err, Ok, Option, map, option_map, string_bytes, IfSome, IsErr, IsSomeAnd};
+ghost use Rattle.std.specs.Prelude.{◌≡◌, ◌⊎◌, [], ◌∷◌, None, Some, Err, Ok, Option, map, option_map, string_bytes, IfSome, IsErr, IsSomeAnd};
 
 use crate::fetch::read_file;
 use crate::print::{Status, print_read};

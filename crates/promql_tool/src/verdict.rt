@@ -33,7 +33,10 @@ pub enum Reason {
         got: XFrac,
     },
     /// The scalar isn't near the expected one, or has no value.
-    ScalarDiffers { wanted: XFrac, got: Option<XFrac> },
+    ScalarDiffers {
+        wanted: XFrac,
+        got: Option<XFrac>,
+    },
 }
 
 /// The line of an evaluation, counted from 1, and why its result isn't as expected; there is no reason where it passes.

@@ -1,4 +1,4 @@
-use Rattle.std.proofs.Common.{◌+◌, List, [], ◌++◌, ap, drop, subst, sym, ◌∙◌}
+use Rattle.std.proofs.Common.{◌+◌, List, [], ap, drop, subst, sym, ◌∙◌}
 use Rattle.std.proofs.lemmas.List.{append-nil, drop_all}
 use Rattle.promql_tool.specs.Loads.{left_by_all}
 use Rattle.promql_tool.specs.Runs.{AreTimely}
