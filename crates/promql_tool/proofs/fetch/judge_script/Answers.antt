@@ -7,4 +7,4 @@ returns-in-Ok-clause-judged g c = judged_bytes c.args.bytes.now c.args.script.no
 
 pub returns-in-Err-Refused-clause-judged : goal.returns-in-Err-Refused-clause-judged
 returns-in-Err-Refused-clause-judged g c =
-    never_refused c.args.bytes.now c.args.script.now c.in-Err-Refused.refusal _ c.requires c.in-Err-Refused.ensures.refused
+    never_refused c.args.bytes.now c.args.script.now c.in-Err-Refused.refusal _ c.requires (rw c.in-Err-Refused.field-0-is at c.in-Err-Refused.ensures.refused)
