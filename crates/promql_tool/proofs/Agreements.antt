@@ -8,11 +8,11 @@ use Rattle.xfrac.specs.declared.value.XFrac.{XFrac}
 use Rattle.xfrac.specs.Near.{is_near}
 use Rattle.promql_meaning.specs.declared.answer.Outcome.{Outcome}
 use Rattle.promql_meaning.specs.declared.answer.Outcome.TheVariants as outcome
-use Rattle.promql_tool.specs.declared.script.Expected.{Expected}
-use Rattle.promql_tool.specs.declared.script.Expected.TheVariants.{Rows, Scalar}
-use Rattle.promql_tool.specs.declared.script.Row.{Row}
+use Rattle.script_read.specs.declared.script.Expected.{Expected}
+use Rattle.script_read.specs.declared.script.Expected.TheVariants.{Rows, Scalar}
+use Rattle.promql_tool.specs.declared.verdict.Row.{Row}
 use Rattle.promql_tool.specs.declared.verdict.Reason.TheVariants.{NotScalar, NotVector, ScalarDiffers}
-use Rattle.promql_tool.specs.Verdicts.{value_under, is_lacking, is_apart, is_differing, lesser, least, differs, first_reason, rows_judged, scalar_judged, rows_in, scalar_in, judged, IsMet, Agrees, IsAsExpected}
+use Rattle.promql_tool.specs.Verdicts.{value_under, is_lacking, is_apart, is_differing, lesser, least, differs, first_reason, rows_judged, scalar_judged, rows_expected, rows_in, scalar_in, judged, IsMet, Agrees, IsAsExpected}
 
 module _ {X : Type 0} where
   -- nothing passes a test where the list of what passes is empty, and the other way round
@@ -144,9 +144,9 @@ near_scalar_if wanted (Some got) h = rw h refl
 
 pub as_expected : (expected : Expected) (got : Outcome) → judged expected got ≡ None → IsAsExpected expected got
 as_expected (Rows rows) (outcome.Answer answer) h =
-    elim answer.scalar as (λ b. (if b then Some NotVector else rows_judged rows (rows_in answer.series)) ≡ None → (b ≡ false) × Agrees rows (rows_in answer.series)) [
+    elim answer.scalar as (λ b. (if b then Some NotVector else rows_judged (rows_expected rows) (rows_in answer.series)) ≡ None → (b ≡ false) × Agrees (rows_expected rows) (rows_in answer.series)) [
       | true ↦ λ e. absurd (cc)
-      | false ↦ λ e. (refl, no_reason rows (rows_in answer.series) e)
+      | false ↦ λ e. (refl, no_reason (rows_expected rows) (rows_in answer.series) e)
     ] h
 as_expected (Scalar value) (outcome.Answer answer) h =
     elim answer.scalar as (λ b. (if b then scalar_judged value (scalar_in answer.series) else Some NotScalar) ≡ None → (b ≡ true) × IsSomeAnd (scalar_in answer.series) (λ v. IsTrue (is_near value v))) [
@@ -158,7 +158,7 @@ as_expected expected (outcome.Failed at mark) h = absurd (cc)
 as_expected expected (outcome.TooManyRows at) h = absurd (cc)
 
 pub as_expected_if : (expected : Expected) (got : Outcome) → IsAsExpected expected got → judged expected got ≡ None
-as_expected_if (Rows rows) (outcome.Answer answer) h = rw h.0 (no_reason_if rows (rows_in answer.series) h.1)
+as_expected_if (Rows rows) (outcome.Answer answer) h = rw h.0 (no_reason_if (rows_expected rows) (rows_in answer.series) h.1)
 as_expected_if (Scalar value) (outcome.Answer answer) h = rw h.0 (near_scalar_if value (scalar_in answer.series) h.1)
 as_expected_if (Rows rows) (outcome.Refused refusal) h = absurd h
 as_expected_if (Rows rows) (outcome.Failed at mark) h = absurd h

@@ -1,16 +1,28 @@
 -- What a fetch found.
-use Rattle.std.proofs.Common.{◌≡◌, ◌<◌, ℕ, ◌+◌, List, length, Result, Ok, Err, IfOk, IfSome, Option, None, Some, refl, arith, replicate}
+use Rattle.std.proofs.Common.{◌≡◌, ◌<◌, ℕ, ◌+◌, List, [], length, Result, Ok, Err, IfOk, IfSome, Option, None, Some, refl, arith, replicate}
 use Rattle.std.specs.Prelude.{IsSomeAnd}
-use Rattle.std.proofs.lemmas.Bool.{lt-ltb}
 use Rattle.std.proofs.lemmas.List.{length-replicate}
 use Rattle.edge_io.specs.Told.{Tells}
 use Rattle.edge_io.specs.declared.library.Fetched.TheVariants.{Whole, PastLimit}
-use Rattle.promql_tool.specs.Grammar.{limit}
-use Rattle.promql_tool.specs.Report.{IsReportFound}
-use Rattle.promql_tool.specs.Found.{IsFound, IsReading, IsJudged, report_seen}
+use Rattle.script_read.specs.Refusals.{limit}
+use Rattle.promql_tool.specs.Reading.{IsRead}
+use Rattle.promql_tool.specs.Verdicts.{AreVerdicts}
+use Rattle.promql_tool.specs.Found.{IsBytes, IsFound, IsReading, IsJudged}
 use Rattle.promql_tool.specs.declared.fetch.FileRead.{FileRead}
 use Rattle.promql_tool.specs.declared.fetch.FileRead.TheVariants.{Judged, Refused, Gone}
-use Rattle.promql_tool.specs.declared.script.ScriptRefusal.TheVariants.{TooLarge}
+use Rattle.promql_tool.specs.declared.fault.Refusal.{Refusal}
+use Rattle.promql_tool.specs.declared.fault.Refusal.TheVariants as refusal
+use Rattle.promql_tool.specs.declared.verdict.Verdict.{Verdict}
+use Rattle.script_read.specs.declared.script.Script.{Script}
+use Rattle.script_read.specs.declared.script.ScriptRefusal.TheVariants.{TooLarge}
+use Rattle.promql_tool.proofs.Files.{too_large}
+
+-- what bytes came to that were read
+pub judged_bytes : (bytes : List ℕ) (script : Script) (verdicts : List Verdict) → IsRead bytes (Ok script) → AreVerdicts [] script.commands verdicts → IsBytes bytes (Judged verdicts)
+judged_bytes bytes script verdicts is_read are = λ path. (Ok script, is_read, (verdicts, are, refl))
+
+pub refused_bytes : (bytes : List ℕ) (refused : Refusal) → IsRead bytes (Err refused) → IsBytes bytes (Refused refused)
+refused_bytes bytes refused is_read = λ path. (Err refused, is_read, refl)
 
 module _ (sound : Type 0) (path : List ℕ) where
   -- the bytes that were found are those that are told
@@ -30,17 +42,14 @@ module _ (sound : Type 0) (path : List ℕ) where
   past_limit : (most : ℕ) → most < length {A = ℕ} (replicate (most + 1) 0)
   past_limit most = omega (arith, length-replicate {A = ℕ} (most + 1) 0)
 
-  past_report : (bytes : List ℕ) → limit < length bytes → IsReportFound path (Some bytes) (report_seen path (Refused TooLarge))
-  past_report bytes lt = rw (lt-ltb limit (length bytes) lt) refl
-
-  past_seen : (told : Option (List ℕ → Option (List ℕ))) (bytes : List ℕ) → limit < length bytes → IsFound told sound path (Some bytes) → IsReading told sound path (Refused TooLarge)
-  past_seen told bytes long is_found = record { found = Some bytes; is_found = is_found; reported = past_report bytes long }
+  past_seen : (told : Option (List ℕ → Option (List ℕ))) (bytes : List ℕ) → limit < length bytes → IsFound told sound path (Some bytes) → IsReading told sound path (Refused (refusal.Script TooLarge))
+  past_seen told bytes long is_found = record { found = Some bytes; is_found = is_found; reported = refused_bytes bytes (refusal.Script TooLarge) (too_large bytes long) path }
 
   past_there : (found : Option (List ℕ)) → IsSomeAnd found (λ bytes. limit < length bytes) → (bytes : List ℕ) × (found ≡ Some bytes) × (limit < length bytes)
   past_there None h = absurd h
   past_there (Some bytes) h = (bytes, refl, h)
 
-  pub past_read : (told : Option (List ℕ → Option (List ℕ))) (into : List ℕ) → IfSome told (λ files. Tells (files path) limit (Ok PastLimit) into) → IsReading told sound path (Refused TooLarge)
+  pub past_read : (told : Option (List ℕ → Option (List ℕ))) (into : List ℕ) → IfSome told (λ files. Tells (files path) limit (Ok PastLimit) into) → IsReading told sound path (Refused (refusal.Script TooLarge))
   past_read None into h = past_seen None (replicate (limit + 1) 0) (past_limit limit) (record { if_some = tt; if_sound = λ _. tt })
   past_read (Some files) into h =
       let there = past_there (files path) h in

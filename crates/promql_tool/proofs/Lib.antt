@@ -1,10 +1,5 @@
-pub mod Lines
-pub mod Names
-pub mod Words
-pub mod Bodies
-pub mod Runs
+pub mod Files
 pub mod Loading
-pub mod Timely
 pub mod Judgements
 pub mod Standing
 pub mod Founds
@@ -13,5 +8,3 @@ pub mod Ending
 pub mod Refusals
 pub mod Reported
 pub mod Agreements
-pub mod Counts
-pub mod Quotes

@@ -11,11 +11,11 @@ use Rattle.xfrac.specs.declared.value.Held.TheVariants.{Value}
 use Rattle.xfrac.specs.declared.value.XFrac.{XFrac}
 use Rattle.promql_tool.specs.Loads.{Slot, Empty, Filled, Outside, slots_from, is_beyond, run_slots, sample_put, slot_put, slots_put}
 use Rattle.promql_tool.specs.Readings.{Leaves, PutsOn}
-use Rattle.promql_tool.specs.Series.{LabelList}
-use Rattle.promql_tool.specs.declared.fault.ReadFault.{ReadFault}
-use Rattle.promql_tool.specs.declared.fault.ReadFault.TheVariants.{Refused, Memory}
-use Rattle.promql_tool.specs.declared.script.ScriptRefusal.{ScriptRefusal}
-use Rattle.promql_tool.specs.declared.script.ScriptRefusal.TheVariants.{NumberRange}
+use Rattle.script_read.specs.Series.{LabelList}
+use Rattle.promql_tool.specs.declared.fault.LoadFault.{LoadFault}
+use Rattle.promql_tool.specs.declared.fault.LoadFault.TheVariants.{Refused, Memory}
+use Rattle.promql_tool.specs.declared.fault.LoadRefusal.{LoadRefusal}
+use Rattle.promql_tool.specs.declared.fault.LoadRefusal.TheVariants.{NumberRange}
 
 -- a value outside the limits ends a run
 slots_end : (later : XFrac → List Slot) (r : Result XFrac NumFault) → IsErr r → slots_from later r ≡ Outside ∷ []
@@ -23,10 +23,10 @@ slots_end later (Ok next) bad = search rules
 slots_end later (Err fault) bad = refl
 
 module _ (line : ℕ) (labels : LabelList) (interval : Ms) where
-  abbrev put : ℕ → List Slot → AllSeries → Result AllSeries ScriptRefusal
+  abbrev put : ℕ → List Slot → AllSeries → Result AllSeries LoadRefusal
   put place slots series = slots_put line labels interval place slots series
 
-  abbrev put_at : ℕ → Slot → AllSeries → Result AllSeries ScriptRefusal
+  abbrev put_at : ℕ → Slot → AllSeries → Result AllSeries LoadRefusal
   put_at place slot series = slot_put line labels (pos place *ℤ interval.0) slot series
 
   -- gaps are skipped
@@ -43,11 +43,11 @@ module _ (line : ℕ) (labels : LabelList) (interval : Ms) where
     pub one_put : (slot : Slot) (rest : List Slot) (now : AllSeries) → put_at place slot before ≡ Ok now → put place (slot ∷ rest) before ≡ put (place + 1) rest now
     one_put slot rest now h = rw h refl
 
-    pub one_refused : (slot : Slot) (rest : List Slot) (refusal : ScriptRefusal) → put_at place slot before ≡ Err refusal → put place (slot ∷ rest) before ≡ Err refusal
+    pub one_refused : (slot : Slot) (rest : List Slot) (refusal : LoadRefusal) → put_at place slot before ≡ Err refusal → put place (slot ∷ rest) before ≡ Err refusal
     one_refused slot rest refusal h = rw h refl
 
     module _ (value by : XFrac) (rest : List Slot) where
-      pub run_refused : (n : ℕ) (refusal : ScriptRefusal) → put_at place (Filled (Value value)) before ≡ Err refusal → put place (run_slots n value by ++ rest) before ≡ Err refusal
+      pub run_refused : (n : ℕ) (refusal : LoadRefusal) → put_at place (Filled (Value value)) before ≡ Err refusal → put place (run_slots n value by ++ rest) before ≡ Err refusal
       run_refused zero refusal h = one_refused (Filled (Value value)) rest refusal h
       run_refused (suc n) refusal h = rw h refl
 
@@ -62,9 +62,9 @@ module _ (line : ℕ) (labels : LabelList) (interval : Ms) where
         run_overflows n k e bad = rw (e, h) (ap (λ slots. put (place + 1) (slots ++ rest) now) (slots_end (λ next. run_slots k next by) (arithmetic Add value by) bad))
 
   -- slots that are refused where their first one is
-  pub stops : (X : Type 0) (start : ℕ) (slots : List Slot) (old now later : AllSeries) (said : Result AllSeries ScriptRefusal) (fault : ReadFault)
+  pub stops : (X : Type 0) (start : ℕ) (slots : List Slot) (old now later : AllSeries) (said : Result AllSeries LoadRefusal) (fault : LoadFault)
       → Leaves {X = X} (Err fault) now said
-      → ((refusal : ScriptRefusal) → said ≡ Err refusal → (rest : List Slot) → put start (slots ++ rest) old ≡ Err refusal)
+      → ((refusal : LoadRefusal) → said ≡ Err refusal → (rest : List Slot) → put start (slots ++ rest) old ≡ Err refusal)
       → PutsOn line labels interval start slots old (Err fault) later
   stops X start slots old now later said (Refused refusal) left ends = ends refusal left
   stops X start slots old now later said Memory left ends = tt

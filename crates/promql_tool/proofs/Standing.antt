@@ -16,11 +16,11 @@ use Rattle.sample_store.specs.Laws.{held_same, others_now, samples_now, time_cmp
 use Rattle.ticks.specs.declared.moment.Ms.{Ms}
 use Rattle.xfrac.specs.declared.value.Held.{Held}
 use Rattle.promql_tool.specs.Loads.{IsSaid, Slot, Empty, Filled, Outside, Stands, is_beyond, line_put, line_slots, slot_put, slots_put, unless_refused}
-use Rattle.promql_tool.specs.Outcomes.{then_try}
-use Rattle.promql_tool.specs.Series.{LabelList}
-use Rattle.promql_tool.specs.declared.script.ScriptRefusal.{ScriptRefusal}
-use Rattle.promql_tool.specs.declared.script.ScriptRefusal.TheVariants.{NumberRange}
-use Rattle.promql_tool.specs.declared.script.SeriesLine.{SeriesLine}
+use Rattle.script_read.specs.Outcomes.{then_try}
+use Rattle.script_read.specs.Series.{LabelList}
+use Rattle.promql_tool.specs.declared.fault.LoadRefusal.{LoadRefusal}
+use Rattle.promql_tool.specs.declared.fault.LoadRefusal.TheVariants.{NumberRange}
+use Rattle.script_read.specs.declared.script.SeriesLine.{SeriesLine}
 
 -- ---- entries by a key
 
@@ -162,7 +162,7 @@ module _ (line : ℕ) (labels : LabelList) (interval : Ms) where
           inr (record { labels_are = said.labels_are; place = i; filled = f; time = ap (λ n. pos n *ℤ interval.0) e ∙ is })
 
   -- a sample that is put isn't refused
-  filled_put : (t : ℤ) (held : Held) (before now : AllSeries) (rest : AllSeries → Result AllSeries ScriptRefusal)
+  filled_put : (t : ℤ) (held : Held) (before now : AllSeries) (rest : AllSeries → Result AllSeries LoadRefusal)
       → then_try (slot_put line labels t (Filled held) before) rest ≡ Ok now
       → (refusal_of before labels (record { 0 = t }) held ≡ None) × (rest (with_sample before labels (record { 0 = t }) held) ≡ Ok now)
   filled_put t held before now rest e = near (is_beyond t) e

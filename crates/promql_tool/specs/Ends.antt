@@ -4,8 +4,8 @@ use Rattle.std.specs.List.{list_any}
 use Rattle.edge_io.specs.Causes.{Rose}
 use Rattle.edge_io.specs.Written.{appended, WroteFront}
 use Rattle.promql_tool.specs.Report.{IsReportFound, Report, path_of, refusal_text, usage, usage_report}
-use Rattle.promql_tool.specs.Grammar.{reading}
-use Rattle.promql_tool.specs.declared.script.ScriptRefusal.{ScriptRefusal}
+use Rattle.promql_tool.specs.Reading.{IsRead}
+use Rattle.promql_tool.specs.declared.fault.Refusal.{Refusal}
 use Rattle.promql_tool.specs.Found.{IsFound}
 
 -- a status is among some
@@ -58,10 +58,10 @@ pub data IsCutPath (told : Option (List ℕ → Option (List ℕ))) (sound : Typ
 abbrev pub IsCut : List (List ℕ) → Option (List ℕ → Option (List ℕ)) → Type 0 → Option (List ℕ) → Option (List ℕ) → Type 0
 IsCut words told sound before now = MatchOption (path_of words) (WroteFront before now usage) (IsCutPath told sound before now)
 
--- the bytes of a file are no script, and its first refused line was printed
+-- the bytes of a file are refused, and the line of that refusal was printed
 pub record IsRefused (path : List ℕ) (found : Option (List ℕ)) (before now : Option (List ℕ)) : Type 0 where
   pub bytes : List ℕ
-  pub refusal : ScriptRefusal
+  pub refusal : Refusal
   pub fetched : found ≡ Some bytes
-  pub is : reading bytes ≡ Err refusal
+  pub is : IsRead bytes (Err refusal)
   pub printed : now ≡ appended before (refusal_text path refusal)

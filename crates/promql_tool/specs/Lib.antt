@@ -1,11 +1,5 @@
-pub mod Lines
-pub mod Outcomes
-pub mod Tokens
-pub mod Series
-pub mod Items
 pub mod Loads
-pub mod Grammar
-pub mod Views
+pub mod Reading
 pub mod Readings
 pub mod Verdicts
 pub mod Lookups

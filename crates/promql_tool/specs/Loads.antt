@@ -16,17 +16,17 @@ use Rattle.xfrac.specs.declared.value.NumFault.{NumFault}
 use Rattle.xfrac.specs.declared.value.Held.{Held}
 use Rattle.xfrac.specs.declared.value.Held.TheVariants.{Value, Stale as Marker}
 use Rattle.xfrac.specs.declared.value.XFrac.{XFrac}
-use Rattle.promql_tool.specs.Outcomes.{then_give, then_try}
-use Rattle.promql_tool.specs.Series.{LabelList}
-use Rattle.promql_tool.specs.declared.script.Command.{Command}
-use Rattle.promql_tool.specs.declared.script.Script.{Script}
-use Rattle.promql_tool.specs.declared.script.ScriptRefusal.{ScriptRefusal}
-use Rattle.promql_tool.specs.declared.script.ScriptRefusal.TheVariants.{NumberRange, Conflict, TooManySamples, TooManySeries}
-use Rattle.promql_tool.specs.declared.script.SeriesItem.{SeriesItem}
-use Rattle.promql_tool.specs.declared.script.SeriesItem.TheVariants.{Gap, Stale, Run}
-use Rattle.promql_tool.specs.declared.script.SeriesLine.{SeriesLine}
-use Rattle.promql_tool.specs.declared.script.What.{What}
-use Rattle.promql_tool.specs.declared.script.What.TheVariants.{Clear, Load, Eval}
+use Rattle.script_read.specs.Outcomes.{then_give, then_try}
+use Rattle.script_read.specs.Series.{LabelList}
+use Rattle.script_read.specs.declared.script.Command.{Command}
+use Rattle.script_read.specs.declared.script.Script.{Script}
+use Rattle.promql_tool.specs.declared.fault.LoadRefusal.{LoadRefusal}
+use Rattle.promql_tool.specs.declared.fault.LoadRefusal.TheVariants.{NumberRange, Conflict, TooManySamples, TooManySeries}
+use Rattle.script_read.specs.declared.script.SeriesItem.{SeriesItem}
+use Rattle.script_read.specs.declared.script.SeriesItem.TheVariants.{Gap, Stale, Run}
+use Rattle.script_read.specs.declared.script.SeriesLine.{SeriesLine}
+use Rattle.script_read.specs.declared.script.What.{What}
+use Rattle.script_read.specs.declared.script.What.TheVariants.{Clear, Load, Eval}
 
 -- what stands at a place of a series: nothing, a sample, or a value outside the limits
 pub data Slot : Type 0 where
@@ -58,35 +58,35 @@ abbrev pub is_beyond : ℤ → Bool
 is_beyond at = nat_lt (10 ^ 14) (unsigned_abs at)
 
 -- why a line is refused, where the store refuses a sample
-abbrev pub refused_for : ℕ → StoreRefusal → ScriptRefusal
+abbrev pub refused_for : ℕ → StoreRefusal → LoadRefusal
 refused_for line (Differing kept given) = Conflict line
 refused_for line SeriesFull = TooManySeries line
 refused_for line _ = TooManySamples line
 
-abbrev pub unless_refused : ℕ → Option StoreRefusal → AllSeries → Result AllSeries ScriptRefusal
+abbrev pub unless_refused : ℕ → Option StoreRefusal → AllSeries → Result AllSeries LoadRefusal
 unless_refused line None series = Ok series
 unless_refused line (Some refusal) series = Err (refused_for line refusal)
 
 -- the store with the sample of a slot
-abbrev pub sample_put : ℕ → LabelList → Ms → Held → AllSeries → Result AllSeries ScriptRefusal
+abbrev pub sample_put : ℕ → LabelList → Ms → Held → AllSeries → Result AllSeries LoadRefusal
 sample_put line labels at held series = unless_refused line (refusal_of series labels at held) (with_sample series labels at held)
 
-abbrev pub slot_put : ℕ → LabelList → ℤ → Slot → AllSeries → Result AllSeries ScriptRefusal
+abbrev pub slot_put : ℕ → LabelList → ℤ → Slot → AllSeries → Result AllSeries LoadRefusal
 slot_put line labels at Empty series = Ok series
 slot_put line labels at (Filled held) series = if is_beyond at then Err (NumberRange line) else sample_put line labels (record { 0 = at }) held series
 slot_put line labels at Outside series = Err (NumberRange line)
 
 -- the store with the samples of slots from a place on: place i stands at i times the interval
-abbrev pub slots_put : ℕ → LabelList → Ms → ℕ → List Slot → AllSeries → Result AllSeries ScriptRefusal
+abbrev pub slots_put : ℕ → LabelList → Ms → ℕ → List Slot → AllSeries → Result AllSeries LoadRefusal
 slots_put line labels interval place [] series = Ok series
 slots_put line labels interval place (slot ∷ slots) series =
     then_try (slot_put line labels (pos place *ℤ interval.0) slot series) (slots_put line labels interval (place + 1) slots)
 
 -- the store with the samples of the lines of a load
-abbrev pub line_put : Ms → SeriesLine → AllSeries → Result AllSeries ScriptRefusal
+abbrev pub line_put : Ms → SeriesLine → AllSeries → Result AllSeries LoadRefusal
 line_put interval line series = slots_put line.line line.labels interval 0 (line_slots line.items) series
 
-abbrev pub lines_put : Ms → List SeriesLine → AllSeries → Result AllSeries ScriptRefusal
+abbrev pub lines_put : Ms → List SeriesLine → AllSeries → Result AllSeries LoadRefusal
 lines_put interval [] series = Ok series
 lines_put interval (line ∷ lines) series = then_try (line_put interval line series) (lines_put interval lines)
 
@@ -102,15 +102,15 @@ pub record IsSaid (interval : Ms) (line : SeriesLine) (labels : LabelList) (at :
   pub time : at.0 ≡ pos place *ℤ interval.0
 
 -- what a command leaves in the store
-abbrev pub left_by : What → AllSeries → Result AllSeries ScriptRefusal
+abbrev pub left_by : What → AllSeries → Result AllSeries LoadRefusal
 left_by Clear series = Ok []
 left_by (Load interval lines) series = lines_put interval lines series
-left_by (Eval at text expected) series = Ok series
+left_by (Eval grid instant text expected) series = Ok series
 
-abbrev pub left_by_all : List Command → AllSeries → Result AllSeries ScriptRefusal
+abbrev pub left_by_all : List Command → AllSeries → Result AllSeries LoadRefusal
 left_by_all [] series = Ok series
 left_by_all (command ∷ commands) series = then_try (left_by command.what series) (left_by_all commands)
 
 -- a script whose loads aren't refused, the store being empty as it begins
-abbrev pub loads_judged : Script → Result Script ScriptRefusal
+abbrev pub loads_judged : Script → Result Script LoadRefusal
 loads_judged script = then_give (left_by_all script.commands []) (λ _. script)

@@ -3,14 +3,18 @@ use Rattle.std.specs.Prelude.{◌≡◌, ℕ, Bool, true, if◌then◌else◌, �
 use Rattle.std.specs.List.{flat_map}
 use Rattle.frac_text.specs.Spellings.{spelling}
 use Rattle.label_set.specs.LabelText.{labels_text}
-use Rattle.promql_tool.specs.Lines.{is_empty}
-use Rattle.promql_tool.specs.Grammar.{reading}
+use Rattle.script_read.specs.Lines.{is_empty}
+use Rattle.promql_tool.specs.Reading.{IsRead}
 use Rattle.promql_tool.specs.OutcomeTexts.{outcome_text}
 use Rattle.promql_tool.specs.Verdicts.{AreVerdicts}
 use Rattle.xfrac.specs.declared.value.XFrac.{XFrac}
-use Rattle.promql_tool.specs.declared.script.Script.{Script}
-use Rattle.promql_tool.specs.declared.script.ScriptRefusal.{ScriptRefusal}
-use Rattle.promql_tool.specs.declared.script.ScriptRefusal.TheVariants.{Malformed, TooLarge, NotUtf8, NumberRange, BadLabels, Conflict, TooManySamples, TooManySeries}
+use Rattle.script_read.specs.declared.script.Script.{Script}
+use Rattle.script_read.specs.declared.script.ScriptRefusal.{ScriptRefusal}
+use Rattle.script_read.specs.declared.script.ScriptRefusal.TheVariants.{Malformed, NativeHistogram, NotUtf8, TooLarge, NumberRange, BadPattern, BadLabels}
+use Rattle.promql_tool.specs.declared.fault.LoadRefusal.{LoadRefusal}
+use Rattle.promql_tool.specs.declared.fault.LoadRefusal.TheVariants as load
+use Rattle.promql_tool.specs.declared.fault.Refusal.{Refusal}
+use Rattle.promql_tool.specs.declared.fault.Refusal.TheVariants as refusal
 use Rattle.promql_tool.specs.declared.verdict.Reason.{Reason}
 use Rattle.promql_tool.specs.declared.verdict.Reason.TheVariants.{Unexpected, NotScalar, NotVector, Missing, Extra, Differs, ScalarDiffers}
 use Rattle.promql_tool.specs.declared.verdict.Verdict.{Verdict}
@@ -79,29 +83,47 @@ failed_in verdicts = count_by (λ verdict. not (has_passed verdict)) verdicts
 abbrev pub totals_text : ℕ → ℕ → List ℕ
 totals_text passed failed = codes "passed " ++ (decimal passed ++ (codes " failed " ++ (decimal failed ++ codes "\n")))
 
--- the line of a refused script, and the name of its refusal
-abbrev pub refused_line : ScriptRefusal → ℕ
-refused_line TooLarge = 0
-refused_line (Malformed line) = line
-refused_line (NotUtf8 line) = line
-refused_line (NumberRange line) = line
-refused_line (BadLabels line) = line
-refused_line (Conflict line) = line
-refused_line (TooManySamples line) = line
-refused_line (TooManySeries line) = line
+-- the line of a refusal, 0 where it is the whole file, and its name
+abbrev pub script_line : ScriptRefusal → ℕ
+script_line TooLarge = 0
+script_line (Malformed line) = line
+script_line (NativeHistogram line) = line
+script_line (NotUtf8 line) = line
+script_line (NumberRange line) = line
+script_line (BadPattern line) = line
+script_line (BadLabels line) = line
 
-abbrev pub refusal_name : ScriptRefusal → List ℕ
-refusal_name TooLarge = codes "TooLarge"
-refusal_name (Malformed line) = codes "Malformed"
-refusal_name (NotUtf8 line) = codes "NotUtf8"
-refusal_name (NumberRange line) = codes "NumberRange"
-refusal_name (BadLabels line) = codes "BadLabels"
-refusal_name (Conflict line) = codes "Conflict"
-refusal_name (TooManySamples line) = codes "TooManySamples"
-refusal_name (TooManySeries line) = codes "TooManySeries"
+abbrev pub load_line : LoadRefusal → ℕ
+load_line (load.NumberRange line) = line
+load_line (load.Conflict line) = line
+load_line (load.TooManySamples line) = line
+load_line (load.TooManySeries line) = line
 
-abbrev pub refusal_text : List ℕ → ScriptRefusal → List ℕ
-refusal_text path refusal = placed (codes "REFUSED") path (refused_line refusal) (codes " " ++ (refusal_name refusal ++ codes "\n"))
+abbrev pub refused_line : Refusal → ℕ
+refused_line (refusal.Script refused) = script_line refused
+refused_line (refusal.Load refused) = load_line refused
+
+abbrev pub script_name : ScriptRefusal → List ℕ
+script_name TooLarge = codes "TooLarge"
+script_name (Malformed line) = codes "Malformed"
+script_name (NativeHistogram line) = codes "NativeHistogram"
+script_name (NotUtf8 line) = codes "NotUtf8"
+script_name (NumberRange line) = codes "NumberRange"
+script_name (BadPattern line) = codes "BadPattern"
+script_name (BadLabels line) = codes "BadLabels"
+
+abbrev pub load_name : LoadRefusal → List ℕ
+load_name (load.NumberRange line) = codes "NumberRange"
+load_name (load.Conflict line) = codes "Conflict"
+load_name (load.TooManySamples line) = codes "TooManySamples"
+load_name (load.TooManySeries line) = codes "TooManySeries"
+
+abbrev pub refusal_name : Refusal → List ℕ
+refusal_name (refusal.Script refused) = script_name refused
+refusal_name (refusal.Load refused) = load_name refused
+
+abbrev pub refusal_text : List ℕ → Refusal → List ℕ
+refusal_text path refused = placed (codes "REFUSED") path (refused_line refused) (codes " " ++ (refusal_name refused ++ codes "\n"))
 
 abbrev pub fault_text : List ℕ → List ℕ
 fault_text path = codes "FAULT read " ++ (path ++ codes "\n")
@@ -118,8 +140,8 @@ report_judged path verdicts = record {
   status = if failed_in verdicts == 0 then 0 else 1;
 }
 
-abbrev pub refusal_report : List ℕ → ScriptRefusal → Report
-refusal_report path refusal = record { text = refusal_text path refusal; status = 6 }
+abbrev pub refusal_report : List ℕ → Refusal → Report
+refusal_report path refused = record { text = refusal_text path refused; status = 6 }
 
 abbrev pub fault_report : List ℕ → Report
 fault_report path = record { text = fault_text path; status = 3 }
@@ -127,16 +149,16 @@ fault_report path = record { text = fault_text path; status = 3 }
 abbrev pub usage_report : Report
 usage_report = record { text = usage; status = 2 }
 
--- A report of a file by what it was read as: of a script's verdicts, or of its refusal. The outcome of a query is a relation,
--- since what the crate `regex` takes as a pattern is one; and so are verdicts and reports.
-abbrev pub IsReportRead : List ℕ → Result Script ScriptRefusal → Report → Type 0
+-- A report of a file by what it was read as: of a script's verdicts, or of its refusal. What is read and the outcome of a
+-- query are relations, since what the crate `regex` takes as a pattern is one; and so are verdicts and reports.
+abbrev pub IsReportRead : List ℕ → Result Script Refusal → Report → Type 0
 IsReportRead path (Ok script) report = (verdicts : List Verdict) × AreVerdicts [] script.commands verdicts × (report ≡ report_judged path verdicts)
-IsReportRead path (Err refusal) report = report ≡ refusal_report path refusal
+IsReportRead path (Err refused) report = report ≡ refusal_report path refused
 
 -- a report of a file by what was fetched: its bytes, or none
 abbrev pub IsReportFound : List ℕ → Option (List ℕ) → Report → Type 0
 IsReportFound path None report = report ≡ fault_report path
-IsReportFound path (Some bytes) report = IsReportRead path (reading bytes) report
+IsReportFound path (Some bytes) report = (said : Result Script Refusal) × IsRead bytes said × IsReportRead path said report
 
 -- a report of words, by what the files have; words that are no command get the usage line
 abbrev pub IsReportAsked : Option (List ℕ) → (List ℕ → Option (List ℕ)) → Report → Type 0

@@ -14,15 +14,17 @@ use Rattle.promql_meaning.specs.declared.answer.Point.{Point}
 use Rattle.promql_meaning.specs.declared.answer.ResultSeries.{ResultSeries}
 use Rattle.query_engine.specs.Evaluating.{ComesTo}
 use Rattle.ticks.specs.declared.grid.Grid.{Grid}
-use Rattle.ticks.specs.declared.moment.Ms.{Ms}
 use Rattle.promql_tool.specs.Loads.{left_by}
-use Rattle.promql_tool.specs.Series.{LabelList}
-use Rattle.promql_tool.specs.declared.script.Command.{Command}
-use Rattle.promql_tool.specs.declared.script.Expected.{Expected}
-use Rattle.promql_tool.specs.declared.script.Expected.TheVariants.{Rows, Scalar}
-use Rattle.promql_tool.specs.declared.script.What.{What}
-use Rattle.promql_tool.specs.declared.script.What.TheVariants.{Eval}
-use Rattle.promql_tool.specs.declared.script.Row.{Row}
+use Rattle.script_read.specs.Series.{LabelList}
+use Rattle.script_read.specs.declared.script.Command.{Command}
+use Rattle.script_read.specs.declared.script.Expectations.{Expectations}
+use Rattle.script_read.specs.declared.script.Expected.{Expected}
+use Rattle.script_read.specs.declared.script.Expected.TheVariants.{Rows, Scalar}
+use Rattle.script_read.specs.declared.script.Point.{Point as ExpectedPoint}
+use Rattle.script_read.specs.declared.script.ResultSeries.{ResultSeries as ExpectedSeries}
+use Rattle.script_read.specs.declared.script.What.{What}
+use Rattle.script_read.specs.declared.script.What.TheVariants.{Eval}
+use Rattle.promql_tool.specs.declared.verdict.Row.{Row}
 use Rattle.promql_tool.specs.declared.verdict.Reason.{Reason}
 use Rattle.promql_tool.specs.declared.verdict.Reason.TheVariants.{Unexpected, NotScalar, NotVector, Missing, Extra, Differs, ScalarDiffers}
 use Rattle.promql_tool.specs.declared.verdict.Verdict.{Verdict}
@@ -87,12 +89,20 @@ abbrev pub first_value : List Point → Option XFrac
 first_value [] = None
 first_value (point ∷ points) = Some point.value
 
--- The series of an instant as rows: each has one point.
-abbrev pub row_of_series : ResultSeries → Option Row
-row_of_series series = option_map (λ value. record { labels = series.labels; value = value }) (first_value series.points)
+abbrev pub expected_value : List ExpectedPoint → Option XFrac
+expected_value [] = None
+expected_value (point ∷ points) = Some point.value
 
+-- labels and their value, if they have one
+abbrev pub row_of : LabelList → Option XFrac → Option Row
+row_of labels value = option_map (λ v. record { labels = labels; value = v }) value
+
+-- The series of an instant as rows, those of an answer and those that are expected: each has one point.
 abbrev pub rows_in : List ResultSeries → List Row
-rows_in all = flat_map (λ series. option_to_list (row_of_series series)) all
+rows_in all = flat_map (λ (series : ResultSeries). option_to_list (row_of series.labels (first_value series.points))) all
+
+abbrev pub rows_expected : List ExpectedSeries → List Row
+rows_expected all = flat_map (λ (series : ExpectedSeries). option_to_list (row_of series.labels (expected_value series.points))) all
 
 -- a scalar's value at an instant: the first point of its one series
 abbrev pub scalar_in : List ResultSeries → Option XFrac
@@ -106,7 +116,7 @@ scalar_judged wanted (Some got) = if is_near wanted got then None else Some (Sca
 
 -- why an answer isn't as expected: it is of another kind, or has another value
 abbrev pub answer_judged : Expected → Answer → Option Reason
-answer_judged (Rows rows) answer = if answer.scalar then Some NotVector else rows_judged rows (rows_in answer.series)
+answer_judged (Rows rows) answer = if answer.scalar then Some NotVector else rows_judged (rows_expected rows) (rows_in answer.series)
 answer_judged (Scalar value) answer = if answer.scalar then scalar_judged value (scalar_in answer.series) else Some NotScalar
 
 -- The first reason why an outcome isn't as expected: it is no answer, or its answer isn't as expected.
@@ -116,24 +126,21 @@ judged expected other = Some (Unexpected other)
 
 -- an outcome is as expected
 abbrev pub IsAsExpected : Expected → Outcome → Type 0
-IsAsExpected (Rows rows) (outcome.Answer answer) = (answer.scalar ≡ false) × Agrees rows (rows_in answer.series)
+IsAsExpected (Rows rows) (outcome.Answer answer) = (answer.scalar ≡ false) × Agrees (rows_expected rows) (rows_in answer.series)
 IsAsExpected (Scalar value) (outcome.Answer answer) = (answer.scalar ≡ true) × IsSomeAnd (scalar_in answer.series) (λ got. IsTrue (is_near value got))
 IsAsExpected expected other = ⊥
 
 -- ---- evaluations
 
--- An evaluation's reason at a time: its text comes to an outcome at that instant over the series that stand then, and the
+-- An evaluation's reason: its text comes to an outcome at the instants of a grid over the series that stand then, and the
 -- reason is the first one against that outcome.
-pub record IsReason (series : AllSeries) (text : List ℕ) (at : Ms) (expected : Expected) (reason : Option Reason) : Type 0 where
-  pub grid : Grid
-  pub starts : grid.start ≡ at
-  pub ends : grid.end ≡ at
+pub record IsReason (series : AllSeries) (text : List ℕ) (grid : Grid) (instant : Bool) (expected : Expected) (reason : Option Reason) : Type 0 where
   pub got : Outcome
-  pub comes : ComesTo text series grid true got
+  pub comes : ComesTo text series grid instant got
   pub is : reason ≡ judged expected got
 
 abbrev pub IsNoEvaluation : What → Type 0
-IsNoEvaluation (Eval at text expected) = ⊥
+IsNoEvaluation (Eval grid instant text expected) = ⊥
 IsNoEvaluation _ = Unit {0}
 
 -- The verdicts of commands, in order, behind commands that left these series: each evaluation has one.
@@ -141,5 +148,5 @@ pub data AreVerdicts : AllSeries → List Command → List Verdict → Type 0 wh
   ended : (series : AllSeries) → AreVerdicts series [] []
   changed : (series now : AllSeries) (command : Command) (commands : List Command) (verdicts : List Verdict) → IsNoEvaluation command.what → left_by command.what series ≡ Ok now
       → AreVerdicts now commands verdicts → AreVerdicts series (command ∷ commands) verdicts
-  evaluated : (series : AllSeries) (command : Command) (at : Ms) (text : List ℕ) (expected : Expected) (reason : Option Reason) (commands : List Command) (verdicts : List Verdict) → command.what ≡ Eval at text expected
-      → IsReason series text at expected reason → AreVerdicts series commands verdicts → AreVerdicts series (command ∷ commands) (record { line = command.line; reason = reason } ∷ verdicts)
+  evaluated : (series : AllSeries) (command : Command) (grid : Grid) (instant : Bool) (text : List ℕ) (expected : Expectations) (reason : Option Reason) (commands : List Command) (verdicts : List Verdict) → command.what ≡ Eval grid instant text expected
+      → IsReason series text grid instant expected.result reason → AreVerdicts series commands verdicts → AreVerdicts series (command ∷ commands) (record { line = command.line; reason = reason } ∷ verdicts)

@@ -1,28 +1,31 @@
 //! Fetching a file and judging it.
 ghost use Rattle.edge_io.specs.Causes.{Rose};
 ghost use Rattle.promql_tool.specs.Found.{IsJudged, IsReading, IsUnjudged};
-ghost use Rattle.promql_tool.specs.Grammar.{reading};
+ghost use Rattle.promql_tool.specs.Reading.{IsRead};
 ghost use Rattle.promql_tool.specs.declared.fetch.FileRead.TheVariants.{Gone};
-ghost use Rattle.std.specs.Prelude.{◌≡◌, ◌≤◌, Ok, IfOk};
+ghost use Rattle.std.specs.Prelude.{◌≡◌, Ok, IfOk};
 
-use crate::fault::ReadFault;
-use crate::read::{LIMIT, read};
+use crate::fault::{FileFault, LoadFault, Refusal};
+use crate::read::read;
 use crate::run::verdicts_in;
-use crate::script::{Script, ScriptRefusal};
 use crate::verdict::Verdict;
 use edge_io::{Fetch, Fetched, Library};
 use holders::Items;
+use script_read::{Script, ScriptRefusal};
 use std::alloc::{AllocError, Global};
 use std::sync::ledger::Ledger;
 use ticks::Work;
+
+/// The most bytes of a file.
+const LIMIT: usize = 4_194_304;
 
 /// What a file came to.
 #[derive(Drop)]
 pub enum FileRead {
     /// It is a script, and these are its verdicts.
     Judged(Items<Verdict>),
-    /// It is no script, or its loads are refused.
-    Refused(ScriptRefusal),
+    /// It is no script, or isn't run.
+    Refused(Refusal),
     /// It couldn't be fetched.
     Gone,
 }
@@ -34,14 +37,14 @@ fn judge_script<W: Ledger>(
     script: &Script,
     work: &mut Work<W>,
 ) -> Result<FileRead, AllocError>
-    requires { reading bytes.now ≡ Ok script.now }
+    requires { IsRead bytes.now (Ok script.now) }
     ensures judged { IfOk result (IsJudged bytes.now) }
     ensures idle { IfOk result (λ read. IsUnjudged read → work.new ≡ work.old) }
 {
     match verdicts_in(alloc, script, work) {
         Ok(verdicts) => Ok(FileRead::Judged(verdicts)),
-        Err(ReadFault::Refused(refusal)) => Ok(FileRead::Refused(refusal)),
-        Err(ReadFault::Memory) => Err(AllocError),
+        Err(LoadFault::Refused(refusal)) => Ok(FileRead::Refused(Refusal::Load(refusal))),
+        Err(LoadFault::Memory) => Err(AllocError),
     }
 }
 
@@ -56,8 +59,8 @@ fn judge_bytes<W: Ledger>(
 {
     match read(alloc, bytes) {
         Ok(script) => judge_script(alloc, bytes, &script, work),
-        Err(ReadFault::Refused(refusal)) => Ok(FileRead::Refused(refusal)),
-        Err(ReadFault::Memory) => Err(AllocError),
+        Err(FileFault::Refused(refusal)) => Ok(FileRead::Refused(refusal)),
+        Err(FileFault::Memory) => Err(AllocError),
     }
 }
 
@@ -78,7 +81,7 @@ pub fn read_file<L: Library, W: Ledger>(
     let mut bytes = Vec::new(alloc);
     match library.fetch(path, LIMIT, &mut bytes) {
         Ok(Fetched::Whole) => judge_bytes(alloc, &bytes, work),
-        Ok(Fetched::PastLimit) => Ok(FileRead::Refused(ScriptRefusal::TooLarge)),
+        Ok(Fetched::PastLimit) => Ok(FileRead::Refused(Refusal::Script(ScriptRefusal::TooLarge))),
         Err(Fetch::Failed) => Ok(FileRead::Gone),
         Err(Fetch::Memory) => Err(AllocError),
     }

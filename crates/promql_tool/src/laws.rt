@@ -1,11 +1,11 @@
 //! Laws of the verdict that users rely on. The functions do nothing: each stands for what its contract says.
 ghost use Rattle.promql_tool.specs.Verdicts.{Agrees, IsAsExpected, judged, rows_judged};
 ghost use Rattle.promql_meaning.specs.declared.answer.Outcome.{Outcome};
-ghost use Rattle.promql_tool.specs.declared.script.Expected.{Expected};
-ghost use Rattle.promql_tool.specs.declared.script.Row.{Row};
+ghost use Rattle.script_read.specs.declared.script.Expected.{Expected};
+ghost use Rattle.promql_tool.specs.declared.verdict.Row.{Row};
 ghost use Rattle.promql_tool.specs.Loads.{IsSaid, Stands, line_put};
-ghost use Rattle.promql_tool.specs.Series.{LabelList};
-ghost use Rattle.promql_tool.specs.declared.script.SeriesLine.{SeriesLine};
+ghost use Rattle.script_read.specs.Series.{LabelList};
+ghost use Rattle.script_read.specs.declared.script.SeriesLine.{SeriesLine};
 ghost use Rattle.sample_store.specs.Samples.{AllSeries};
 ghost use Rattle.std.specs.Prelude.{◌≡◌, ◌↔◌, ◌⊎◌, List, None, Ok};
 ghost use Rattle.ticks.specs.declared.moment.Ms.{Ms};

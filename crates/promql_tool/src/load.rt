@@ -5,10 +5,10 @@ ghost use Rattle.sample_store.specs.Samples.{refusal_of, with_sample};
 ghost use Rattle.std.specs.Prelude.{◌≡◌, ◌≤◌, ◌<◌, ◌+◌, ◌^◌, pos, ◌*ℤ◌, Ok, Err, false, true, IfOk, IsErr, IsOkUnless, MatchOption, MatchResult, OnErr, OnOk};
 ghost use Rattle.xfrac.specs.Arithmetic.{arithmetic};
 
-use crate::fault::ReadFault;
-use crate::script::{Command, Script, ScriptRefusal, SeriesItem, SeriesLine, What};
+use crate::fault::{LoadFault, LoadRefusal};
 use label_set::Labels;
 use sample_store::{Store, StoreRefusal};
+use script_read::{Command, Script, SeriesItem, SeriesLine, What};
 use std::alloc::Global;
 use ticks::Ms;
 use xfrac::{ArithOp, Held, XFrac, arith};
@@ -39,14 +39,14 @@ fn time_of(place: u128, interval: Ms) -> Option<Ms>
 }
 
 /// What comes of a line's sample that the store refuses.
-fn fault_for(line: u32, refusal: StoreRefusal) -> ReadFault
+fn fault_for(line: u32, refusal: StoreRefusal) -> LoadFault
     ensures { result ≡ fault_for line refusal }
 {
     match refusal {
-        StoreRefusal::Conflict { .. } => ReadFault::Refused(ScriptRefusal::Conflict(line)),
-        StoreRefusal::TooManySeries => ReadFault::Refused(ScriptRefusal::TooManySeries(line)),
-        StoreRefusal::TooManySamples => ReadFault::Refused(ScriptRefusal::TooManySamples(line)),
-        StoreRefusal::Memory => ReadFault::Memory,
+        StoreRefusal::Conflict { .. } => LoadFault::Refused(LoadRefusal::Conflict(line)),
+        StoreRefusal::TooManySeries => LoadFault::Refused(LoadRefusal::TooManySeries(line)),
+        StoreRefusal::TooManySamples => LoadFault::Refused(LoadRefusal::TooManySamples(line)),
+        StoreRefusal::Memory => LoadFault::Memory,
     }
 }
 
@@ -94,7 +94,7 @@ fn append(
     series: &mut Option<u32>,
     at: Ms,
     held: &Held,
-) -> Result<(), ReadFault>
+) -> Result<(), LoadFault>
     requires { IsKnown store.old target.labels.now series.old }
     ensures put { Leaves result store.new (sample_put target.entry.line target.entry.labels.now at held.now store.old) }
     ensures known { IsKnown store.new target.entry.labels.now series.new }
@@ -105,10 +105,10 @@ fn append(
     }
 }
 
-fn out_of_range<T>(line: u32) -> Result<T, ReadFault>
-    ensures { result ≡ Err (ReadFault.Refused (ScriptRefusal.NumberRange line)) }
+fn out_of_range<T>(line: u32) -> Result<T, LoadFault>
+    ensures { result ≡ Err (LoadFault.Refused (LoadRefusal.NumberRange line)) }
 {
-    Err(ReadFault::Refused(ScriptRefusal::NumberRange(line)))
+    Err(LoadFault::Refused(LoadRefusal::NumberRange(line)))
 }
 
 /// Puts the sample of a place.
@@ -118,7 +118,7 @@ fn put_sample(
     series: &mut Option<u32>,
     place: u128,
     held: &Held,
-) -> Result<(), ReadFault>
+) -> Result<(), LoadFault>
     requires { IsKnown store.old target.labels.now series.old }
     ensures put { Leaves result store.new (slot_put target.entry.line target.entry.labels.now (pos place *ℤ target.entry.interval.0) (Filled held.now) store.old) }
     ensures known { IsKnown store.new target.entry.labels.now series.new }
@@ -130,9 +130,9 @@ fn put_sample(
 }
 
 /// The value behind one of a run.
-fn next_value(line: u32, value: &XFrac, by: &XFrac) -> Result<XFrac, ReadFault>
+fn next_value(line: u32, value: &XFrac, by: &XFrac) -> Result<XFrac, LoadFault>
     ensures { MatchResult result (λ next. arithmetic ArithOp.Add value.now by.now ≡ Ok next)
-        (λ fault. IsErr (arithmetic ArithOp.Add value.now by.now) × (fault ≡ ReadFault.Refused (ScriptRefusal.NumberRange line))) }
+        (λ fault. IsErr (arithmetic ArithOp.Add value.now by.now) × (fault ≡ LoadFault.Refused (LoadRefusal.NumberRange line))) }
 {
     match arith(ArithOp::Add, value, by) {
         Ok(next) => Ok(next),
@@ -149,7 +149,7 @@ fn put_run(
     first: &XFrac,
     by: &XFrac,
     more: u32,
-) -> Result<u128, ReadFault>
+) -> Result<u128, LoadFault>
     requires near { start < 2 ^ 100 }
     requires known { IsKnown store.old target.labels.now series.old }
     ensures put { PutsOn target.entry.line target.entry.labels.now target.entry.interval start (run_slots more first.now by.now) store.old result store.new }
@@ -174,7 +174,7 @@ fn put_item(
     series: &mut Option<u32>,
     place: u128,
     item: &SeriesItem,
-) -> Result<u128, ReadFault>
+) -> Result<u128, LoadFault>
     requires near { place < 2 ^ 100 }
     requires known { IsKnown store.old target.labels.now series.old }
     ensures put { PutsOn target.entry.line target.entry.labels.now target.entry.interval place (slots_of item.now) store.old result store.new }
@@ -193,7 +193,7 @@ fn put_item(
     }
 }
 
-fn put_line(store: &mut Store, interval: Ms, line: &SeriesLine) -> Result<(), ReadFault>
+fn put_line(store: &mut Store, interval: Ms, line: &SeriesLine) -> Result<(), LoadFault>
     ensures { Leaves result store.new (line_put interval line.now store.old) }
 {
     let target = Target {
@@ -210,7 +210,7 @@ fn put_line(store: &mut Store, interval: Ms, line: &SeriesLine) -> Result<(), Re
 }
 
 /// Puts the samples of a load into the store. After an error the store has those before the refused one.
-pub fn put_lines(store: &mut Store, interval: Ms, lines: &[SeriesLine]) -> Result<(), ReadFault>
+pub fn put_lines(store: &mut Store, interval: Ms, lines: &[SeriesLine]) -> Result<(), LoadFault>
     ensures { Leaves result store.new (lines_put interval lines.now store.old) }
 {
     for line in lines {
@@ -220,7 +220,7 @@ pub fn put_lines(store: &mut Store, interval: Ms, lines: &[SeriesLine]) -> Resul
 }
 
 /// Clears or loads the store where a command says so.
-pub fn change_store(store: &mut Store, what: &What) -> Result<(), ReadFault>
+pub fn change_store(store: &mut Store, what: &What) -> Result<(), LoadFault>
     ensures { Leaves result store.new (left_by what.now store.old) }
 {
     match what {
@@ -233,7 +233,7 @@ pub fn change_store(store: &mut Store, what: &What) -> Result<(), ReadFault>
     }
 }
 
-fn change_by_all(store: &mut Store, commands: &[Command]) -> Result<(), ReadFault>
+fn change_by_all(store: &mut Store, commands: &[Command]) -> Result<(), LoadFault>
     ensures { Leaves result store.new (left_by_all commands.now store.old) }
 {
     for command in commands {
@@ -244,7 +244,7 @@ fn change_by_all(store: &mut Store, commands: &[Command]) -> Result<(), ReadFaul
 
 /// Judges the loads of a script, in a store of its own. `Refused` comes exactly where a load is refused, with the first
 /// refusal.
-pub fn judge_loads(alloc: Global, script: &Script) -> Result<(), ReadFault>
+pub fn judge_loads(alloc: Global, script: &Script) -> Result<(), LoadFault>
     ensures { TakesLoads result (loads_judged script.now) script.now }
 {
     let mut store = Store::new(alloc);

@@ -6,8 +6,8 @@ ghost use Rattle.promql_tool.specs.Report.{failed_in, fault_text, has_passed, pa
 ghost use Rattle.std.specs.List.{flat_map};
 ghost use Rattle.std.specs.Prelude.{◌≡◌, ◌==◌, if◌then◌else◌, IfOk, OnOk, OnErr, IsErrOf};
 
+use crate::fault::Refusal;
 use crate::fetch::FileRead;
-use crate::script::ScriptRefusal;
 use crate::text::{fault_line, refusal_line, totals_line, verdict_line};
 use crate::verdict::Verdict;
 use edge_io::{Sink, SinkFail, write_all};
@@ -120,7 +120,7 @@ fn verdict_status(failed: usize) -> Status
 fn print_refusal<S: Sink>(
     alloc: Global,
     path: &str,
-    refusal: ScriptRefusal,
+    refusal: Refusal,
     out: &mut S,
 ) -> Result<Status, SinkFail>
     ensures ok { IfOk result (λ status. (status.0 ≡ 6) × (S.written out.new ≡ appended (S.written out.old) (refusal_text path.now refusal))) }

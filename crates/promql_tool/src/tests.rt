@@ -1,8 +1,5 @@
 ghost use Rattle.std.specs.Prelude.{◌≡◌};
 
-use crate::item::read_item;
-use crate::script::WordRefusal;
-use crate::series::read_series;
 use crate::{Status, loads_put_their_samples, passes_exactly_where_rows_agree, run_tool};
 use edge_io::{MemLibrary, MemSink};
 use holders::{Items, Text};
@@ -78,8 +75,8 @@ REFUSED a.test:2 Malformed|load 5m|{,} 1|
 REFUSED a.test:2 Malformed|load 5m|x{a="b"|
 REFUSED a.test:2 Malformed|load 5m|x{a:b="c"}|
 REFUSED a.test:2 Malformed|load 5m|x{inf="c"} 1|
-REFUSED a.test:2 Malformed|load 5m|x{a="\""} 1|
-REFUSED a.test:2 Malformed|load 5m|x{a='b'} 1 2|
+FAIL a.test:4 unexpected series x{a="\""};passed 0 failed 1|load 5m|x{a="\""} 1||eval instant at 0 x|
+FAIL a.test:4 unexpected series x{a="b"};passed 0 failed 1|load 5m|x{a='b'} 1 2||eval instant at 0 x|
 REFUSED a.test:2 BadLabels|load 5m|x{a="b",a="c"} 1|
 REFUSED a.test:2 BadLabels|load 5m|x{a="b",a="c",d} 1|
 PASS a.test:4;passed 1 failed 0|load 5m|x 1 # 2||eval instant at 5m x|
@@ -114,7 +111,7 @@ REFUSED a.test:1 Malformed|load 101y|
 REFUSED a.test:1 Malformed|load -5m|
 REFUSED a.test:1 Malformed|load 5m 5m|
 REFUSED a.test:1 Malformed|LOAD 5m|
-REFUSED a.test:1 Malformed|load_with_nhcb 5m|
+REFUSED a.test:1 NativeHistogram|load_with_nhcb 5m|
 REFUSED a.test:1 Malformed|clear all|
 REFUSED a.test:1 Malformed|Clear|
 REFUSED a.test:2 Malformed|load 5m|load 5m|
@@ -124,7 +121,7 @@ REFUSED a.test:2 Malformed|load 5m|x#1 2|
 REFUSED a.test:2 Malformed|load 1m|x{a="b|
 REFUSED a.test:2 Malformed|load 5m|x{a="b" 1|
 REFUSED a.test:2 Malformed|load 5m|x{a=b} 1|
-REFUSED a.test:2 Malformed|load 5m|x{a='b'} 1|
+FAIL a.test:4 unexpected series x{a="b\\"};passed 0 failed 1|load 5m|x{a=`60`b\`60`} 1||eval instant at 0 x|
 REFUSED a.test:2 Malformed|load 5m|x{a="b\"} 1|
 REFUSED a.test:2 Malformed|load 5m|x{a:b="c"} 1|
 REFUSED a.test:2 Malformed|load 5m|x{5="c"} 1|
@@ -139,8 +136,8 @@ REFUSED a.test:2 Malformed|load 5m|x{a="b"}1|
 REFUSED a.test:2 Malformed|load 5m|x{a="b"}|
 REFUSED a.test:2 Malformed|load 5m|{} 1|
 REFUSED a.test:2 Malformed|load 5m|{a=""} 1|
-REFUSED a.test:2 Malformed|load 5m|{"x"} 1|
-REFUSED a.test:2 Malformed|load 5m|x {{sum:1}}|
+PASS a.test:4;passed 1 failed 0|load 5m|{"x"} 1||eval instant at 0 x|x 1|
+REFUSED a.test:2 NativeHistogram|load 5m|x {{sum:1}}|
 REFUSED a.test:2 Malformed|load 5m|5 1|
 REFUSED a.test:2 Malformed|load 5m|nan 1|
 REFUSED a.test:2 Malformed|load 5m|BOOL 1|
@@ -220,10 +217,21 @@ REFUSED a.test:3 Malformed|eval instant at 0 1|1|x 1|
 REFUSED a.test:3 Malformed|eval instant at 0 1|x 1|1|
 REFUSED a.test:3 Malformed|eval instant at 0 1|1|1|
 REFUSED a.test:2 NumberRange|eval instant at 0 1|1e31|
-REFUSED a.test:3 NumberRange|eval instant at 0 1|1|1e31|
+REFUSED a.test:3 Malformed|eval instant at 0 1|1|1e31|
 REFUSED a.test:1 Malformed|eval instant at 0`09` |
 REFUSED a.test:1 Malformed|eval instant at x 0|
-REFUSED a.test:2 Malformed|eval instant at 0 1|expect fail|
+REFUSED a.test:1 Malformed|eval instant at 0 1|expect fail|
+REFUSED a.test:4 Malformed|load 5m|x 1||eval instant at 0 x|expect no_warn|x 1|
+REFUSED a.test:1 Malformed|eval_ordered instant at 0 x|
+REFUSED a.test:1 Malformed|eval_warn instant at 0 x|
+REFUSED a.test:1 Malformed|eval_info instant at 0 x|
+REFUSED a.test:1 Malformed|eval instant at 0 x|expect no_info|
+REFUSED a.test:1 Malformed|eval range from 0 to 1 step 1 x|
+REFUSED a.test:3 Malformed|eval instant at 0 x||eval range from 0 to 1 step 1 x||eval_fail instant at 0 x|
+REFUSED a.test:3 Malformed|eval_fail instant at 0 x||y|
+REFUSED a.test:5 Malformed|load 5m|x 1|x 2||eval_fail instant at 0 x|
+REFUSED a.test:1 Malformed|eval instant at 0 x|expect fail regex: a|
+REFUSED a.test:2 BadPattern|eval instant at 0 x|expect fail regex: (|
 REFUSED a.test:1 NotUtf8|`ff`|load 5m|
 REFUSED a.test:4 NotUtf8|load 5m|x 1||# `c3`(||eval instant at 0 x|
 REFUSED a.test:2 NotUtf8|load 5m|x 1 `e2``82`
@@ -445,10 +453,8 @@ fn row_runs_so(alloc: Global, row: &str) -> Result<bool, AllocError> {
 fn reports(rt: HostRuntime) -> Result<(), Fail> {
     passes_exactly_where_rows_agree();
     loads_put_their_samples();
-    assert_eq!(rt; run_rows(&rt, rt.alloc(), REPORTS)?, 219);
+    assert_eq!(rt; run_rows(&rt, rt.alloc(), REPORTS)?, 230);
     assert_eq!(rt; run_rows(&rt, rt.alloc(), LONG)?, 5);
-    assert_eq!(rt; read_item(b""), Err(WordRefusal::NoForm));
-    assert!(rt; read_series(rt.alloc(), b"")?.is_err());
     Ok(())
 }
 

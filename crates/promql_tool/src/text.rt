@@ -1,15 +1,16 @@
 //! The lines of a report.
 ghost use Rattle.promql_tool.specs.OutcomeTexts.{outcome_text};
-ghost use Rattle.promql_tool.specs.Report.{fault_text, reason_text, refusal_name, refusal_text, refused_line, totals_text, value_text, values_text, verdict_text};
+ghost use Rattle.promql_tool.specs.Report.{fault_text, load_line, load_name, reason_text, refusal_name, refusal_text, refused_line, script_line, script_name, totals_text, value_text, values_text, verdict_text};
 ghost use Rattle.promql_tool.specs.declared.verdict.Reason.TheVariants.{Differs, ScalarDiffers};
 ghost use Rattle.std.specs.Prelude.{◌≡◌, ◌++◌, string_bytes, IfOk, OnOk};
 
+use crate::fault::{LoadRefusal, Refusal};
 use crate::outcome_text::{append_labelled, append_outcome};
-use crate::script::ScriptRefusal;
 use crate::verdict::{Reason, Verdict};
 use frac_text::write_number;
 use label_set::Labels;
 use promql_meaning::Outcome;
+use script_read::ScriptRefusal;
 use std::alloc::{AllocError, Global};
 use xfrac::XFrac;
 
@@ -104,38 +105,76 @@ pub fn verdict_line(alloc: Global, path: &str, verdict: &Verdict) -> Result<Vec<
 }
 
 /// The line that is refused, counted from 1, or 0 where it is the whole file.
-fn refused_line(refusal: ScriptRefusal) -> u32
-    ensures { result ≡ refused_line refusal }
+fn script_line(refusal: ScriptRefusal) -> u32
+    ensures { result ≡ script_line refusal }
 {
     match refusal {
         ScriptRefusal::TooLarge => 0,
         ScriptRefusal::Malformed(line) => line,
+        ScriptRefusal::NativeHistogram(line) => line,
         ScriptRefusal::NotUtf8(line) => line,
         ScriptRefusal::NumberRange(line) => line,
+        ScriptRefusal::BadPattern(line) => line,
         ScriptRefusal::BadLabels(line) => line,
-        ScriptRefusal::Conflict(line) => line,
-        ScriptRefusal::TooManySamples(line) => line,
-        ScriptRefusal::TooManySeries(line) => line,
     }
 }
 
-fn refusal_name(refusal: ScriptRefusal) -> &'static str
-    ensures { result.now ≡ refusal_name refusal }
+fn load_line(refusal: LoadRefusal) -> u32
+    ensures { result ≡ load_line refusal }
+{
+    match refusal {
+        LoadRefusal::NumberRange(line) => line,
+        LoadRefusal::Conflict(line) => line,
+        LoadRefusal::TooManySamples(line) => line,
+        LoadRefusal::TooManySeries(line) => line,
+    }
+}
+
+fn refused_line(refusal: Refusal) -> u32
+    ensures { result ≡ refused_line refusal }
+{
+    match refusal {
+        Refusal::Script(refusal) => script_line(refusal),
+        Refusal::Load(refusal) => load_line(refusal),
+    }
+}
+
+fn script_name(refusal: ScriptRefusal) -> &'static str
+    ensures { result.now ≡ script_name refusal }
 {
     match refusal {
         ScriptRefusal::TooLarge => "TooLarge",
         ScriptRefusal::Malformed(_) => "Malformed",
+        ScriptRefusal::NativeHistogram(_) => "NativeHistogram",
         ScriptRefusal::NotUtf8(_) => "NotUtf8",
         ScriptRefusal::NumberRange(_) => "NumberRange",
+        ScriptRefusal::BadPattern(_) => "BadPattern",
         ScriptRefusal::BadLabels(_) => "BadLabels",
-        ScriptRefusal::Conflict(_) => "Conflict",
-        ScriptRefusal::TooManySamples(_) => "TooManySamples",
-        ScriptRefusal::TooManySeries(_) => "TooManySeries",
     }
 }
 
-/// The line of a script that is refused.
-pub fn refusal_line(alloc: Global, path: &str, refusal: ScriptRefusal) -> Result<String, AllocError>
+fn load_name(refusal: LoadRefusal) -> &'static str
+    ensures { result.now ≡ load_name refusal }
+{
+    match refusal {
+        LoadRefusal::NumberRange(_) => "NumberRange",
+        LoadRefusal::Conflict(_) => "Conflict",
+        LoadRefusal::TooManySamples(_) => "TooManySamples",
+        LoadRefusal::TooManySeries(_) => "TooManySeries",
+    }
+}
+
+fn refusal_name(refusal: Refusal) -> &'static str
+    ensures { result.now ≡ refusal_name refusal }
+{
+    match refusal {
+        Refusal::Script(refusal) => script_name(refusal),
+        Refusal::Load(refusal) => load_name(refusal),
+    }
+}
+
+/// The line of a file that is refused.
+pub fn refusal_line(alloc: Global, path: &str, refusal: Refusal) -> Result<String, AllocError>
     ensures { IfOk result (λ text. string_bytes text ≡ refusal_text path.now refusal) }
 {
     let line = refused_line(refusal);

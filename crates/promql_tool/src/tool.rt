@@ -2,10 +2,10 @@
 ghost use Rattle.edge_io.specs.Causes.{Rose};
 ghost use Rattle.edge_io.specs.Fetches.{FetchesFront};
 ghost use Rattle.edge_io.specs.Written.{appended};
-ghost use Rattle.promql_tool.specs.Grammar.{reading};
+ghost use Rattle.promql_tool.specs.Reading.{IsNoScript};
 ghost use Rattle.promql_tool.specs.Report.{HasReport, fault_text, files_of, names_file, path_of, usage, usage_report};
 ghost use Rattle.promql_tool.specs.Ends.{Ends, IsCut, IsOneOf, IsRefused, Reports, RunsPath, RunsWords};
-ghost use Rattle.std.specs.Prelude.{◌≡◌, ◌⊎◌, [], ◌∷◌, None, Some, Err, Ok, Option, map, option_map, string_bytes, IfSome, IsErr, IsSomeAnd};
+ghost use Rattle.std.specs.Prelude.{◌≡◌, ◌⊎◌, [], ◌∷◌, None, Some, Err, Ok, Option, map, option_map, string_bytes, IfSome, IsSomeAnd};
 
 use crate::fetch::read_file;
 use crate::print::{Status, print_read};
@@ -148,7 +148,7 @@ pub fn run_tool<L: Library, S: Sink, W: Ledger>(
     ensures refused { IfSome (path_of (map string_bytes words.now)) (λ path. IfSome (L.told library.old) (λ files. result.0 ≡ 6 →
         IsRefused path (files path) (S.written out.old) (S.written out.new))) }
     ensures outside { IfSome (path_of (map string_bytes words.now)) (λ path. IfSome (L.told library.old) (λ files. IfSome (files path) (λ bytes.
-        IsErr (reading bytes) → IsOneOf (3 ∷ 4 ∷ 6 ∷ 7 ∷ []) result.0))) }
+        IsNoScript bytes → IsOneOf (3 ∷ 4 ∷ 6 ∷ 7 ∷ []) result.0))) }
 
     // Where the words are no command, the file isn't there or is refused, nothing was evaluated.
     ensures idle { IsOneOf (2 ∷ 3 ∷ 6 ∷ []) result.0 → work.new ≡ work.old }

@@ -1,13 +1,13 @@
 //! Whether a result is as expected.
 ghost use Rattle.promql_tool.specs.Lookups.{HasValues};
-ghost use Rattle.promql_tool.specs.Verdicts.{answer_judged, first_value, is_differing, is_lacking, judged, least, lesser, row_of_series, rows_in, rows_judged, scalar_in, scalar_judged};
-ghost use Rattle.promql_tool.specs.declared.script.Row.{Row};
+ghost use Rattle.promql_tool.specs.Verdicts.{answer_judged, expected_value, first_value, is_differing, is_lacking, judged, least, lesser, row_of, rows_expected, rows_in, rows_judged, scalar_in, scalar_judged};
+ghost use Rattle.promql_tool.specs.declared.verdict.Row.{Row};
 ghost use Rattle.std.specs.Prelude.{◌≡◌, ◌++◌, filter, option_map, option_to_list, IfOk, List, OnOk};
 
-use crate::script::{Expected, Row};
 use holders::Items;
 use label_set::Labels;
 use promql_meaning::{Answer, Outcome, Point, ResultSeries};
+use script_read::{Expected, Point as ExpectedPoint, ResultSeries as ExpectedSeries};
 use std::alloc::{AllocError, Global};
 use std::cmp::Ordering;
 use std::collections::BTreeMap;
@@ -44,6 +44,13 @@ pub enum Reason {
 pub struct Verdict {
     pub line: u32,
     pub reason: Option<Reason>,
+}
+
+/// One labelled value of a result.
+#[derive(Debug, Drop)]
+pub struct Row {
+    pub labels: Labels,
+    pub value: XFrac,
 }
 
 /// Rows by their labels.
@@ -163,13 +170,22 @@ fn first_value(points: &[Point]) -> Option<XFrac>
     }
 }
 
-/// Adds the row of a series, if it has a point.
-fn add_row(series: &ResultSeries, rows: &mut Items<Row>) -> Result<(), AllocError>
-    ensures { OnOk result (rows.new ≡ rows.old ++ option_to_list (row_of_series series.now)) }
+fn expected_value(points: &[ExpectedPoint]) -> Option<XFrac>
+    ensures { result ≡ expected_value points.now }
 {
-    match first_value(series.points.as_slice()) {
+    match points {
+        [] => None,
+        [point, ..] => Some(point.value),
+    }
+}
+
+/// Adds the row of labels, if they have a value.
+fn add_row(labels: &Labels, value: Option<XFrac>, rows: &mut Items<Row>) -> Result<(), AllocError>
+    ensures { OnOk result (rows.new ≡ rows.old ++ option_to_list (row_of labels.now value)) }
+{
+    match value {
         Some(value) => rows.push(Row {
-            labels: series.labels.copy()?,
+            labels: labels.copy()?,
             value,
         }),
         None => Ok(()),
@@ -182,7 +198,26 @@ fn rows_in(alloc: Global, all: &[ResultSeries]) -> Result<Items<Row>, AllocError
 {
     let mut rows = Items::new(alloc);
     for series in all {
-        add_row(series, &mut rows)?;
+        add_row(
+            &series.labels,
+            first_value(series.points.as_slice()),
+            &mut rows,
+        )?;
+    }
+    Ok(rows)
+}
+
+/// The series that are expected at an instant, as rows. The only error is want of memory.
+fn rows_expected(alloc: Global, all: &[ExpectedSeries]) -> Result<Items<Row>, AllocError>
+    ensures { IfOk result (λ rows. rows ≡ rows_expected all.now) }
+{
+    let mut rows = Items::new(alloc);
+    for series in all {
+        add_row(
+            &series.labels,
+            expected_value(series.points.as_slice()),
+            &mut rows,
+        )?;
     }
     Ok(rows)
 }
@@ -207,13 +242,14 @@ fn judge_scalar(wanted: XFrac, got: Option<XFrac>) -> Option<Reason>
 
 fn judge_vector(
     alloc: Global,
-    expected: &[Row],
+    expected: &[ExpectedSeries],
     all: &[ResultSeries],
 ) -> Result<Option<Reason>, AllocError>
-    ensures { IfOk result (λ reason. reason ≡ rows_judged expected.now (rows_in all.now)) }
+    ensures { IfOk result (λ reason. reason ≡ rows_judged (rows_expected expected.now) (rows_in all.now)) }
 {
+    let wanted = rows_expected(alloc, expected)?;
     let got = rows_in(alloc, all)?;
-    judge_rows(alloc, expected, got.as_slice())
+    judge_rows(alloc, wanted.as_slice(), got.as_slice())
 }
 
 fn judge_answer(

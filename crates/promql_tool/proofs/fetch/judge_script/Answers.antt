@@ -1,11 +1,10 @@
-use Rattle.std.proofs.Common.{Result, IfOk, subst}
-use Rattle.promql_tool.proofs.Timely.{IsReady, reading-ready}
-use Rattle.promql_tool.specs.declared.script.Script.{Script}
-use Rattle.promql_tool.specs.declared.script.ScriptRefusal.{ScriptRefusal}
+use Rattle.promql_tool.proofs.Files.{never_refused}
+use Rattle.promql_tool.proofs.Founds.{judged_bytes}
 use Rattle.promql_tool.proofs.fetch.judge_script.Goals as goal
 
-pub verdicts_in-requires : goal.verdicts_in-requires
-verdicts_in-requires g c =
-    let P : Result Script ScriptRefusal → Type 0 = λ r. IfOk r IsReady in
-    let ready : IsReady c.args.script.now = subst P c.requires (reading-ready c.args.bytes.now) in
-    ready.timely
+pub returns-in-Ok-clause-judged : goal.returns-in-Ok-clause-judged
+returns-in-Ok-clause-judged g c = judged_bytes c.args.bytes.now c.args.script.now c.in-Ok.verdicts c.requires c.in-Ok.ensures.verdicts
+
+pub returns-in-Err-Refused-clause-judged : goal.returns-in-Err-Refused-clause-judged
+returns-in-Err-Refused-clause-judged g c =
+    never_refused c.args.bytes.now c.args.script.now c.in-Err-Refused.refusal _ c.requires (rw c.in-Err-Refused.field-0-is at c.in-Err-Refused.ensures.refused)

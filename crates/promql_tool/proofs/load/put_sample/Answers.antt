@@ -1,11 +1,11 @@
 use Rattle.std.proofs.Common.{Result, sym, subst}
 use Rattle.sample_store.specs.Samples.{AllSeries}
 use Rattle.promql_tool.specs.Readings.{Leaves}
-use Rattle.promql_tool.specs.declared.script.ScriptRefusal.{ScriptRefusal}
+use Rattle.promql_tool.specs.declared.fault.LoadRefusal.{LoadRefusal}
 use Rattle.promql_tool.proofs.Loading.{slot_filled}
 use Rattle.promql_tool.proofs.load.put_sample.Goals as goal
 
 pub returns-in-Some-clause-put : goal.returns-in-Some-clause-put
 returns-in-Some-clause-put c =
-    let P = λ (said : Result AllSeries ScriptRefusal). Leaves c.append.result c.append.new.store said in
+    let P = λ (said : Result AllSeries LoadRefusal). Leaves c.append.result c.append.new.store said in
     subst P (sym (slot_filled c.args.target.line c.args.target.labels.now c.args.target.interval c.in-Some.at _ c.args.held.now c.args.store.now c.in-Some.ensures.0 c.in-Some.ensures.1)) c.append.ensures.put

@@ -1,9 +1,8 @@
 use Rattle.std.proofs.Common.{◌+◌, List, [], ap, drop, subst, sym, ◌∙◌}
 use Rattle.std.proofs.lemmas.List.{append-nil, drop_all}
 use Rattle.promql_tool.specs.Loads.{left_by_all}
-use Rattle.promql_tool.specs.Runs.{AreTimely}
 use Rattle.promql_tool.specs.Verdicts.{AreVerdicts, ended}
-use Rattle.promql_tool.specs.declared.script.Command.{Command}
+use Rattle.script_read.specs.declared.script.Command.{Command}
 use Rattle.promql_tool.specs.declared.verdict.Verdict.{Verdict}
 use Rattle.promql_tool.proofs.Judgements.{at_drop, judged_more, left_more}
 use Rattle.promql_tool.proofs.run.verdicts_in.Goals as goal
@@ -22,7 +21,6 @@ loop-command-preserved g c =
       judged = judged_more before now command later all c.loop-command.verdicts c.run_command.new.verdicts
           (λ rest h. c.loop-command.invariant.judged rest (subst (λ (cs : List Command). AreVerdicts before cs rest) (sym front) h)) left c.in_ok-run_command.ensures.verdict;
       left = left_more before now command later left ∙ ap (λ (cs : List Command). left_by_all cs before) (sym front) ∙ c.loop-command.invariant.left;
-      timely = (subst AreTimely front c.loop-command.invariant.timely).1;
     }
 
 pub returns-clause-verdicts : goal.returns-clause-verdicts

@@ -1,7 +1,7 @@
 use Rattle.std.proofs.Common.{◌≡◌, ◌≤◌, drop, filter, length, option_map, List}
 use Rattle.promql_tool.specs.Lookups.{HasValues}
 use Rattle.promql_tool.specs.Verdicts.{is_differing, least}
-use Rattle.promql_tool.specs.declared.script.Row.{Row}
+use Rattle.promql_tool.specs.declared.verdict.Row.{Row}
 use Rattle.promql_tool.proofs.verdict.least_differing.Given as goal
 
 abbrev pub invariant-loop-place : goal.invariant-loop-place

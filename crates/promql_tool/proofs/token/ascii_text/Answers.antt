@@ -1,6 +1,0 @@
-use Rattle.std.proofs.Common.{sym, ◌∙◌}
-use Rattle.promql_tool.proofs.Names.{ascii_is_text}
-use Rattle.promql_tool.proofs.token.ascii_text.Goals as goal
-
-pub returns-in-Err : goal.returns-in-Err
-returns-in-Err c = absurd (c.in-Err.ensures.cases.0 (ascii_is_text c.args.word.now (sym c.is_ascii.ensures ∙ c.if-not-is_ascii.false)))
