@@ -1,12 +1,12 @@
 -- What a file is read as.
-use Rattle.std.proofs.Common.{◌≡◌, ◌<◌, ℕ, List, [], length, Option, None, Some, Result, Ok, Err, IfErr, refl, sym, subst, arith, append-nil}
+use Rattle.std.proofs.Common.{◌≡◌, ◌<◌, ℕ, List, [], length, Option, None, Some, Result, Ok, Err, IfErr, refl, subst, arith, append-nil}
 use Rattle.std.proofs.lemmas.Bool.{lt-ltb}
 use Rattle.match_rule.specs.Gains.{Gains, gains_none}
 use Rattle.sample_store.specs.Samples.{AllSeries}
 use Rattle.script_read.specs.Expects.{Gathers, RefusesOnLine}
 use Rattle.script_read.specs.Lines.{lines_of}
 use Rattle.script_read.specs.Outcomes.{GivesWith, PatternList, then_give}
-use Rattle.script_read.specs.Reading.{Instruction, reading}
+use Rattle.script_read.specs.Reading.{reading}
 use Rattle.script_read.specs.Refusals.{limit}
 use Rattle.script_read.specs.Views.{script_seen}
 use Rattle.script_read.specs.declared.fault.ReadFault.{ReadFault}
@@ -20,7 +20,6 @@ use Rattle.promql_tool.specs.Readings.{GivesFile, GivesScript}
 use Rattle.promql_tool.specs.declared.fault.FileFault.{FileFault}
 use Rattle.promql_tool.specs.declared.fault.FileFault.TheVariants as file
 use Rattle.promql_tool.specs.declared.fault.LoadRefusal.{LoadRefusal}
-use Rattle.promql_tool.specs.declared.fault.Refusal.{Refusal}
 use Rattle.promql_tool.specs.declared.fault.Refusal.TheVariants as refusal
 
 -- what the reader answers with the patterns that it keeps
