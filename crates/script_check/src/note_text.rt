@@ -1,0 +1,144 @@
+//! The texts of notes.
+ghost use Rattle.frac_text.specs.Spellings.{spelling};
+ghost use Rattle.label_set.specs.LabelText.{escaped_byte, quoted};
+ghost use Rattle.script_check.specs.NoteTexts.{is_of, is_warning, note_text, texts_of};
+ghost use Rattle.std.specs.Prelude.{◌≡◌, ◌++◌, IfOk, OnOk};
+
+use frac_text::write_number;
+use label_set::Items;
+use std::alloc::{AllocError, Global};
+use step_table::Note;
+use xfrac::XFrac;
+
+/// Whether a note is a warning; the others are info notes. It takes no memory.
+pub fn is_warning(note: &Note) -> bool
+    ensures { result ≡ is_warning note.now }
+{
+    match note {
+        Note::QuantileRange(_) => true,
+        Note::BadBucket(_) => true,
+        Note::NotCounter(_) => false,
+        Note::FixedBuckets => false,
+    }
+}
+
+fn is_of(warnings: bool, note: &Note) -> bool
+    ensures { result ≡ is_of warnings note.now }
+{
+    if warnings {
+        is_warning(note)
+    } else {
+        !is_warning(note)
+    }
+}
+
+/// Appends a byte of a text in quotes.
+fn append_escaped(byte: u8, into: &mut Vec<u8>) -> Result<(), AllocError>
+    ensures { OnOk result (into.new.items ≡ into.old.items ++ escaped_byte byte) }
+{
+    if byte == b'\\' || byte == b'"' {
+        into.push(b'\\')?;
+        into.push(byte)?;
+    } else if byte == b'\n' {
+        into.push(b'\\')?;
+        into.push(b'n')?;
+    } else {
+        into.push(byte)?;
+    }
+    Ok(())
+}
+
+/// Appends a text in quotes, as a label's value is printed.
+fn append_quoted(text: &str, into: &mut Vec<u8>) -> Result<(), AllocError>
+    ensures { OnOk result (into.new.items ≡ into.old.items ++ quoted text.now) }
+{
+    into.push(b'"')?;
+    for byte in text.as_bytes() {
+        append_escaped(*byte, into)?;
+    }
+    into.push(b'"')?;
+    Ok(())
+}
+
+fn append_text(text: &str, into: &mut Vec<u8>) -> Result<(), AllocError>
+    ensures { OnOk result (into.new.items ≡ into.old.items ++ text.now) }
+{
+    into.extend_from_slice(text.as_bytes())
+}
+
+/// Appends a text, and a number behind it.
+fn append_number(text: &str, number: &XFrac, into: &mut Vec<u8>) -> Result<(), AllocError>
+    ensures { OnOk result (into.new.items ≡ into.old.items ++ (text.now ++ spelling number.now)) }
+{
+    append_text(text, into)?;
+    write_number(number, into)
+}
+
+/// Appends a text, and another one behind it.
+fn append_both(text: &str, behind: &str, into: &mut Vec<u8>) -> Result<(), AllocError>
+    ensures { OnOk result (into.new.items ≡ into.old.items ++ (text.now ++ behind.now)) }
+{
+    append_text(text, into)?;
+    append_text(behind, into)
+}
+
+/// Appends a text, and one in quotes behind it.
+fn append_with_quotes(text: &str, behind: &str, into: &mut Vec<u8>) -> Result<(), AllocError>
+    ensures { OnOk result (into.new.items ≡ into.old.items ++ (text.now ++ quoted behind.now)) }
+{
+    append_text(text, into)?;
+    append_quoted(behind, into)
+}
+
+/// Appends the text of a note. The only error is want of memory; then a part of the text may stand at the end.
+pub fn append_note(note: &Note, into: &mut Vec<u8>) -> Result<(), AllocError>
+    ensures { OnOk result (into.new.items ≡ into.old.items ++ note_text note.now) }
+{
+    match note {
+        Note::QuantileRange(quantile) => append_number(
+            "quantile value should be between 0 and 1, got ",
+            quantile,
+            into,
+        ),
+        Note::BadBucket(bound) => append_with_quotes(
+            "bucket label le is missing or has a malformed value of ",
+            bound.as_str(),
+            into,
+        ),
+        Note::NotCounter(name) => append_both(
+            "metric might not be a counter, name does not end in _total/_sum/_count/_bucket: ",
+            name.as_str(),
+            into,
+        ),
+        Note::FixedBuckets => append_text(
+            "input to histogram_quantile needed to be fixed for monotonicity",
+            into,
+        ),
+    }
+}
+
+fn text_of(alloc: Global, note: &Note) -> Result<Items<u8>, AllocError>
+    ensures { IfOk result (λ text. text ≡ note_text note.now) }
+{
+    let mut text = Vec::new(alloc);
+    append_note(note, &mut text)?;
+    Ok(Items::from_vec(text))
+}
+
+/// The texts of the warnings among notes, or else of the info notes, in their order. The only error is want of memory.
+pub fn texts_of(
+    alloc: Global,
+    notes: &[Note],
+    warnings: bool,
+) -> Result<Items<Items<u8>>, AllocError>
+    ensures { IfOk result (λ texts. texts ≡ texts_of warnings notes.now) }
+{
+    let mut texts = Items::new(alloc);
+    for note in notes {
+        if !is_of(warnings, note) {
+            continue;
+        }
+        texts.push(text_of(alloc, note)?)?;
+    }
+    Ok(texts)
+}
