@@ -1,6 +1,7 @@
 //! Texts of queries over a few series, and what comes of each.
 ghost use Rattle.std.specs.Prelude.{◌≡◌};
 
+mod nested;
 mod rows;
 
 use crate::evaluate;
@@ -228,12 +229,12 @@ fn texts_come_to(rt: HostRuntime) -> Result<(), Fail> {
 
 #[test]
 fn vectors_stand_in_each_place(rt: HostRuntime) -> Result<(), Fail> {
-    let mut outcomes = rows::NESTED.lines();
-    for place in rows::PLACES.lines() {
-        for vector in rows::VECTORS.lines() {
+    let mut outcomes = nested::NESTED.lines();
+    for place in nested::PLACES.lines() {
+        for vector in nested::VECTORS.lines() {
             let query = place.replace(rt.alloc(), "?", vector)?;
             let query = query.as_str();
-            let got = comes_to(rt.alloc(), rows::NESTED_SERIES, "120", query)?;
+            let got = comes_to(rt.alloc(), nested::NESTED_SERIES, "120", query)?;
             let wanted = outcomes.next().ok_or("no outcome")?;
             assert_eq!(rt; got.as_slice(), wanted.as_bytes(), "{query}");
         }

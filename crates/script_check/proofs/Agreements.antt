@@ -1,5 +1,5 @@
 -- When there is no reason against the series of an answer.
-use Rattle.std.proofs.Common.{◌≡◌, ℤ, Bool, true, false, cond, List, [], ◌∷◌, filter, find, not, Option, None, Some, refl, ap, sym, ◌∙◌, subst, IsTrue}
+use Rattle.std.proofs.Common.{◌≡◌, ℤ, Bool, true, false, cond, List, [], ◌∷◌, filter, find, not, Option, None, Some, refl, ap, sym, subst, IsTrue}
 use Rattle.std.specs.Prelude.{if◌then◌else◌, is_none, is_some, option_map, IsSome}
 use Rattle.std.specs.List.{AllByRecursion}
 use Rattle.std.specs.Option.{option_and_then}

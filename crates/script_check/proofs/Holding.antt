@@ -1,5 +1,5 @@
 -- A verdict is a pass exactly where each expectation holds.
-use Rattle.std.proofs.Common.{◌≡◌, Bool, true, false, List, [], ◌∷◌, map, Option, None, Some, refl, sym, ◌∙◌, ap, subst, IsTrue}
+use Rattle.std.proofs.Common.{◌≡◌, Bool, true, false, List, [], ◌∷◌, map, Option, None, Some, refl, sym, ap, subst, IsTrue}
 use Rattle.std.specs.Prelude.{if◌then◌else◌, not}
 use Rattle.promql_meaning.specs.declared.answer.Answer.{Answer}
 use Rattle.promql_meaning.specs.declared.answer.Outcome.{Outcome}

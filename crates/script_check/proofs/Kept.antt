@@ -9,7 +9,7 @@ use Rattle.script_read.specs.Expects.{Expectation, InOrder, Failing, Warning, In
 use Rattle.script_read.specs.Lines.{Numbered, blocks_of, broken_line, is_empty}
 use Rattle.script_read.specs.Moments.{Moments}
 use Rattle.script_read.specs.Outcomes.{GivesWith, in_front, joined, then_give, then_try}
-use Rattle.script_read.specs.Reading.{Deed, Clears, Loads, Evaluates, Instruction, body_line, command_headed, command_of, commands_in, commands_of, expected_after, followed, is_clear, reading, series_lines, text_read}
+use Rattle.script_read.specs.Reading.{Deed, Loads, Evaluates, Instruction, body_line, command_headed, command_of, commands_in, commands_of, expected_after, followed, is_clear, reading, series_lines, text_read}
 use Rattle.script_read.specs.Refusals.{at_line, limit}
 use Rattle.script_read.specs.Results.{line_added, result_added}
 use Rattle.script_read.specs.Views.{deed_of, instructions, script_seen}

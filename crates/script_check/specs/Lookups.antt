@@ -1,5 +1,5 @@
 -- Which series and points a map stands for.
-use Rattle.std.specs.Prelude.{◌≡◌, List, ℤ, Option, option_map}
+use Rattle.std.specs.Prelude.{◌≡◌, List, ℤ, option_map}
 use Rattle.std.specs.Borrow.{Bor}
 use Rattle.std.specs.BTreeMap.{BTreeMap, get}
 use Rattle.std.specs.Ordering.{int_cmp}

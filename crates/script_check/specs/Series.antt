@@ -1,6 +1,6 @@
 -- Whether the series of an answer are those that a script expects, and the first reason why they aren't. (The rules of promqltest;
 -- the reasons and their order are this project's own.)
-use Rattle.std.specs.Prelude.{◌≡◌, ℕ, Bool, true, false, if◌then◌else◌, not, List, [], ◌∷◌, ◌++◌, filter, map, Option, None, Some, find, is_none, is_some, option_map, int_lt, IsTrue, IsSome}
+use Rattle.std.specs.Prelude.{ℕ, Bool, true, false, if◌then◌else◌, not, List, [], ◌∷◌, filter, map, Option, None, Some, find, is_none, is_some, option_map, int_lt, IsTrue, IsSome}
 use Rattle.std.specs.List.{AllByRecursion}
 use Rattle.std.specs.Option.{option_and_then}
 use Rattle.std.specs.Ordering.{int_cmp, is_eq, is_gt}

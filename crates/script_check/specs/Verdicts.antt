@@ -1,10 +1,9 @@
 -- When the outcome of an evaluation is what a script expects of it, line by line, and the first reason why it isn't. (The rules of
 -- promqltest; the order of the reasons and the meaning of several `expect` lines are this project's own.)
-use Rattle.std.specs.Prelude.{◌≡◌, ◌<◌, ℕ, Bool, true, false, if◌then◌else◌, not, ◌&&◌, ◌||◌, List, [], ◌∷◌, length, map, bytes_eq, Option, None, Some, IsTrue}
+use Rattle.std.specs.Prelude.{◌≡◌, ◌<◌, ℕ, Bool, true, false, if◌then◌else◌, not, ◌&&◌, ◌||◌, List, [], length, map, bytes_eq, Option, None, Some, IsTrue}
 use Rattle.std.specs.List.{AllByRecursion, list_all, list_any}
 use Rattle.std.specs.Str.{is_utf8}
 use Rattle.match_rule.specs.Patterns.{passes_at}
-use Rattle.xfrac.specs.declared.value.XFrac.{XFrac}
 use Rattle.promql_meaning.specs.declared.answer.Answer.{Answer}
 use Rattle.promql_meaning.specs.declared.answer.Outcome.{Outcome}
 use Rattle.promql_meaning.specs.declared.answer.Outcome.TheVariants as outcome

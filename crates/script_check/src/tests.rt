@@ -31,9 +31,11 @@ fn expectations(
     let lines = lines.replace(alloc, "¶", "\n")?;
     let lines = lines.as_str();
     let text = format!(in alloc; "eval {heading} q\n{lines}")?;
-    let script = read(alloc, text.as_bytes(), searches)?;
     scripts_keep_their_patterns();
-    first_expectations(&script)
+    match read(alloc, text.as_bytes(), searches) {
+        Ok(script) => first_expectations(&script),
+        Err(fault) => Err(Fail::from(fault)),
+    }
 }
 
 /// What a script's first command expects.
