@@ -31,7 +31,7 @@ module _ (library : LibraryRun) (out : SinkRun) (status : ℕ) (six : status ≡
   found_refused path None report files there printed r =
       let three : report.status ≡ 3 = ap (λ (s : Report). s.status) printed in
       absurd (omega (arith, six, three, r.status_is))
-  found_refused path (Some bytes) report files there printed r = read_refused path bytes printed.1 printed.0 report out.before out.now (files path) printed.2.0 printed.2.1 (sym r.status_is ∙ six) r.text_is there
+  found_refused path (Some bytes) report files there printed r = read_refused path bytes printed.1 printed.0 report out.before out.now (files path) printed.2 printed.3 (sym r.status_is ∙ six) r.text_is there
 
   told_refused : (told : Option (List ℕ → Option (List ℕ))) (path : List ℕ) (found : Option (List ℕ)) (report : Report) → IfSome found (λ bytes. IfSome told (λ files. files path ≡ Some bytes))
       → IsReportFound path found report → Reports out.before out.now status report → IfSome told (λ files. IsRefused path (files path) out.before out.now)
@@ -74,7 +74,7 @@ module _ (path bytes : List ℕ) (status : ℕ) (none : IsNoScript bytes) (repor
   found_unrun None same printed is = one_of 3 status refl (is ∙ ap (λ (r : Report). r.status) printed)
   found_unrun (Some found) same printed is =
       let one : found ≡ bytes = cc in
-      read_unrun printed.1 printed.0 (subst (λ (b : List ℕ). IsReadWith printed.1 b printed.0) one printed.2.0) printed.2.1 is
+      read_unrun printed.1 printed.0 (subst (λ (b : List ℕ). IsReadWith printed.1 b printed.0) one printed.2) printed.3 is
 
 module _ (library : LibraryRun) (out : SinkRun) (status : ℕ) (path : List ℕ) (files : List ℕ → Option (List ℕ)) where
   told_found : (there found : Option (List ℕ)) → files path ≡ there → IfSome found (λ b. files path ≡ Some b) → IfSome found (λ b. there ≡ Some b)

@@ -7,9 +7,9 @@ ghost use Rattle.script_check.specs.Verdicts.{KeepsPatterns};
 ghost use Rattle.std.specs.Prelude.{◌≡◌, Ok, IfOk};
 
 use crate::fault::{FileFault, LoadFault, Refusal};
+use crate::judged::Judged;
 use crate::read::read;
 use crate::run::verdicts_in;
-use crate::judged::Judged;
 use edge_io::{Fetch, Fetched, Library};
 use holders::Items;
 use match_rule::Patterns;

@@ -8,8 +8,8 @@ ghost use Rattle.std.specs.Prelude.{◌≡◌, ◌==◌, if◌then◌else◌, If
 
 use crate::fault::Refusal;
 use crate::fetch::FileRead;
-use crate::text::{fault_line, refusal_line, totals_line, verdict_line};
 use crate::judged::Judged;
+use crate::text::{fault_line, refusal_line, totals_line, verdict_line};
 use edge_io::{Sink, SinkFail, write_all};
 use script_check::Verdict;
 use std::alloc::Global;

@@ -61,12 +61,7 @@ fn moment_text(alloc: Global, at: i64) -> Result<String, AllocError>
 }
 
 /// Appends the time of a value, which isn't told at an instant.
-fn append_time(
-    alloc: Global,
-    instant: bool,
-    at: Ms,
-    into: &mut Vec<u8>,
-) -> Result<(), AllocError>
+fn append_time(alloc: Global, instant: bool, at: Ms, into: &mut Vec<u8>) -> Result<(), AllocError>
     ensures { OnOk result (into.new.items ≡ into.old.items ++ time_text instant at) }
 {
     if instant {

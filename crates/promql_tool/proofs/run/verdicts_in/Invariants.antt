@@ -9,8 +9,8 @@ use Rattle.promql_tool.proofs.run.verdicts_in.Given as goal
 
 abbrev pub invariant-loop-command : goal.invariant-loop-command
 invariant-loop-command g l = record {
-  judged : (rest : List Judged) → AreVerdicts l.searches l.store (drop l.command-index l.command-items) rest → AreVerdicts l.searches [] l.command-items (l.verdicts ++ rest);
+  judged : (rest : List Judged) → AreVerdicts l.fn.searches l.store (drop l.command-index l.command-items) rest → AreVerdicts l.fn.searches [] l.command-items (l.verdicts ++ rest);
   same : l.searches ≡ l.fn.searches;
-  kept : AllByRecursion (λ (command : Command). HasItsPatterns l.searches command.what) (drop l.command-index l.command-items);
+  kept : AllByRecursion (λ (command : Command). HasItsPatterns l.fn.searches command.what) (drop l.command-index l.command-items);
   left : left_by_all (drop l.command-index l.command-items) l.store ≡ left_by_all l.command-items [];
 }
