@@ -5,24 +5,25 @@ use Rattle.std.proofs.lemmas.List.{length-replicate}
 use Rattle.edge_io.specs.Told.{Tells}
 use Rattle.edge_io.specs.declared.library.Fetched.TheVariants.{Whole, PastLimit}
 use Rattle.script_read.specs.Refusals.{limit}
-use Rattle.promql_tool.specs.Reading.{IsRead}
+use Rattle.script_read.specs.Outcomes.{PatternList}
+use Rattle.promql_tool.specs.Reading.{IsReadWith}
 use Rattle.promql_tool.specs.Verdicts.{AreVerdicts}
 use Rattle.promql_tool.specs.Found.{IsBytes, IsFound, IsReading, IsJudged}
 use Rattle.promql_tool.specs.declared.fetch.FileRead.{FileRead}
 use Rattle.promql_tool.specs.declared.fetch.FileRead.TheVariants.{Judged, Refused, Gone}
 use Rattle.promql_tool.specs.declared.fault.Refusal.{Refusal}
 use Rattle.promql_tool.specs.declared.fault.Refusal.TheVariants as refusal
-use Rattle.promql_tool.specs.declared.verdict.Verdict.{Verdict}
+use Rattle.promql_tool.specs.declared.judged.Judged.{Judged as Judgement}
 use Rattle.script_read.specs.declared.script.Script.{Script}
 use Rattle.script_read.specs.declared.script.ScriptRefusal.TheVariants.{TooLarge}
 use Rattle.promql_tool.proofs.Files.{too_large}
 
 -- what bytes came to that were read
-pub judged_bytes : (bytes : List ℕ) (script : Script) (verdicts : List Verdict) → IsRead bytes (Ok script) → AreVerdicts [] script.commands verdicts → IsBytes bytes (Judged verdicts)
-judged_bytes bytes script verdicts is_read are = λ path. (Ok script, is_read, (verdicts, are, refl))
+pub judged_bytes : (kept : PatternList) (bytes : List ℕ) (script : Script) (verdicts : List Judgement) → IsReadWith kept bytes (Ok script) → AreVerdicts kept [] script.commands verdicts → IsBytes bytes (Judged verdicts)
+judged_bytes kept bytes script verdicts is_read are = λ path. (Ok script, kept, is_read, (verdicts, are, refl))
 
-pub refused_bytes : (bytes : List ℕ) (refused : Refusal) → IsRead bytes (Err refused) → IsBytes bytes (Refused refused)
-refused_bytes bytes refused is_read = λ path. (Err refused, is_read, refl)
+pub refused_bytes : (kept : PatternList) (bytes : List ℕ) (refused : Refusal) → IsReadWith kept bytes (Err refused) → IsBytes bytes (Refused refused)
+refused_bytes kept bytes refused is_read = λ path. (Err refused, kept, is_read, refl)
 
 module _ (sound : Type 0) (path : List ℕ) where
   -- the bytes that were found are those that are told
@@ -43,7 +44,7 @@ module _ (sound : Type 0) (path : List ℕ) where
   past_limit most = omega (arith, length-replicate {A = ℕ} (most + 1) 0)
 
   past_seen : (told : Option (List ℕ → Option (List ℕ))) (bytes : List ℕ) → limit < length bytes → IsFound told sound path (Some bytes) → IsReading told sound path (Refused (refusal.Script TooLarge))
-  past_seen told bytes long is_found = record { found = Some bytes; is_found = is_found; reported = refused_bytes bytes (refusal.Script TooLarge) (too_large bytes long) path }
+  past_seen told bytes long is_found = record { found = Some bytes; is_found = is_found; reported = refused_bytes [] bytes (refusal.Script TooLarge) (too_large bytes long) path }
 
   past_there : (found : Option (List ℕ)) → IsSomeAnd found (λ bytes. limit < length bytes) → (bytes : List ℕ) × (found ≡ Some bytes) × (limit < length bytes)
   past_there None h = absurd h

@@ -7,4 +7,3 @@ pub mod Pieces
 pub mod Ending
 pub mod Refusals
 pub mod Reported
-pub mod Agreements

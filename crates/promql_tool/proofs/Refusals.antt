@@ -2,7 +2,8 @@
 use Rattle.std.proofs.Common.{◌≡◌, ℕ, Bool, true, false, List, [], ◌∷◌, Option, None, Some, refl, sym, ap, subst, ◌∙◌, IfSome, Result, Ok, Err, arith}
 use Rattle.std.specs.Prelude.{◌==◌, if◌then◌else◌, MatchOption}
 use Rattle.edge_io.specs.Written.{appended}
-use Rattle.promql_tool.specs.Reading.{IsNoScript, IsRead}
+use Rattle.script_read.specs.Outcomes.{PatternList}
+use Rattle.promql_tool.specs.Reading.{IsNoScript, IsReadWith}
 use Rattle.promql_tool.specs.Report.{IsReportFound, IsReportRead, Report, failed_in, usage_report}
 use Rattle.promql_tool.specs.Ends.{Ends, Whole, Failed, Short, IsOneOf, Reports, SinkRun, LibraryRun, RunsPath, Unread, Read, IsRefused}
 use Rattle.script_read.specs.declared.script.Script.{Script}
@@ -17,12 +18,12 @@ zero_or_one true h = omega (arith, h)
 zero_or_one false h = omega (arith, h)
 
 -- bytes that are refused, by what they are read as
-read_refused : (path bytes : List ℕ) (said : Result Script Refusal) (report : Report) (before now : Option (List ℕ)) (found : Option (List ℕ)) → IsRead bytes said → IsReportRead path said report
+read_refused : (path bytes : List ℕ) (kept : PatternList) (said : Result Script Refusal) (report : Report) (before now : Option (List ℕ)) (found : Option (List ℕ)) → IsReadWith kept bytes said → IsReportRead path kept said report
     → report.status ≡ 6 → now ≡ appended before report.text → found ≡ Some bytes → IsRefused path found before now
-read_refused path bytes (Ok script) report before now found is printed status text fetched =
+read_refused path bytes kept (Ok script) report before now found is printed status text fetched =
     absurd (zero_or_one (failed_in printed.0 == 0) (sym (ap (λ (r : Report). r.status) printed.2) ∙ status))
-read_refused path bytes (Err refusal) report before now found is printed status text fetched =
-    record { bytes = bytes; refusal = refusal; fetched = fetched; is = is; printed = text ∙ ap (λ (r : Report). appended before r.text) printed }
+read_refused path bytes kept (Err refusal) report before now found is printed status text fetched =
+    record { bytes = bytes; refusal = refusal; fetched = fetched; is = (kept, is); printed = text ∙ ap (λ (r : Report). appended before r.text) printed }
 
 module _ (library : LibraryRun) (out : SinkRun) (status : ℕ) (six : status ≡ 6) where
   found_refused : (path : List ℕ) (found : Option (List ℕ)) (report : Report) (files : List ℕ → Option (List ℕ)) → IfSome found (λ bytes. files path ≡ Some bytes) → IsReportFound path found report
@@ -30,7 +31,7 @@ module _ (library : LibraryRun) (out : SinkRun) (status : ℕ) (six : status ≡
   found_refused path None report files there printed r =
       let three : report.status ≡ 3 = ap (λ (s : Report). s.status) printed in
       absurd (omega (arith, six, three, r.status_is))
-  found_refused path (Some bytes) report files there printed r = read_refused path bytes printed.0 report out.before out.now (files path) printed.1 printed.2 (sym r.status_is ∙ six) r.text_is there
+  found_refused path (Some bytes) report files there printed r = read_refused path bytes printed.1 printed.0 report out.before out.now (files path) printed.2 printed.3 (sym r.status_is ∙ six) r.text_is there
 
   told_refused : (told : Option (List ℕ → Option (List ℕ))) (path : List ℕ) (found : Option (List ℕ)) (report : Report) → IfSome found (λ bytes. IfSome told (λ files. files path ≡ Some bytes))
       → IsReportFound path found report → Reports out.before out.now status report → IfSome told (λ files. IsRefused path (files path) out.before out.now)
@@ -65,15 +66,15 @@ one_of : (n status : ℕ) → IsUnrun n → status ≡ n → IsUnrun status
 one_of n status here is = subst IsUnrun (sym is) here
 
 module _ (path bytes : List ℕ) (status : ℕ) (none : IsNoScript bytes) (report : Report) where
-  read_unrun : (said : Result Script Refusal) → IsRead bytes said → IsReportRead path said report → status ≡ report.status → IsUnrun status
-  read_unrun (Ok script) is_read printed is = absurd (none script is_read)
-  read_unrun (Err refused) is_read printed is = one_of 6 status refl (is ∙ ap (λ (r : Report). r.status) printed)
+  read_unrun : (kept : PatternList) (said : Result Script Refusal) → IsReadWith kept bytes said → IsReportRead path kept said report → status ≡ report.status → IsUnrun status
+  read_unrun kept (Ok script) is_read printed is = absurd (none script (kept, is_read))
+  read_unrun kept (Err refused) is_read printed is = one_of 6 status refl (is ∙ ap (λ (r : Report). r.status) printed)
 
   found_unrun : (found : Option (List ℕ)) → IfSome found (λ b. Some bytes ≡ Some b) → IsReportFound path found report → status ≡ report.status → IsUnrun status
   found_unrun None same printed is = one_of 3 status refl (is ∙ ap (λ (r : Report). r.status) printed)
   found_unrun (Some found) same printed is =
       let one : found ≡ bytes = cc in
-      read_unrun printed.0 (subst (λ (b : List ℕ). IsRead b printed.0) one printed.1) printed.2 is
+      read_unrun printed.1 printed.0 (subst (λ (b : List ℕ). IsReadWith printed.1 b printed.0) one printed.2) printed.3 is
 
 module _ (library : LibraryRun) (out : SinkRun) (status : ℕ) (path : List ℕ) (files : List ℕ → Option (List ℕ)) where
   told_found : (there found : Option (List ℕ)) → files path ≡ there → IfSome found (λ b. files path ≡ Some b) → IfSome found (λ b. there ≡ Some b)

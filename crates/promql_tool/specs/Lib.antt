@@ -2,9 +2,7 @@ pub mod Loads
 pub mod Reading
 pub mod Readings
 pub mod Verdicts
-pub mod Lookups
 pub mod Runs
-pub mod OutcomeTexts
 pub mod Report
 pub mod Found
 pub mod Ends

@@ -1,16 +1,18 @@
 //! Fetching a file and judging it.
 ghost use Rattle.edge_io.specs.Causes.{Rose};
 ghost use Rattle.promql_tool.specs.Found.{IsJudged, IsReading, IsUnjudged};
-ghost use Rattle.promql_tool.specs.Reading.{IsRead};
+ghost use Rattle.promql_tool.specs.Reading.{IsReadWith};
 ghost use Rattle.promql_tool.specs.declared.fetch.FileRead.TheVariants.{Gone};
+ghost use Rattle.script_check.specs.Verdicts.{KeepsPatterns};
 ghost use Rattle.std.specs.Prelude.{◌≡◌, Ok, IfOk};
 
 use crate::fault::{FileFault, LoadFault, Refusal};
+use crate::judged::Judged;
 use crate::read::read;
 use crate::run::verdicts_in;
-use crate::verdict::Verdict;
 use edge_io::{Fetch, Fetched, Library};
 use holders::Items;
+use match_rule::Patterns;
 use script_read::{Script, ScriptRefusal};
 use std::alloc::{AllocError, Global};
 use std::sync::ledger::Ledger;
@@ -23,7 +25,7 @@ const LIMIT: usize = 4_194_304;
 #[derive(Drop)]
 pub enum FileRead {
     /// It is a script, and these are its verdicts.
-    Judged(Items<Verdict>),
+    Judged(Items<Judged>),
     /// It is no script, or isn't run.
     Refused(Refusal),
     /// It couldn't be fetched.
@@ -35,13 +37,15 @@ fn judge_script<W: Ledger>(
     alloc: Global,
     bytes: &[u8],
     script: &Script,
+    searches: &mut Patterns,
     work: &mut Work<W>,
 ) -> Result<FileRead, AllocError>
-    requires { IsRead bytes.now (Ok script.now) }
+    requires read { IsReadWith searches.old bytes.now (Ok script.now) }
+    requires kept { KeepsPatterns searches.old script.now }
     ensures judged { IfOk result (IsJudged bytes.now) }
     ensures idle { IfOk result (λ read. IsUnjudged read → work.new ≡ work.old) }
 {
-    match verdicts_in(alloc, script, work) {
+    match verdicts_in(alloc, script, searches, work) {
         Ok(verdicts) => Ok(FileRead::Judged(verdicts)),
         Err(LoadFault::Refused(refusal)) => Ok(FileRead::Refused(Refusal::Load(refusal))),
         Err(LoadFault::Memory) => Err(AllocError),
@@ -57,8 +61,9 @@ fn judge_bytes<W: Ledger>(
     ensures judged { IfOk result (IsJudged bytes.now) }
     ensures idle { IfOk result (λ read. IsUnjudged read → work.new ≡ work.old) }
 {
-    match read(alloc, bytes) {
-        Ok(script) => judge_script(alloc, bytes, &script, work),
+    let mut searches = Patterns::new(alloc);
+    match read(alloc, bytes, &mut searches) {
+        Ok(script) => judge_script(alloc, bytes, &script, &mut searches, work),
         Err(FileFault::Refused(refusal)) => Ok(FileRead::Refused(refusal)),
         Err(FileFault::Memory) => Err(AllocError),
     }

@@ -3,21 +3,20 @@
 
 mod fault;
 mod fetch;
+mod judged;
 mod laws;
 mod load;
-mod outcome_text;
 mod print;
 mod read;
 mod run;
 mod text;
 mod tool;
-mod verdict;
 
 pub use fault::{LoadRefusal, Refusal};
-pub use laws::{loads_put_their_samples, passes_exactly_where_rows_agree};
+pub use judged::Judged;
+pub use laws::loads_put_their_samples;
 pub use print::Status;
 pub use tool::run_tool;
-pub use verdict::{Reason, Row, Verdict};
 
 #[cfg(test)]
 mod tests;

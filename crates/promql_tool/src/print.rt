@@ -8,19 +8,23 @@ ghost use Rattle.std.specs.Prelude.{◌≡◌, ◌==◌, if◌then◌else◌, If
 
 use crate::fault::Refusal;
 use crate::fetch::FileRead;
+use crate::judged::Judged;
 use crate::text::{fault_line, refusal_line, totals_line, verdict_line};
-use crate::verdict::Verdict;
 use edge_io::{Sink, SinkFail, write_all};
+use script_check::Verdict;
 use std::alloc::Global;
 
 /// The status of the program, as its exit code.
 #[derive(Clone, Copy, Debug, PartialEq, Eq)]
 pub struct Status(pub u8);
 
-fn has_passed(verdict: &Verdict) -> bool
+fn has_passed(verdict: &Judged) -> bool
     ensures { result ≡ has_passed verdict.now }
 {
-    verdict.reason.is_none()
+    match verdict.verdict {
+        Verdict::Pass => true,
+        Verdict::Fail(_) => false,
+    }
 }
 
 /// How many evaluations pass and fail.
@@ -30,7 +34,7 @@ struct Totals {
     failed: usize,
 }
 
-fn totals_of(verdicts: &[Verdict]) -> Totals
+fn totals_of(verdicts: &[Judged]) -> Totals
     ensures passed { result.passed ≡ passed_in verdicts.now }
     ensures failed { result.failed ≡ failed_in verdicts.now }
 {
@@ -49,7 +53,7 @@ fn totals_of(verdicts: &[Verdict]) -> Totals
 fn print_verdict<S: Sink>(
     alloc: Global,
     path: &str,
-    verdict: &Verdict,
+    verdict: &Judged,
     out: &mut S,
 ) -> Result<(), SinkFail>
     ensures ok { OnOk result (S.written out.new ≡ appended (S.written out.old) (verdict_text path.now verdict.now)) }
@@ -65,7 +69,7 @@ fn print_verdict<S: Sink>(
 fn print_verdicts<S: Sink>(
     alloc: Global,
     path: &str,
-    verdicts: &[Verdict],
+    verdicts: &[Judged],
     out: &mut S,
 ) -> Result<(), SinkFail>
     ensures ok { OnOk result (S.written out.new ≡ appended (S.written out.old) (flat_map (verdict_text path.now) verdicts.now)) }
@@ -95,7 +99,7 @@ fn print_totals<S: Sink>(alloc: Global, totals: Totals, out: &mut S) -> Result<(
 fn print_judged<S: Sink>(
     alloc: Global,
     path: &str,
-    verdicts: &[Verdict],
+    verdicts: &[Judged],
     out: &mut S,
 ) -> Result<Status, SinkFail>
     ensures ok { IfOk result (λ status. (status.0 ≡ (report_judged path.now verdicts.now).status)

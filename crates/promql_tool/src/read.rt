@@ -1,60 +1,21 @@
 //! Reading a script that can be run.
-ghost use Rattle.promql_tool.specs.Reading.{IsRead, IsReadAs, expects_result_alone, is_judged, script_judged, unjudged_line};
+ghost use Rattle.promql_tool.specs.Reading.{IsReadAs, IsReadWith, script_judged};
 ghost use Rattle.promql_tool.specs.Readings.{GivesFile, GivesScript};
-ghost use Rattle.std.specs.Prelude.{◌≡◌};
+ghost use Rattle.script_check.specs.Verdicts.{KeepsPatterns};
+ghost use Rattle.std.specs.Prelude.{◌≡◌, [], IfOk};
 
 use crate::fault::{FileFault, LoadFault, Refusal};
 use crate::load::judge_loads;
 use match_rule::Patterns;
-use script_read::{Command, Expectations, ReadFault, Script, ScriptRefusal, What};
+use script_check::scripts_keep_their_patterns;
+use script_read::{ReadFault, Script};
 use std::alloc::Global;
 
-/// Whether no line and no mode says what is expected, its result aside.
-fn expects_result_alone(expected: &Expectations) -> bool
-    ensures { result ≡ expects_result_alone expected.now }
-{
-    expected.fail.as_slice().is_empty()
-        && expected.warn.as_slice().is_empty()
-        && !expected.no_warn
-        && expected.info.as_slice().is_empty()
-        && !expected.no_info
-        && !expected.ordered
-}
-
-/// Whether a command is none of the evaluations that aren't judged yet.
-fn is_judged(what: &What) -> bool
-    ensures { result ≡ is_judged what.now }
-{
-    match what {
-        What::Eval {
-            instant,
-            expected,
-            ..
-        } => *instant && expects_result_alone(expected),
-        What::Clear => true,
-        What::Load { .. } => true,
-    }
-}
-
-/// The line of the first evaluation that isn't judged yet.
-fn unjudged_line(commands: &[Command]) -> Option<u32>
-    ensures { result ≡ unjudged_line commands.now }
-{
-    for command in commands {
-        if !is_judged(&command.what) {
-            return Some(command.line);
-        }
-    }
-    None
-}
-
-/// A script whose evaluations can be judged and whose loads are taken, or its refusal.
+/// A script whose loads are taken, or its refusal.
 fn judge_script(alloc: Global, script: Script) -> Result<Script, FileFault>
-    ensures { GivesScript result (λ said. said ≡ script_judged script) }
+    ensures said { GivesScript result (λ said. said ≡ script_judged script) }
+    ensures same { IfOk result (λ s. s ≡ script) }
 {
-    if let Some(line) = unjudged_line(script.commands.as_slice()) {
-        return Err(FileFault::Refused(Refusal::Script(ScriptRefusal::Malformed(line))));
-    }
     match judge_loads(alloc, &script) {
         Ok(()) => Ok(script),
         Err(LoadFault::Refused(refusal)) => Err(FileFault::Refused(Refusal::Load(refusal))),
@@ -62,20 +23,25 @@ fn judge_script(alloc: Global, script: Script) -> Result<Script, FileFault>
     }
 }
 
-/// The script that a file holds.
-fn read_script(alloc: Global, bytes: &[u8]) -> Result<Script, ReadFault>
-    ensures { GivesFile result (IsReadAs bytes.now) }
+/// The script that a file holds; its search patterns are kept in `searches`.
+fn read_script(alloc: Global, bytes: &[u8], searches: &mut Patterns) -> Result<Script, ReadFault>
+    requires { searches.old ≡ [] }
+    ensures said { GivesFile result (IsReadAs searches.new bytes.now) }
+    ensures kept { IfOk result (KeepsPatterns searches.new) }
 {
-    let mut searches = Patterns::new(alloc);
-    script_read::read(alloc, bytes, &mut searches)
+    let script = script_read::read(alloc, bytes, searches);
+    scripts_keep_their_patterns();
+    script
 }
 
-/// The script that a file holds, where it can be run. `Refused` comes where the file isn't a script, has an evaluation of a
-/// form that isn't judged yet, or its loads are refused; the only other error is want of memory.
-pub fn read(alloc: Global, bytes: &[u8]) -> Result<Script, FileFault>
-    ensures { GivesScript result (IsRead bytes.now) }
+/// The script that a file holds, where it can be run; its search patterns are kept in `searches`. `Refused` comes where the
+/// file isn't a script or its loads are refused; the only other error is want of memory.
+pub fn read(alloc: Global, bytes: &[u8], searches: &mut Patterns) -> Result<Script, FileFault>
+    requires { searches.old ≡ [] }
+    ensures said { GivesScript result (IsReadWith searches.new bytes.now) }
+    ensures kept { IfOk result (KeepsPatterns searches.new) }
 {
-    match read_script(alloc, bytes) {
+    match read_script(alloc, bytes, searches) {
         Ok(script) => judge_script(alloc, script),
         Err(ReadFault::Refused(refusal)) => Err(FileFault::Refused(Refusal::Script(refusal))),
         Err(ReadFault::Memory) => Err(FileFault::Memory),

@@ -1,6 +1,6 @@
 ghost use Rattle.std.specs.Prelude.{◌≡◌};
 
-use crate::{Status, loads_put_their_samples, passes_exactly_where_rows_agree, run_tool};
+use crate::{Status, loads_put_their_samples, run_tool};
 use edge_io::{MemLibrary, MemSink};
 use holders::{Items, Text};
 use std::alloc::{AllocError, Global};
@@ -170,7 +170,7 @@ REFUSED a.test:1 Malformed|eval instant at 0|
 REFUSED a.test:1 Malformed|eval instant at 1e15 x|
 REFUSED a.test:1 Malformed|eval range at 0 x|
 REFUSED a.test:1 Malformed|eval instant in 0 x|
-REFUSED a.test:1 Malformed|eval_fail instant at 0 x|
+FAIL a.test:1 expected a failure;passed 0 failed 1|eval_fail instant at 0 x|
 FAIL a.test:1 expected a vector;passed 0 failed 1|eval instant at 0 nan|
 FAIL a.test:1 unexpected Expected at 2;passed 0 failed 1|eval instant at 0 x y|
 REFUSED a.test:2 Malformed|eval instant at 0 x|x|
@@ -196,7 +196,11 @@ PASS a.test:6;PASS a.test:9;PASS a.test:12;passed 3 failed 0|load 1m|h_bucket{le
 PASS a.test:7;PASS a.test:11;PASS a.test:15;passed 3 failed 0|load 1m|x{i="1"} 5|x{i="2"} 5|x{i="3"} 5|x{i="4"} NaN||eval instant at 0 topk(2, x)|x{i="1"} 5|x{i="2"} 5||eval instant at 0 sort(topk(2, x))|x{i="1"} 5|x{i="2"} 5||eval instant at 0 topk(2, sort(x))|x{i="1"} 5|x{i="2"} 5|
 PASS a.test:4;PASS a.test:7;passed 2 failed 0|load 1m|x 0+1x10||eval instant at 4m x @ end() offset 1m|x 3||eval instant at 4m x offset 1m @ end()|x 3|
 PASS a.test:5;passed 1 failed 0|load 1m|metric{a="b",c="d"} 2|metric{a="b"} 6||eval instant at 0 sum(metric{a="b",c="d"}) / scalar(sum(metric{a="b"}))|{} 0.25|
-FAIL a.test:5 missing y{a="1"};FAIL a.test:9 unexpected series x;passed 0 failed 2|load 1m|  x 0 60|  y 5||eval instant at 0 y|  y 5|  y{a="1"} 5||eval instant at 0 {__name__=~"x`7c`y"}|  y 5|
+FAIL a.test:5 expected a failure;FAIL a.test:7 expected no info;FAIL a.test:11 missing y{a="1"};FAIL a.test:15 unexpected series x;passed 0 failed 4|load 1m|  x 0 60|  y 5||eval_fail instant at 0 y||eval instant at 1m rate(x[5m])|  expect no_info|  {} 0.2||eval instant at 0 y|  y 5|  y{a="1"} 5||eval instant at 0 {__name__=~"x`7c`y"}|  y 5|
+PASS a.test:4;FAIL a.test:8 expected no warning;FAIL a.test:12 expected no warning;passed 1 failed 2|load 1m|x 5||eval instant at 0 quantile(2, x)|expect warn msg: quantile value should be between 0 and 1, got 2|{} Inf||eval instant at 0 quantile(2, x)|expect no_warn|{} Inf||eval instant at 0 quantile(2, x) + quantile(3, x)|expect warn msg: quantile value should be between 0 and 1, got 2|{} Inf|
+PASS a.test:4;PASS a.test:7;FAIL a.test:10 x at 120000 expected 4 got 3;FAIL a.test:13 x at 60000 expected nothing got 2;FAIL a.test:16 x at 0 expected 1 got nothing;passed 2 failed 3|load 1m|x 1 2 3||eval range from 0 to 2m step 1m x|x 1 2 3||eval range from 0 to 2m step 1m x > 1|x _ 2 3||eval range from 0 to 2m step 1m x|x 1 2 4||eval range from 0 to 2m step 1m x|x 1 _ 3||eval range from 0 to 2m step 1m x > 1|x 1 2 3|
+FAIL a.test:5 order at x;PASS a.test:9;passed 1 failed 1|load 1m|x 1|y 2||eval_ordered instant at 0 sort({__name__=~"x`7c`y"})|y 2|x 1||eval instant at 0 sort({__name__=~"x`7c`y"})|y 2|x 1|
+FAIL a.test:1 failure text Expected at 3;PASS a.test:4;PASS a.test:7;passed 2 failed 1|eval instant at 0 1 +|expect fail msg: Expected at 4||eval instant at 0 1 +|expect fail msg: Expected at 3||eval_fail instant at 0 1 +|expect fail regex: ^Exp|
 FAIL a.test:1 unexpected RefusedFunction sqrt at 0;FAIL a.test:3 unexpected RefusedFunction stddev at 0;FAIL a.test:5 unexpected UnknownFunction foo at 0;passed 0 failed 3|eval instant at 0 sqrt(x)||eval instant at 0 stddev(x)||eval instant at 0 foo(x)|
 PASS a.test:4;PASS a.test:7;passed 2 failed 0|load 1m|x{i="7"} 1||eval instant at 0 label_replace(x, "j", "$1", "i", "(.*)")|x{i="7",j="7"} 1||eval instant at 0 label_join(x, "k", "-", "i", "i")|x{i="7",k="7-7"} 1|
 PASS a.test:4;PASS a.test:6;PASS a.test:10;PASS a.test:13;passed 4 failed 0|load 1m|x{i="1"} 1||eval instant at 0 x unless x||eval instant at 0 x or vector(9)|{} 9|x{i="1"} 1||eval instant at 0 x or on() vector(9)|x{i="1"} 1||eval instant at 0 x and on() vector(9)|x{i="1"} 1|
@@ -220,17 +224,17 @@ REFUSED a.test:2 NumberRange|eval instant at 0 1|1e31|
 REFUSED a.test:3 Malformed|eval instant at 0 1|1|1e31|
 REFUSED a.test:1 Malformed|eval instant at 0`09` |
 REFUSED a.test:1 Malformed|eval instant at x 0|
-REFUSED a.test:1 Malformed|eval instant at 0 1|expect fail|
-REFUSED a.test:4 Malformed|load 5m|x 1||eval instant at 0 x|expect no_warn|x 1|
-REFUSED a.test:1 Malformed|eval_ordered instant at 0 x|
-REFUSED a.test:1 Malformed|eval_warn instant at 0 x|
-REFUSED a.test:1 Malformed|eval_info instant at 0 x|
-REFUSED a.test:1 Malformed|eval instant at 0 x|expect no_info|
-REFUSED a.test:1 Malformed|eval range from 0 to 1 step 1 x|
-REFUSED a.test:3 Malformed|eval instant at 0 x||eval range from 0 to 1 step 1 x||eval_fail instant at 0 x|
+FAIL a.test:1 expected a failure;passed 0 failed 1|eval instant at 0 1|expect fail|
+PASS a.test:4;passed 1 failed 0|load 5m|x 1||eval instant at 0 x|expect no_warn|x 1|
+PASS a.test:1;passed 1 failed 0|eval_ordered instant at 0 x|
+FAIL a.test:1 expected a warning;passed 0 failed 1|eval_warn instant at 0 x|
+FAIL a.test:1 expected an info;passed 0 failed 1|eval_info instant at 0 x|
+PASS a.test:1;passed 1 failed 0|eval instant at 0 x|expect no_info|
+PASS a.test:1;passed 1 failed 0|eval range from 0 to 1 step 1 x|
+PASS a.test:1;PASS a.test:3;FAIL a.test:5 expected a failure;passed 2 failed 1|eval instant at 0 x||eval range from 0 to 1 step 1 x||eval_fail instant at 0 x|
 REFUSED a.test:3 Malformed|eval_fail instant at 0 x||y|
-REFUSED a.test:5 Malformed|load 5m|x 1|x 2||eval_fail instant at 0 x|
-REFUSED a.test:1 Malformed|eval instant at 0 x|expect fail regex: a|
+REFUSED a.test:3 Conflict|load 5m|x 1|x 2||eval_fail instant at 0 x|
+FAIL a.test:1 expected a failure;passed 0 failed 1|eval instant at 0 x|expect fail regex: a|
 REFUSED a.test:2 BadPattern|eval instant at 0 x|expect fail regex: (|
 REFUSED a.test:1 NotUtf8|`ff`|load 5m|
 REFUSED a.test:4 NotUtf8|load 5m|x 1||# `c3`(||eval instant at 0 x|
@@ -451,9 +455,8 @@ fn row_runs_so(alloc: Global, row: &str) -> Result<bool, AllocError> {
 
 #[test]
 fn reports(rt: HostRuntime) -> Result<(), Fail> {
-    passes_exactly_where_rows_agree();
     loads_put_their_samples();
-    assert_eq!(rt; run_rows(&rt, rt.alloc(), REPORTS)?, 230);
+    assert_eq!(rt; run_rows(&rt, rt.alloc(), REPORTS)?, 234);
     assert_eq!(rt; run_rows(&rt, rt.alloc(), LONG)?, 5);
     Ok(())
 }

@@ -1,20 +1,20 @@
 //! The lines of a report.
-ghost use Rattle.promql_tool.specs.OutcomeTexts.{outcome_text};
-ghost use Rattle.promql_tool.specs.Report.{fault_text, load_line, load_name, reason_text, refusal_name, refusal_text, refused_line, script_line, script_name, totals_text, value_text, values_text, verdict_text};
-ghost use Rattle.promql_tool.specs.declared.verdict.Reason.TheVariants.{Differs, ScalarDiffers};
-ghost use Rattle.std.specs.Prelude.{◌≡◌, ◌++◌, string_bytes, IfOk, OnOk};
+ghost use Rattle.label_set.specs.LabelText.{labels_text};
+ghost use Rattle.promql_tool.specs.Report.{fault_text, load_line, load_name, reason_text, refusal_name, refusal_text, refused_line, script_line, script_name, time_text, totals_text, value_text, values_text, verdict_text};
+ghost use Rattle.std.specs.Fmt.{signed_decimal};
+ghost use Rattle.std.specs.Prelude.{◌≡◌, ◌++◌, codes, string_bytes, IfOk, OnOk, Some};
 
 use crate::fault::{LoadRefusal, Refusal};
-use crate::outcome_text::{append_labelled, append_outcome};
-use crate::verdict::{Reason, Verdict};
+use crate::judged::Judged;
 use frac_text::write_number;
 use label_set::Labels;
-use promql_meaning::Outcome;
+use script_check::{Reason, Verdict};
 use script_read::ScriptRefusal;
 use std::alloc::{AllocError, Global};
+use ticks::Ms;
 use xfrac::XFrac;
 
-/// Appends a scalar's value, or that it has none.
+/// Appends a value, or that there is none.
 fn append_value(value: Option<XFrac>, into: &mut Vec<u8>) -> Result<(), AllocError>
     ensures { OnOk result (into.new.items ≡ into.old.items ++ value_text value) }
 {
@@ -24,80 +24,125 @@ fn append_value(value: Option<XFrac>, into: &mut Vec<u8>) -> Result<(), AllocErr
     }
 }
 
-/// Appends a text, and that of an outcome behind it.
-fn append_told(
-    alloc: Global,
-    text: &str,
-    outcome: &Outcome,
-    into: &mut Vec<u8>,
-) -> Result<(), AllocError>
-    ensures { OnOk result (into.new.items ≡ into.old.items ++ (text.now ++ outcome_text outcome.now)) }
+/// Appends a text, and one behind it.
+fn append_both(text: &str, behind: &[u8], into: &mut Vec<u8>) -> Result<(), AllocError>
+    ensures { OnOk result (into.new.items ≡ into.old.items ++ (text.now ++ behind.now)) }
 {
     into.extend_from_slice(text.as_bytes())?;
-    append_outcome(alloc, outcome, into)
+    into.extend_from_slice(behind)
+}
+
+/// Appends a text, and labels behind it.
+fn append_labelled(text: &str, labels: &Labels, into: &mut Vec<u8>) -> Result<(), AllocError>
+    ensures { OnOk result (into.new.items ≡ into.old.items ++ (text.now ++ labels_text labels.now)) }
+{
+    into.extend_from_slice(text.as_bytes())?;
+    labels.write(into)
 }
 
 /// Appends which value was expected, and which is there instead.
-fn append_values(wanted: &XFrac, got: Option<XFrac>, into: &mut Vec<u8>) -> Result<(), AllocError>
-    ensures { OnOk result (into.new.items ≡ into.old.items ++ values_text wanted.now got) }
+fn append_values(
+    wanted: Option<XFrac>,
+    got: Option<XFrac>,
+    into: &mut Vec<u8>,
+) -> Result<(), AllocError>
+    ensures { OnOk result (into.new.items ≡ into.old.items ++ values_text wanted got) }
 {
     into.extend_from_slice(b" expected ")?;
-    write_number(wanted, into)?;
+    append_value(wanted, into)?;
     into.extend_from_slice(b" got ")?;
     append_value(got, into)
 }
 
-fn append_differing(
-    labels: &Labels,
-    wanted: &XFrac,
-    got: &XFrac,
-    into: &mut Vec<u8>,
-) -> Result<(), AllocError>
-    ensures { OnOk result (into.new.items ≡ into.old.items ++ reason_text (Differs labels.now wanted.now got.now)) }
+fn moment_text(alloc: Global, at: i64) -> Result<String, AllocError>
+    ensures { IfOk result (λ text. string_bytes text ≡ codes " at " ++ signed_decimal at) }
 {
-    labels.write(into)?;
-    append_values(wanted, Some(*got), into)
+    format!(in alloc; " at {at}")
 }
 
-fn append_scalar_differing(
-    wanted: &XFrac,
+/// Appends the time of a value, which isn't told at an instant.
+fn append_time(alloc: Global, instant: bool, at: Ms, into: &mut Vec<u8>) -> Result<(), AllocError>
+    ensures { OnOk result (into.new.items ≡ into.old.items ++ time_text instant at) }
+{
+    if instant {
+        return Ok(());
+    }
+    let text = moment_text(alloc, at.0)?;
+    into.extend_from_slice(text.as_bytes())
+}
+
+/// Appends the reason of a value that isn't near the expected one.
+fn append_differing(
+    alloc: Global,
+    instant: bool,
+    labels: &Labels,
+    at: Ms,
+    wanted: Option<XFrac>,
     got: Option<XFrac>,
     into: &mut Vec<u8>,
 ) -> Result<(), AllocError>
-    ensures { OnOk result (into.new.items ≡ into.old.items ++ reason_text (ScalarDiffers wanted.now got)) }
+    ensures { OnOk result (into.new.items ≡ into.old.items ++ (labels_text labels.now ++ (time_text instant at ++ values_text wanted got))) }
 {
-    into.extend_from_slice(b"scalar")?;
+    labels.write(into)?;
+    append_time(alloc, instant, at, into)?;
     append_values(wanted, got, into)
 }
 
-fn append_reason(alloc: Global, reason: &Reason, into: &mut Vec<u8>) -> Result<(), AllocError>
-    ensures { OnOk result (into.new.items ≡ into.old.items ++ reason_text reason.now) }
+fn append_scalar_differing(
+    wanted: XFrac,
+    got: Option<XFrac>,
+    into: &mut Vec<u8>,
+) -> Result<(), AllocError>
+    ensures { OnOk result (into.new.items ≡ into.old.items ++ (codes "scalar" ++ values_text (Some wanted) got)) }
+{
+    into.extend_from_slice(b"scalar")?;
+    append_values(Some(wanted), got, into)
+}
+
+/// Appends a reason; the text of the outcome stands in those where there is no answer.
+fn append_reason(
+    alloc: Global,
+    instant: bool,
+    outcome: &[u8],
+    reason: &Reason,
+    into: &mut Vec<u8>,
+) -> Result<(), AllocError>
+    ensures { OnOk result (into.new.items ≡ into.old.items ++ reason_text instant outcome.now reason.now) }
 {
     match reason {
-        Reason::Unexpected(outcome) => append_told(alloc, "unexpected ", outcome, into),
+        Reason::NoFailure => into.extend_from_slice(b"expected a failure"),
+        Reason::Unexpected => append_both("unexpected ", outcome, into),
+        Reason::FailureText => append_both("failure text ", outcome, into),
+        Reason::NoWarning => into.extend_from_slice(b"expected a warning"),
+        Reason::Warned => into.extend_from_slice(b"expected no warning"),
+        Reason::NoInfo => into.extend_from_slice(b"expected an info"),
+        Reason::Informed => into.extend_from_slice(b"expected no info"),
         Reason::NotScalar => into.extend_from_slice(b"expected a scalar"),
         Reason::NotVector => into.extend_from_slice(b"expected a vector"),
         Reason::Missing(labels) => append_labelled("missing ", labels, into),
         Reason::Extra(labels) => append_labelled("unexpected series ", labels, into),
         Reason::Differs {
             labels,
+            at,
             wanted,
             got,
-        } => append_differing(labels, wanted, got, into),
-        Reason::ScalarDiffers { wanted, got } => append_scalar_differing(wanted, *got, into),
+        } => append_differing(alloc, instant, labels, *at, *wanted, *got, into),
+        Reason::ScalarDiffers { wanted, got } => append_scalar_differing(*wanted, *got, into),
+        Reason::Order(labels) => append_labelled("order at ", labels, into),
     }
 }
 
 /// The line of a verdict.
-pub fn verdict_line(alloc: Global, path: &str, verdict: &Verdict) -> Result<Vec<u8>, AllocError>
-    ensures { IfOk result (λ text. text.items ≡ verdict_text path.now verdict.now) }
+pub fn verdict_line(alloc: Global, path: &str, judged: &Judged) -> Result<Vec<u8>, AllocError>
+    ensures { IfOk result (λ text. text.items ≡ verdict_text path.now judged.now) }
 {
-    let line = verdict.line;
-    match &verdict.reason {
-        None => Ok(format!(in alloc; "PASS {path}:{line}\n")?.into_bytes()),
-        Some(reason) => {
+    let line = judged.line;
+    match &judged.verdict {
+        Verdict::Pass => Ok(format!(in alloc; "PASS {path}:{line}\n")?.into_bytes()),
+        Verdict::Fail(reason) => {
             let mut text = format!(in alloc; "FAIL {path}:{line} ")?.into_bytes();
-            append_reason(alloc, reason, &mut text)?;
+            let outcome = judged.outcome.as_slice();
+            append_reason(alloc, judged.instant, outcome, reason, &mut text)?;
             text.extend_from_slice(b"\n")?;
             Ok(text)
         }
