@@ -90,7 +90,7 @@ wanted 'what stays in the folder' 'lock promql toolchain' "$(ls -A "$at/bin/.cac
 part 'what is printed while it builds'
 checkout "$at"
 wanted 'the report' "$good" "$(report "$at")"
-wanted 'the lines' 'promqltest: the crates are proved first, once: about 15 minutes on four processors
+wanted 'the lines' 'promqltest: the crates are proved first, once: up to an hour on four processors
 promqltest: proved low, 1 of 2
 promqltest: proved promql, 2 of 2' "$(cat "$room/said")"
 wanted 'the second report' "$good" "$(report "$at")"
