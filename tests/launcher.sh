@@ -4,7 +4,7 @@
 set -u
 export LC_ALL=C
 here=$(cd -- "$(dirname -- "${BASH_SOURCE[0]}")" && pwd)
-launcher=$here/../bin/promqltest
+launchers=$here/../bin
 room=$(mktemp -d) && chmod 755 "$room"
 [ -n "${KEEP:-}" ] || trap 'chmod -R u+w "$room"; rm -rf "$room"' EXIT
 export HOME=$room/home XDG_CACHE_HOME=
@@ -58,7 +58,7 @@ echo good >"$room/kit/mode"
 checkout() {
     rm -rf -- "$1"
     mkdir -p -- "$1/bin" "$1/docs" "$1"/crates/{low,side,promql}/src
-    cp -- "$launcher" "$1/bin/promqltest"
+    cp -- "$launchers"/{promqltest,query,workload} "$1/bin/"
     printf '# crates\nlow: kit_crate\nside: low\npromql: low # the program\n' >"$1/crates.txt"
     echo 'Handles allowed: none.' >"$1/HANDLES"
     printf 'pub mod part;\n\n#[cfg(test)]\nmod tests;\n' | tee "$1/crates/low/src/lib.rt" >"$1/crates/side/src/lib.rt"
@@ -209,14 +209,24 @@ wanted 'no folder to write' 70 "$(HOME=/proc/none "${run[@]}" "$at/bin/promqltes
 wanted 'its lines' 1 "$(grep -c 'no folder for it can be written' "$room/said")"
 chmod -R u+w "$at"
 
+part 'the other first words'
+checkout "$at"
+wanted 'a query' 'query a.test answer 1' "$("$at/bin/query" a.test 2>"$room/said")"
+wanted 'who says so' query "$(sed 's/:.*//' "$room/said" | sort -u)"
+wanted 'a workload' 'workload 7 answer 1' "$(cd "$at/bin" && ./workload 7 2>&1)"
+wanted 'a query by PATH' 'query b.test answer 1' "$(cd / && PATH=$at/bin:$PATH && query b.test 2>&1)"
+wanted 'builds' 1 "$(builds)"
+
 part 'a path with blanks, and links'
 blank="$room/a  path with 'blanks'"
 checkout "$blank"
 wanted 'the report' "$good" "$(report "$blank")"
 mkdir "$room/links"
 ln -s "$blank/bin/promqltest" "$room/links/first"
-ln -s first "$room/links/query"
-wanted 'the first word' 'query a b.test answer 1' "$(cd / && "$room/links/query" 'a b.test' 2>&1)"
+ln -s "$blank/bin/query" "$room/links/query"
+ln -s first "$room/links/second"
+wanted 'a link' 'query a b.test answer 1' "$(cd / && "$room/links/query" 'a b.test' 2>&1)"
+wanted 'a link to a link' 'second a b.test answer 1' "$(cd / && "$room/links/second" 'a b.test' 2>&1)"
 wanted 'the first word by PATH' 'first a.test answer 1' "$(cd / && PATH=$room/links:$PATH && first a.test 2>&1)"
 wanted 'builds' 1 "$(builds)"
 

@@ -2,8 +2,12 @@
 use Rattle.std.proofs.Common.{◌≡◌, ◌<◌, ℕ, ◌+◌, List, [], ◌∷◌, ◌++◌, length, take, drop, get_or, Option, None, Some, Result, Ok, Err, OnErr, refl, sym, ap, ◌∙◌, append_assoc, take-append-drop}
 use Rattle.std.proofs.lemmas.List.{append-nil, drop_more}
 use Rattle.std.specs.List.{flat_map}
+use Rattle.std.proofs.lemmas.List.Folds.{flat_map-map}
 use Rattle.std.proofs.lemmas.List.Concat.{flat_map-append}
+use Rattle.std.specs.Prelude.{Vec}
+use Rattle.std.specs.declared.alloc.Global.{Global}
 use Rattle.edge_io.specs.Written.{appended, WroteFront}
+use Rattle.promql_tool.specs.Runs.{bytes_of}
 
 -- one piece behind another
 pub appended-appended : (before : Option (List ℕ)) (xs ys : List ℕ) → appended (appended before xs) ys ≡ appended before (xs ++ ys)
@@ -33,6 +37,14 @@ pub flat_parted : {X : Type 0} (f : X → List ℕ) (xs : List X) (i : ℕ) (d :
 flat_parted f xs i d lt =
     sym (flat_map-append f (take i xs) (get_or xs i d ∷ drop (i + 1) xs))
     ∙ ap (flat_map f) (ap (λ l. take i xs ++ l) (sym (drop_more xs i d lt)) ∙ take-append-drop i xs)
+
+-- the lines of lists of bytes, parted at one of them
+pub lines_parted : (lines : List (Vec ℕ Global)) (i : ℕ) (d : Vec ℕ Global) → i < length lines
+    → flat_map (λ (line : List ℕ). line) (bytes_of (take i lines)) ++ ((get_or lines i d).items ++ flat_map (λ (line : List ℕ). line) (bytes_of (drop (i + 1) lines)))
+    ≡ flat_map (λ (line : List ℕ). line) (bytes_of lines)
+lines_parted lines i d lt =
+    let flat = flat_map-map (λ (line : List ℕ). line) (λ (line : Vec ℕ Global). line.items) in
+    rw (flat (take i lines), flat (drop (i + 1) lines), flat lines) (flat_parted (λ (line : Vec ℕ Global). line.items) lines i d lt)
 
 -- a front of the first piece
 pub front_first : {before now : Option (List ℕ)} (piece rest : List ℕ) → WroteFront before now piece → WroteFront before now (piece ++ rest)

@@ -1,12 +1,15 @@
 -- How a run may end. (This project's own.)
-use Rattle.std.specs.Prelude.{◌≡◌, ◌==◌, ℕ, List, IsTrue, Option, Some, MatchOption, Err}
+use Rattle.std.specs.Prelude.{◌≡◌, ◌==◌, ℕ, List, [], ◌∷◌, ◌++◌, IsTrue, Option, None, Some}
 use Rattle.std.specs.List.{list_any}
-use Rattle.edge_io.specs.Causes.{Rose}
 use Rattle.edge_io.specs.Written.{appended, WroteFront}
-use Rattle.promql_tool.specs.Report.{IsReportFound, Report, path_of, refusal_text, usage, usage_report}
-use Rattle.promql_tool.specs.Reading.{IsRead}
+use Rattle.tool_words.specs.Asked.{Wish, asked, test, workload}
+use Rattle.promql_tool.specs.Files.{Begins, Gone, JudgedFile, Refused, Sees, files_text}
+use Rattle.promql_tool.specs.Found.{Just}
+use Rattle.promql_tool.specs.Reading.{IsNoScript, IsRefusedFor}
+use Rattle.promql_tool.specs.Report.{IsReport, files_of}
+use Rattle.promql_tool.specs.Texts.{Report, fault_text, refusal_text}
+use Rattle.promql_tool.specs.Workload.{loaded_text, workload_path, workload_text}
 use Rattle.promql_tool.specs.declared.fault.Refusal.{Refusal}
-use Rattle.promql_tool.specs.Found.{IsFound}
 
 -- a status is among some
 abbrev pub IsOneOf : List ℕ → ℕ → Type 0
@@ -17,51 +20,41 @@ pub record Reports (before now : Option (List ℕ)) (status : ℕ) (report : Rep
   pub status_is : status ≡ report.status
   pub text_is : now ≡ appended before report.text
 
--- what a sink has taken and how often it failed, before and now, and whether it never fails
-pub record SinkRun : Type 1 where
-  pub before : Option (List ℕ)
-  pub now : Option (List ℕ)
-  pub faults_before : ℕ
-  pub faults_now : ℕ
-  pub sound : Type 0
+-- A file is refused: the lines of the files before it were written, and then its refusal. Or the script of a workload is refused:
+-- how much it loads was written, and then its refusal.
+pub data IsRefused (words : List (List ℕ)) (found : List ℕ → Option (List ℕ) → Type 0) (before now : Option (List ℕ)) : Type 0 where
+  refuses : (files : List JudgedFile) (path : List ℕ) (refusal : Refusal) → Sees found (files_of words) files (Refused path refusal)
+      → now ≡ appended before (files_text files ++ refusal_text path refusal) → IsRefused words found before now
+  makes : (series : ℕ) (refusal : Refusal) → asked words ≡ Some (workload series) → IsRefusedFor (workload_text series) refusal
+      → now ≡ appended before (loaded_text series ++ refusal_text workload_path refusal) → IsRefused words found before now
 
--- A report was printed, or its printing was cut off: by a write that failed, or by want of memory. Then a front of its
--- text was written.
-pub data Ends (out : SinkRun) (report : Report) (status : ℕ) : Type 0 where
-  Whole : Reports out.before out.now status report → Ends out report status
-  Failed : status ≡ 4 → Rose out.faults_before out.faults_now → (out.sound → ⊥) → WroteFront out.before out.now report.text → Ends out report status
-  Short : status ≡ 7 → WroteFront out.before out.now report.text → Ends out report status
+-- A file isn't there. The lines of the files before it were written, and then its fault.
+pub record IsGone (paths : List (List ℕ)) (found : List ℕ → Option (List ℕ) → Type 0) (before now : Option (List ℕ)) : Type 0 where
+  pub files : List JudgedFile
+  pub path : List ℕ
+  pub seen : Sees found paths files (Gone path)
+  pub written : now ≡ appended before (files_text files ++ fault_text path)
 
--- what a library tells, how often it failed, before and now, and whether only absent files fail
-pub record LibraryRun : Type 1 where
-  pub told : Option (List ℕ → Option (List ℕ))
-  pub faults_before : ℕ
-  pub faults_now : ℕ
-  pub sound : Type 0
+-- a file that isn't there, or holds no script that is run
+abbrev pub IsUnrun : Option (List ℕ) → Type 0
+IsUnrun None = Unit {0}
+IsUnrun (Some bytes) = IsNoScript bytes
 
--- The run of a path: memory ran out before anything was written, or a report of what a fetch of it found was printed.
-pub data RunsPath (library : LibraryRun) (out : SinkRun) (status : ℕ) (path : List ℕ) : Type 0 where
-  Unread : status ≡ 7 → out.now ≡ out.before → RunsPath library out status path
-  Read : (found : Option (List ℕ)) (report : Report) → IsFound library.told library.sound path found → IsReportFound path found report → (status ≡ 3 → Rose library.faults_before library.faults_now)
-      → Ends out report status → RunsPath library out status path
+-- the first of the files is such, if there is one
+abbrev pub IfFirst : List (List ℕ) → (List ℕ → Type 0) → Type 0
+IfFirst [] IsSuch = Unit {0}
+IfFirst (path ∷ paths) IsSuch = IsSuch path
 
--- the run of these words
-abbrev pub RunsWords : List (List ℕ) → LibraryRun → SinkRun → ℕ → Type 0
-RunsWords words library out status = MatchOption (path_of words) (Ends out usage_report status) (RunsPath library out status)
+-- the script of a workload is such, if the words ask for one
+abbrev pub IfMade : Option Wish → (List ℕ → Type 0) → Type 0
+IfMade (Some (workload series)) IsSuch = IsSuch (workload_text series)
+IfMade _ IsSuch = Unit {0}
 
--- Nothing was written, or a front of a report of what a fetch found.
-pub data IsCutPath (told : Option (List ℕ → Option (List ℕ))) (sound : Type 0) (before now : Option (List ℕ)) (path : List ℕ) : Type 0 where
-  Unwritten : now ≡ before → IsCutPath told sound before now path
-  Front : (found : Option (List ℕ)) (report : Report) → IsFound told sound path found → IsReportFound path found report → WroteFront before now report.text → IsCutPath told sound before now path
-
--- A front was written of what the run would have printed: the usage line, or a report of what a fetch found.
-abbrev pub IsCut : List (List ℕ) → Option (List ℕ → Option (List ℕ)) → Type 0 → Option (List ℕ) → Option (List ℕ) → Type 0
-IsCut words told sound before now = MatchOption (path_of words) (WroteFront before now usage) (IsCutPath told sound before now)
-
--- the bytes of a file are refused, and the line of that refusal was printed
-pub record IsRefused (path : List ℕ) (found : Option (List ℕ)) (before now : Option (List ℕ)) : Type 0 where
-  pub bytes : List ℕ
-  pub refusal : Refusal
-  pub fetched : found ≡ Some bytes
-  pub is : IsRead bytes (Err refusal)
-  pub printed : now ≡ appended before (refusal_text path refusal)
+-- A run that was cut off: nothing was written, or a front of a report, or a front of what a run over files writes at first; of a
+-- workload, behind how much it loads.
+pub data IsCut (words : List (List ℕ)) (found : List ℕ → Option (List ℕ) → Type 0) (before now : Option (List ℕ)) : Type 0 where
+  unwritten : now ≡ before → IsCut words found before now
+  reporting : (report : Report) → IsReport words found report → WroteFront before now report.text → IsCut words found before now
+  judging : (paths : List (List ℕ)) (text : List ℕ) → asked words ≡ Some (test paths) → Begins found paths text → WroteFront before now text → IsCut words found before now
+  working : (series : ℕ) (text : List ℕ) → asked words ≡ Some (workload series) → Begins (Just (workload_text series)) (workload_path ∷ []) text → WroteFront before now (loaded_text series ++ text)
+      → IsCut words found before now

@@ -1,8 +1,9 @@
-pub mod Loads
 pub mod Reading
-pub mod Readings
-pub mod Verdicts
-pub mod Runs
-pub mod Report
 pub mod Found
+pub mod Texts
+pub mod Files
+pub mod Query
+pub mod Workload
+pub mod Report
 pub mod Ends
+pub mod Runs

@@ -1,22 +1,192 @@
--- How running a command ends.
-use Rattle.std.specs.Prelude.{◌≡◌, ℕ, List, [], ◌∷◌, ◌++◌, Result, Err}
-use Rattle.sample_store.specs.Samples.{AllSeries}
-use Rattle.script_check.specs.Verdicts.{PatternList}
-use Rattle.promql_tool.specs.Verdicts.{IsJudgement}
-use Rattle.promql_tool.specs.declared.fault.LoadRefusal.{LoadRefusal}
-use Rattle.promql_tool.specs.declared.fault.LoadFault.{LoadFault}
-use Rattle.promql_tool.specs.declared.fault.LoadFault.TheVariants.{Refused, Memory}
+-- What the values of the code say of a run.
+use Rattle.std.specs.Prelude.{◌≡◌, ℕ, Bool, List, [], ◌∷◌, ◌++◌, Option, None, Some, Result, Ok, Err, Vec, map}
+use Rattle.std.specs.declared.alloc.Global.{Global}
+use Rattle.edge_io.specs.Written.{appended, WroteFront}
+use Rattle.edge_io.specs.declared.sink.SinkFail.{SinkFail}
+use Rattle.promql_meaning.specs.declared.answer.Outcome.{Outcome}
+use Rattle.script_read.specs.Outcomes.{PatternList}
+use Rattle.script_read.specs.declared.fault.ReadFault.{ReadFault}
+use Rattle.script_read.specs.declared.fault.ReadFault.TheVariants as read
 use Rattle.script_read.specs.declared.script.Script.{Script}
-use Rattle.script_read.specs.declared.script.What.{What}
-use Rattle.script_read.specs.declared.script.What.TheVariants.{Eval}
-use Rattle.promql_tool.specs.declared.judged.Judged.{Judged}
+use Rattle.script_read.specs.declared.script.ScriptRefusal.{ScriptRefusal}
+use Rattle.sample_store.specs.Samples.{AllSeries}
+use Rattle.test_runner.specs.Lines.{failed_in, lines_text, passed_in}
+use Rattle.test_runner.specs.Loads.{samples_left}
+use Rattle.test_runner.specs.Running.{HasRun, IsAnswerOver, WasCut}
+use Rattle.test_runner.specs.Verdicts.{Judged}
+use Rattle.test_runner.specs.declared.fault.RunnerFault.TheVariants as runner
+use Rattle.test_runner.specs.declared.totals.Totals.{Totals}
+use Rattle.ticks.specs.declared.grid.Grid.{Grid}
+use Rattle.tool_words.specs.Asked.{asked, query, test, workload}
+use Rattle.tool_words.specs.Views.{moments_in}
+use Rattle.promql_tool.specs.Ends.{IsOneOf, Reports}
+use Rattle.promql_tool.specs.Files.{Begins, Gone as GoneAt, IsJudged, IsRunning, JudgedFile, Last, Refused as RefusedAt, Sees, report_of}
+use Rattle.promql_tool.specs.Found.{Just}
+use Rattle.promql_tool.specs.Query.{AreNoteLines, Queried, notes_in, outcome_report}
+use Rattle.promql_tool.specs.Reading.{IsReadAs, IsRefusedFor}
+use Rattle.promql_tool.specs.Report.{workload_report}
+use Rattle.promql_tool.specs.Texts.{Report, fault_report, refusal_report, usage_report}
+use Rattle.promql_tool.specs.Workload.{loaded_text, workload_path, workload_text}
+use Rattle.promql_tool.specs.declared.fault.Refusal.{Refusal}
+use Rattle.promql_tool.specs.declared.fault.Refusal.TheVariants as refusal
+use Rattle.promql_tool.specs.declared.fault.Stop.{Stop}
+use Rattle.promql_tool.specs.declared.fault.Stop.TheVariants.{Gone, Refused}
+use Rattle.promql_tool.specs.declared.fetch.File.{File}
+use Rattle.promql_tool.specs.declared.fetch.File.TheVariants as file
+use Rattle.promql_tool.specs.declared.judge.FileEnd.{FileEnd}
+use Rattle.promql_tool.specs.declared.judge.FileEnd.TheVariants.{Judged as JudgedTo, Stopped}
+use Rattle.promql_tool.specs.declared.print.Status.{Status}
+use Rattle.promql_tool.specs.declared.query.Answered.{Answered}
+use Rattle.promql_tool.specs.declared.query.Answered.TheVariants as answered
 
--- the verdict of a command was added, where it is an evaluation
-abbrev pub Judges : PatternList → AllSeries → ℕ → What → List Judged → List Judged → Type 0
-Judges kept series line (Eval grid instant text expected) before now = (judged : Judged) × IsJudgement kept series line text grid instant expected judged × (now ≡ before ++ judged ∷ [])
-Judges kept series line _ before now = now ≡ before
+-- what a fetch of a path finds: bytes, or none
+abbrev pub Finds : Type 1
+Finds = List ℕ → Option (List ℕ) → Type 0
 
--- a refusal is what is said, and want of memory may always come
-abbrev pub IsRefusedFor : Result Script LoadRefusal → LoadFault → Type 0
-IsRefusedFor said (Refused refusal) = said ≡ Err refusal
-IsRefusedFor said Memory = Unit {0}
+-- ---- one file
+
+-- a file isn't run: it isn't there, or its bytes are refused
+abbrev pub Stops : Finds → List ℕ → Stop → Type 0
+Stops found path Gone = found path None
+Stops found path (Refused refusal) = (bytes : List ℕ) × found path (Some bytes) × IsRefusedFor bytes refusal
+
+-- what a file is that was fetched
+abbrev pub IsFile : Finds → List ℕ → File → Type 0
+IsFile found path (file.Bytes bytes) = found path (Some bytes)
+IsFile found path (file.Stopped stop) = Stops found path stop
+
+-- what was read of a file is such, unless memory ran out
+abbrev pub GivesFile : Result Script ReadFault → (Result Script ScriptRefusal → Type 0) → Type 0
+GivesFile (Ok script) IsSuch = IsSuch (Ok script)
+GivesFile (Err (read.Refused refusal)) IsSuch = IsSuch (Err refusal)
+GivesFile (Err read.Memory) IsSuch = Unit {0}
+
+-- why the loads of a script are refused
+abbrev pub RefusesLoads : Script → Refusal → Type 0
+RefusesLoads script (refusal.Script refused) = ⊥
+RefusesLoads script (refusal.Range line) = samples_left script ≡ Err (runner.Range line)
+RefusesLoads script (refusal.Load refused) = samples_left script ≡ Err (runner.Refused refused)
+
+-- what a script came to that was run
+abbrev pub ScriptComesTo : PatternList → List ℕ → Script → Option (List ℕ) → Option (List ℕ) → Type 0 → FileEnd → Type 0
+ScriptComesTo kept path script before now idle (JudgedTo totals) = HasRun kept path script before now totals × (series : AllSeries) × (samples_left script ≡ Ok series)
+ScriptComesTo kept path script before now idle (Stopped Gone) = ⊥
+ScriptComesTo kept path script before now idle (Stopped (Refused refusal)) = RefusesLoads script refusal × (now ≡ before) × idle
+
+-- A run over a script was cut off: nothing was written, or its loads are taken and a front of its lines was written.
+pub data IsCutScript (kept : PatternList) (path : List ℕ) (script : Script) (before now : Option (List ℕ)) : Type 0 where
+  Unrun : now ≡ before → IsCutScript kept path script before now
+  Cut : (series : AllSeries) → samples_left script ≡ Ok series → WasCut kept path script before now → IsCutScript kept path script before now
+
+-- a file was judged, its lines were written, and so many of its evaluations pass and fail
+pub record HasJudged (found : List ℕ → Option (List ℕ) → Type 0) (path : List ℕ) (before now : Option (List ℕ)) (totals : Totals) : Type 0 where
+  pub verdicts : List Judged
+  pub judged : IsJudged found path verdicts
+  pub written : now ≡ appended before (lines_text path verdicts)
+  pub passed : totals.passed ≡ passed_in verdicts
+  pub failed : totals.failed ≡ failed_in verdicts
+
+-- what a file came to; `idle` holds where nothing was evaluated
+abbrev pub ComesTo : Finds → List ℕ → Option (List ℕ) → Option (List ℕ) → Type 0 → FileEnd → Type 0
+ComesTo found path before now idle (JudgedTo totals) = HasJudged found path before now totals
+ComesTo found path before now idle (Stopped stop) = Stops found path stop × (now ≡ before) × idle
+
+-- A run over a file was cut off: nothing was written, or a front of the lines of its first verdicts.
+pub data IsCutFile (found : List ℕ → Option (List ℕ) → Type 0) (path : List ℕ) (before now : Option (List ℕ)) : Type 0 where
+  Unwritten : now ≡ before → IsCutFile found path before now
+  Running : (verdicts : List Judged) → IsRunning found path verdicts → WroteFront before now (lines_text path verdicts) → IsCutFile found path before now
+
+-- ---- queries
+
+-- what a query over a script came to
+abbrev pub AnswersScript : Script → List ℕ → Grid → Bool → Type 0 → Answered → Type 0
+AnswersScript script expr grid instant idle (answered.Outcome got) = IsAnswerOver script expr grid instant got
+AnswersScript script expr grid instant idle (answered.Stopped Gone) = ⊥
+AnswersScript script expr grid instant idle (answered.Stopped (Refused refusal)) = RefusesLoads script refusal × idle
+
+-- a query over a file has this outcome
+pub record IsAnswered (found : List ℕ → Option (List ℕ) → Type 0) (path expr : List ℕ) (grid : Grid) (instant : Bool) (got : Outcome) : Type 0 where
+  pub bytes : List ℕ
+  pub is_found : found path (Some bytes)
+  pub kept : PatternList
+  pub script : Script
+  pub is_read : IsReadAs kept bytes (Ok script)
+  pub over : IsAnswerOver script expr grid instant got
+
+-- what a query over a file came to
+abbrev pub AnswersFile : Finds → List ℕ → List ℕ → Grid → Bool → Type 0 → Answered → Type 0
+AnswersFile found path expr grid instant idle (answered.Outcome got) = IsAnswered found path expr grid instant got
+AnswersFile found path expr grid instant idle (answered.Stopped stop) = Stops found path stop × idle
+
+-- ---- reports
+
+-- A report was written and its status is answered, or the run was cut off.
+abbrev pub Ends : (Report → Type 0) → Type 0 → Option (List ℕ) → Option (List ℕ) → Result Status SinkFail → Type 0
+Ends IsSuch IsCut before now (Ok status) = (report : Report) × IsSuch report × Reports before now status.0 report
+Ends IsSuch IsCut before now (Err cause) = IsCut
+
+-- what ends a run over files at one that isn't run
+abbrev pub last_at : List ℕ → Stop → Last
+last_at path Gone = GoneAt path
+last_at path (Refused refusal) = RefusedAt path refusal
+
+-- a report of files; nothing was evaluated where no file was judged
+pub record ReportsFiles (found : List ℕ → Option (List ℕ) → Type 0) (paths : List (List ℕ)) (idle : Type 0) (report : Report) : Type 0 where
+  pub files : List JudgedFile
+  pub last : Last
+  pub seen : Sees found paths files last
+  pub is : report ≡ report_of files last
+  pub rests : files ≡ [] → idle
+
+-- a run over files was cut off, before its last line or in it
+pub data IsCutFiles (found : List ℕ → Option (List ℕ) → Type 0) (paths : List (List ℕ)) (before now : Option (List ℕ)) : Type 0 where
+  Early : (text : List ℕ) → Begins found paths text → WroteFront before now text → IsCutFiles found paths before now
+  Late : (files : List JudgedFile) (last : Last) → Sees found paths files last → WroteFront before now (report_of files last).text → IsCutFiles found paths before now
+
+-- a report of a query; nothing was evaluated where the file isn't run
+pub record ReportsQuery (found : List ℕ → Option (List ℕ) → Type 0) (path expr : List ℕ) (grid : Grid) (instant : Bool) (idle : Type 0) (report : Report) : Type 0 where
+  pub is : Queried found path expr grid instant report
+  pub rests : IsOneOf (3 ∷ 6 ∷ []) report.status → idle
+
+-- nothing was written, or a front of such a report
+pub data IsCutReport (IsSuch : Report → Type 0) (before now : Option (List ℕ)) : Type 0 where
+  Nothing : now ≡ before → IsCutReport IsSuch before now
+  Partly : (report : Report) → IsSuch report → WroteFront before now report.text → IsCutReport IsSuch before now
+
+-- the report of a file that isn't run
+abbrev pub stop_report : List ℕ → Stop → Report
+stop_report path Gone = fault_report path
+stop_report path (Refused refusal) = refusal_report path refusal
+
+-- the report of what a query came to
+abbrev pub ReportsAnswered : List ℕ → Answered → Report → Type 0
+ReportsAnswered path (answered.Outcome got) report = (notes : List (List ℕ)) × AreNoteLines (notes_in got) notes × (report ≡ outcome_report got notes)
+ReportsAnswered path (answered.Stopped stop) report = report ≡ stop_report path stop
+
+-- a report of a workload; nothing was evaluated where its script was refused
+pub record ReportsWorkload (series : ℕ) (idle : Type 0) (report : Report) : Type 0 where
+  pub files : List JudgedFile
+  pub last : Last
+  pub seen : Sees (Just (workload_text series)) (workload_path ∷ []) files last
+  pub is : report ≡ workload_report series files last
+  pub rests : files ≡ [] → idle
+
+-- a run of a workload was cut off: nothing was written, or a front of how much it loads and of the lines of its first verdicts, or
+-- of its whole report
+pub data IsCutWorkload (series : ℕ) (before now : Option (List ℕ)) : Type 0 where
+  Unmade : now ≡ before → IsCutWorkload series before now
+  Begun : (text : List ℕ) → Begins (Just (workload_text series)) (workload_path ∷ []) text → WroteFront before now (loaded_text series ++ text) → IsCutWorkload series before now
+  Almost : (files : List JudgedFile) (last : Last) → Sees (Just (workload_text series)) (workload_path ∷ []) files last → WroteFront before now (workload_report series files last).text
+      → IsCutWorkload series before now
+
+-- a report of words, with what is known of the counters
+pub data ReportsWords (words : List (List ℕ)) (found : List ℕ → Option (List ℕ) → Type 0) (idle : Type 0) : Report → Type 0 where
+  Misused : asked words ≡ None → idle → ReportsWords words found idle usage_report
+  Tested : (paths : List (List ℕ)) (report : Report) → asked words ≡ Some (test paths) → ReportsFiles found paths idle report → ReportsWords words found idle report
+  Queries : (grid : Grid) (instant : Bool) (path expr : List ℕ) (report : Report) → asked words ≡ Some (query (moments_in grid instant) path expr) → ReportsQuery found path expr grid instant idle report
+      → ReportsWords words found idle report
+  Works : (series : ℕ) (report : Report) → asked words ≡ Some (workload series) → ReportsWorkload series idle report → ReportsWords words found idle report
+
+-- the bytes of lists
+abbrev pub bytes_of : List (Vec ℕ Global) → List (List ℕ)
+bytes_of lines = map (λ (line : Vec ℕ Global). line.items) lines

@@ -3,18 +3,16 @@
 
 mod fault;
 mod fetch;
-mod judged;
-mod laws;
-mod load;
+mod files;
+mod judge;
 mod print;
-mod read;
-mod run;
+mod query;
 mod text;
 mod tool;
+mod working;
+mod workload;
 
-pub use fault::{LoadRefusal, Refusal};
-pub use judged::Judged;
-pub use laws::loads_put_their_samples;
+pub use fault::Refusal;
 pub use print::Status;
 pub use tool::run_tool;
 

@@ -1,134 +1,84 @@
 //! Printing a report, each line as one piece.
 ghost use Rattle.edge_io.specs.Causes.{HasCause};
 ghost use Rattle.edge_io.specs.Written.{appended, WroteFront};
-ghost use Rattle.promql_tool.specs.Found.{report_seen};
-ghost use Rattle.promql_tool.specs.Report.{failed_in, fault_text, has_passed, passed_in, refusal_text, report_judged, totals_text, verdict_text};
+ghost use Rattle.promql_tool.specs.Query.{all_series_text, answer_text, failure_text, outcome_report, series_text};
+ghost use Rattle.promql_tool.specs.Runs.{bytes_of, stop_report};
+ghost use Rattle.promql_tool.specs.Texts.{fault_text, refusal_text, totals_text, usage};
+ghost use Rattle.promql_tool.specs.Workload.{loaded_text};
 ghost use Rattle.std.specs.List.{flat_map};
-ghost use Rattle.std.specs.Prelude.{◌≡◌, ◌==◌, if◌then◌else◌, IfOk, OnOk, OnErr, IsErrOf};
+ghost use Rattle.std.specs.Prelude.{◌≡◌, ◌≤◌, ◌==◌, List, ℕ, if◌then◌else◌, IfOk, OnOk, OnErr, IsErrOf};
 
-use crate::fault::Refusal;
-use crate::fetch::FileRead;
-use crate::judged::Judged;
-use crate::text::{fault_line, refusal_line, totals_line, verdict_line};
+use crate::fault::{Refusal, Stop};
+use crate::text::{failure_line, fault_line, refusal_line, series_line, totals_line};
+use crate::workload::loaded_line;
 use edge_io::{Sink, SinkFail, write_all};
-use script_check::Verdict;
+use promql_meaning::{Answer, Outcome, ResultSeries};
 use std::alloc::Global;
+
+/// What is printed for words that are no command.
+const USAGE: &str = "usage: promqltest [options] FILE.. or query [options] FILE EXPR\n";
 
 /// The status of the program, as its exit code.
 #[derive(Clone, Copy, Debug, PartialEq, Eq)]
 pub struct Status(pub u8);
 
-fn has_passed(verdict: &Judged) -> bool
-    ensures { result ≡ has_passed verdict.now }
-{
-    match verdict.verdict {
-        Verdict::Pass => true,
-        Verdict::Fail(_) => false,
-    }
-}
-
-/// How many evaluations pass and fail.
-#[derive(Clone, Copy)]
-struct Totals {
-    passed: usize,
-    failed: usize,
-}
-
-fn totals_of(verdicts: &[Judged]) -> Totals
-    ensures passed { result.passed ≡ passed_in verdicts.now }
-    ensures failed { result.failed ≡ failed_in verdicts.now }
-{
-    let mut passed = 0;
-    let mut failed = 0;
-    for verdict in verdicts {
-        if has_passed(verdict) {
-            passed += 1;
-        } else {
-            failed += 1;
-        }
-    }
-    Totals { passed, failed }
-}
-
-fn print_verdict<S: Sink>(
-    alloc: Global,
-    path: &str,
-    verdict: &Judged,
-    out: &mut S,
-) -> Result<(), SinkFail>
-    ensures ok { OnOk result (S.written out.new ≡ appended (S.written out.old) (verdict_text path.now verdict.now)) }
-    ensures err { OnErr result (WroteFront (S.written out.old) (S.written out.new) (verdict_text path.now verdict.now)) }
+pub fn print_usage<S: Sink>(out: &mut S) -> Result<Status, SinkFail>
+    ensures ok { IfOk result (λ status. (status.0 ≡ 2) × (S.written out.new ≡ appended (S.written out.old) usage)) }
+    ensures err { OnErr result (WroteFront (S.written out.old) (S.written out.new) usage) }
     ensures cause { HasCause (S.faults out.old) (S.faults out.new) (IsErrOf result SinkFail.Failed) }
     ensures sound { S.sound out.old → S.sound out.new }
     ensures never { S.sound out.old → IsErrOf result SinkFail.Failed → ⊥ }
 {
-    let text = verdict_line(alloc, path, verdict)?;
-    write_all(out, &text)
+    write_all(out, USAGE.as_bytes())?;
+    Ok(Status(2))
 }
 
-fn print_verdicts<S: Sink>(
-    alloc: Global,
-    path: &str,
-    verdicts: &[Judged],
-    out: &mut S,
-) -> Result<(), SinkFail>
-    ensures ok { OnOk result (S.written out.new ≡ appended (S.written out.old) (flat_map (verdict_text path.now) verdicts.now)) }
-    ensures err { OnErr result (WroteFront (S.written out.old) (S.written out.new) (flat_map (verdict_text path.now) verdicts.now)) }
+/// Prints how much a workload loads.
+pub fn print_loaded<S: Sink>(alloc: Global, series: u32, out: &mut S) -> Result<(), SinkFail>
+    requires few { series ≤ 20000 }
+    ensures ok { OnOk result (S.written out.new ≡ appended (S.written out.old) (loaded_text series)) }
+    ensures err { OnErr result (WroteFront (S.written out.old) (S.written out.new) (loaded_text series)) }
     ensures cause { HasCause (S.faults out.old) (S.faults out.new) (IsErrOf result SinkFail.Failed) }
     ensures sound { S.sound out.old → S.sound out.new }
     ensures never { S.sound out.old → IsErrOf result SinkFail.Failed → ⊥ }
 {
-    for verdict in verdicts {
-        print_verdict(alloc, path, verdict, out)?;
-    }
-    Ok(())
-}
-
-fn print_totals<S: Sink>(alloc: Global, totals: Totals, out: &mut S) -> Result<(), SinkFail>
-    ensures ok { OnOk result (S.written out.new ≡ appended (S.written out.old) (totals_text totals.passed totals.failed)) }
-    ensures err { OnErr result (WroteFront (S.written out.old) (S.written out.new) (totals_text totals.passed totals.failed)) }
-    ensures cause { HasCause (S.faults out.old) (S.faults out.new) (IsErrOf result SinkFail.Failed) }
-    ensures sound { S.sound out.old → S.sound out.new }
-    ensures never { S.sound out.old → IsErrOf result SinkFail.Failed → ⊥ }
-{
-    let line = totals_line(alloc, totals.passed, totals.failed)?;
+    let line = loaded_line(alloc, series)?;
     write_all(out, line.as_bytes())
 }
 
-/// Prints the verdicts and the totals. The status is 0 where all pass, else 1.
-fn print_judged<S: Sink>(
-    alloc: Global,
-    path: &str,
-    verdicts: &[Judged],
-    out: &mut S,
-) -> Result<Status, SinkFail>
-    ensures ok { IfOk result (λ status. (status.0 ≡ (report_judged path.now verdicts.now).status)
-        × (S.written out.new ≡ appended (S.written out.old) (report_judged path.now verdicts.now).text)) }
-    ensures err { OnErr result (WroteFront (S.written out.old) (S.written out.new) (report_judged path.now verdicts.now).text) }
-    ensures cause { HasCause (S.faults out.old) (S.faults out.new) (IsErrOf result SinkFail.Failed) }
-    ensures sound { S.sound out.old → S.sound out.new }
-    ensures never { S.sound out.old → IsErrOf result SinkFail.Failed → ⊥ }
-{
-    let totals = totals_of(verdicts);
-    print_verdicts(alloc, path, verdicts, out)?;
-    print_totals(alloc, totals, out)?;
-    Ok(verdict_status(totals.failed))
-}
-
-fn verdict_status(failed: usize) -> Status
+/// 0 where all pass, else 1.
+fn verdict_status(failed: u128) -> Status
     ensures { result.0 ≡ (if failed == 0 then 0 else 1) }
 {
     Status(if failed == 0 { 0 } else { 1 })
 }
 
+/// Prints how many evaluations pass and fail.
+pub fn print_totals<S: Sink>(
+    alloc: Global,
+    passed: u128,
+    failed: u128,
+    out: &mut S,
+) -> Result<Status, SinkFail>
+    ensures ok { IfOk result (λ status. (status.0 ≡ (if failed == 0 then 0 else 1)) × (S.written out.new ≡ appended (S.written out.old) (totals_text passed failed))) }
+    ensures err { OnErr result (WroteFront (S.written out.old) (S.written out.new) (totals_text passed failed)) }
+    ensures cause { HasCause (S.faults out.old) (S.faults out.new) (IsErrOf result SinkFail.Failed) }
+    ensures sound { S.sound out.old → S.sound out.new }
+    ensures never { S.sound out.old → IsErrOf result SinkFail.Failed → ⊥ }
+{
+    let line = totals_line(alloc, passed, failed)?;
+    write_all(out, line.as_bytes())?;
+    Ok(verdict_status(failed))
+}
+
 fn print_refusal<S: Sink>(
     alloc: Global,
     path: &str,
-    refusal: Refusal,
+    refusal: &Refusal,
     out: &mut S,
 ) -> Result<Status, SinkFail>
-    ensures ok { IfOk result (λ status. (status.0 ≡ 6) × (S.written out.new ≡ appended (S.written out.old) (refusal_text path.now refusal))) }
-    ensures err { OnErr result (WroteFront (S.written out.old) (S.written out.new) (refusal_text path.now refusal)) }
+    ensures ok { IfOk result (λ status. (status.0 ≡ 6) × (S.written out.new ≡ appended (S.written out.old) (refusal_text path.now refusal.now))) }
+    ensures err { OnErr result (WroteFront (S.written out.old) (S.written out.new) (refusal_text path.now refusal.now)) }
     ensures cause { HasCause (S.faults out.old) (S.faults out.new) (IsErrOf result SinkFail.Failed) }
     ensures sound { S.sound out.old → S.sound out.new }
     ensures never { S.sound out.old → IsErrOf result SinkFail.Failed → ⊥ }
@@ -150,23 +100,141 @@ fn print_fault<S: Sink>(alloc: Global, path: &str, out: &mut S) -> Result<Status
     Ok(Status(3))
 }
 
-/// Prints what a file came to, and answers the status.
-pub fn print_read<S: Sink>(
+/// Prints a file that isn't run.
+pub fn print_stop<S: Sink>(
     alloc: Global,
     path: &str,
-    read: &FileRead,
+    stop: &Stop,
     out: &mut S,
 ) -> Result<Status, SinkFail>
-    ensures ok { IfOk result (λ status. (status.0 ≡ (report_seen path.now read.now).status)
-        × (S.written out.new ≡ appended (S.written out.old) (report_seen path.now read.now).text)) }
-    ensures err { OnErr result (WroteFront (S.written out.old) (S.written out.new) (report_seen path.now read.now).text) }
+    ensures ok { IfOk result (λ status. (status.0 ≡ (stop_report path.now stop.now).status) × (S.written out.new ≡ appended (S.written out.old) (stop_report path.now stop.now).text)) }
+    ensures err { OnErr result (WroteFront (S.written out.old) (S.written out.new) (stop_report path.now stop.now).text) }
     ensures cause { HasCause (S.faults out.old) (S.faults out.new) (IsErrOf result SinkFail.Failed) }
     ensures sound { S.sound out.old → S.sound out.new }
     ensures never { S.sound out.old → IsErrOf result SinkFail.Failed → ⊥ }
 {
-    match read {
-        FileRead::Judged(verdicts) => print_judged(alloc, path, verdicts.as_slice(), out),
-        FileRead::Refused(refusal) => print_refusal(alloc, path, *refusal, out),
-        FileRead::Gone => print_fault(alloc, path, out),
+    match stop {
+        Stop::Gone => print_fault(alloc, path, out),
+        Stop::Refused(refusal) => print_refusal(alloc, path, refusal, out),
+    }
+}
+
+fn print_one<S: Sink>(
+    alloc: Global,
+    scalar: bool,
+    series: &ResultSeries,
+    out: &mut S,
+) -> Result<(), SinkFail>
+    ensures ok { OnOk result (S.written out.new ≡ appended (S.written out.old) (series_text scalar series.now)) }
+    ensures err { OnErr result (WroteFront (S.written out.old) (S.written out.new) (series_text scalar series.now)) }
+    ensures cause { HasCause (S.faults out.old) (S.faults out.new) (IsErrOf result SinkFail.Failed) }
+    ensures sound { S.sound out.old → S.sound out.new }
+    ensures never { S.sound out.old → IsErrOf result SinkFail.Failed → ⊥ }
+{
+    let line = series_line(alloc, scalar, series)?;
+    write_all(out, &line)
+}
+
+/// Prints the line of each series, in their order.
+fn print_each<S: Sink>(
+    alloc: Global,
+    scalar: bool,
+    series: &[ResultSeries],
+    out: &mut S,
+) -> Result<(), SinkFail>
+    ensures ok { OnOk result (S.written out.new ≡ appended (S.written out.old) (flat_map (series_text scalar) series.now)) }
+    ensures err { OnErr result (WroteFront (S.written out.old) (S.written out.new) (flat_map (series_text scalar) series.now)) }
+    ensures cause { HasCause (S.faults out.old) (S.faults out.new) (IsErrOf result SinkFail.Failed) }
+    ensures sound { S.sound out.old → S.sound out.new }
+    ensures never { S.sound out.old → IsErrOf result SinkFail.Failed → ⊥ }
+{
+    for one in series {
+        print_one(alloc, scalar, one, out)?;
+    }
+    Ok(())
+}
+
+fn print_series<S: Sink>(
+    alloc: Global,
+    scalar: bool,
+    series: &[ResultSeries],
+    out: &mut S,
+) -> Result<(), SinkFail>
+    ensures ok { OnOk result (S.written out.new ≡ appended (S.written out.old) (all_series_text scalar series.now)) }
+    ensures err { OnErr result (WroteFront (S.written out.old) (S.written out.new) (all_series_text scalar series.now)) }
+    ensures cause { HasCause (S.faults out.old) (S.faults out.new) (IsErrOf result SinkFail.Failed) }
+    ensures sound { S.sound out.old → S.sound out.new }
+    ensures never { S.sound out.old → IsErrOf result SinkFail.Failed → ⊥ }
+{
+    if series.is_empty() {
+        write_all(out, b"empty\n")
+    } else {
+        print_each(alloc, scalar, series, out)
+    }
+}
+
+/// Prints the lines of notes.
+fn print_notes<S: Sink>(notes: &[Vec<u8>], out: &mut S) -> Result<(), SinkFail>
+    ensures ok { OnOk result (S.written out.new ≡ appended (S.written out.old) (flat_map (λ (line : List ℕ). line) (bytes_of notes.now))) }
+    ensures err { OnErr result (WroteFront (S.written out.old) (S.written out.new) (flat_map (λ (line : List ℕ). line) (bytes_of notes.now))) }
+    ensures cause { HasCause (S.faults out.old) (S.faults out.new) (IsErrOf result SinkFail.Failed) }
+    ensures sound { S.sound out.old → S.sound out.new }
+    ensures never { S.sound out.old → IsErrOf result SinkFail.Failed → ⊥ }
+{
+    for line in notes {
+        write_all(out, line)?;
+    }
+    Ok(())
+}
+
+fn print_answer<S: Sink>(
+    alloc: Global,
+    answer: &Answer,
+    notes: &[Vec<u8>],
+    out: &mut S,
+) -> Result<Status, SinkFail>
+    ensures ok { IfOk result (λ status. (status.0 ≡ 0) × (S.written out.new ≡ appended (S.written out.old) (answer_text answer.now (bytes_of notes.now)))) }
+    ensures err { OnErr result (WroteFront (S.written out.old) (S.written out.new) (answer_text answer.now (bytes_of notes.now))) }
+    ensures cause { HasCause (S.faults out.old) (S.faults out.new) (IsErrOf result SinkFail.Failed) }
+    ensures sound { S.sound out.old → S.sound out.new }
+    ensures never { S.sound out.old → IsErrOf result SinkFail.Failed → ⊥ }
+{
+    print_series(alloc, answer.scalar, answer.series.as_slice(), out)?;
+    print_notes(notes, out)?;
+    Ok(Status(0))
+}
+
+/// Prints an outcome that is no answer.
+fn print_failure<S: Sink>(alloc: Global, outcome: &Outcome, out: &mut S) -> Result<Status, SinkFail>
+    ensures ok { IfOk result (λ status. (status.0 ≡ 1) × (S.written out.new ≡ appended (S.written out.old) (failure_text outcome.now))) }
+    ensures err { OnErr result (WroteFront (S.written out.old) (S.written out.new) (failure_text outcome.now)) }
+    ensures cause { HasCause (S.faults out.old) (S.faults out.new) (IsErrOf result SinkFail.Failed) }
+    ensures sound { S.sound out.old → S.sound out.new }
+    ensures never { S.sound out.old → IsErrOf result SinkFail.Failed → ⊥ }
+{
+    let line = failure_line(alloc, outcome)?;
+    write_all(out, &line)?;
+    Ok(Status(1))
+}
+
+/// Prints an outcome, whose notes have these lines.
+pub fn print_outcome<S: Sink>(
+    alloc: Global,
+    outcome: &Outcome,
+    notes: &[Vec<u8>],
+    out: &mut S,
+) -> Result<Status, SinkFail>
+    ensures ok { IfOk result (λ status. (status.0 ≡ (outcome_report outcome.now (bytes_of notes.now)).status)
+        × (S.written out.new ≡ appended (S.written out.old) (outcome_report outcome.now (bytes_of notes.now)).text)) }
+    ensures err { OnErr result (WroteFront (S.written out.old) (S.written out.new) (outcome_report outcome.now (bytes_of notes.now)).text) }
+    ensures cause { HasCause (S.faults out.old) (S.faults out.new) (IsErrOf result SinkFail.Failed) }
+    ensures sound { S.sound out.old → S.sound out.new }
+    ensures never { S.sound out.old → IsErrOf result SinkFail.Failed → ⊥ }
+{
+    match outcome {
+        Outcome::Answer(answer) => print_answer(alloc, answer, notes, out),
+        Outcome::Refused(_) | Outcome::Failed { .. } | Outcome::TooManyRows { .. } => {
+            print_failure(alloc, outcome, out)
+        }
     }
 }

@@ -1,7 +1,7 @@
-ghost use Rattle.std.specs.Prelude.{◌≡◌};
+ghost use Rattle.std.specs.Prelude.{◌≡◌, None, Some};
 
-use crate::{Status, loads_put_their_samples, run_tool};
-use edge_io::{MemLibrary, MemSink};
+use crate::{Status, run_tool};
+use edge_io::{Fetch, Fetched, Library, MemLibrary, MemSink, Sink, SinkFail};
 use holders::{Items, Text};
 use std::alloc::{AllocError, Global};
 use std::marker::Brand;
@@ -9,9 +9,6 @@ use std::process::Abort;
 use std::sync::ledger::{Blank, Ledger};
 use std::test::Fail;
 use ticks::Work;
-
-const FIRST: &str =
-    "load 5m\nup 1 2\n\neval instant at 0 up\nup 1\n\neval instant at 5m up\nup 3\n";
 
 /// Each row is a report, its lines parted by `;`, and behind a `|` the script, whose line feeds are written `|`. Between
 /// two backquotes stands a byte in hexadecimal, or a number, `*` and a piece that is repeated, with its place for a `%`.
@@ -261,24 +258,94 @@ REFUSED a.test:2 TooManySamples|load 1s|x 0x2000000
 REFUSED a.test:2 TooManySamples|load 0.001|x 0x4294967295
 ";
 
-/// Each row is a status, a text with its line feeds written `;`, the words, and the numbers of the fetch and of the write
-/// that fail, of the file of `FIRST`.
-const RUNS: &str = "
-1|PASS a.test:4;FAIL a.test:7 up expected 3 got 2;passed 1 failed 1;|promqltest a.test|0|0
+/// Each row is the path of a file and behind a `|` its script, written as those of `REPORTS` are.
+const FILES: &str = r##"
+a.test|load 5m|up 1 2||eval instant at 0 up|up 1||eval instant at 5m up|up 3|
+one.test|load 5m|up 1||eval instant at 0 up|up 1|
+two.test|load 5m|down 2||eval instant at 0 down|down 2||eval instant at 1m down|down 2|
+no.test|eval instant at 0 up|up 1|
+-x|eval instant at 0 up|
+bad.test|load 5m|up 1|up{||eval instant at 0 up|up 1|
+large.test|`4194305*|`
+twice.test|eval instant at 0 up||load 5m|up 1|up 2|
+beyond.test|load 1m|up 1 1e31|
+past.test|load 1m|up 1e30+1x1|
+s.test|load 1m|x{i="1"} 1 2 3|x{i="2"} 20 10 5|y_total 0 60 120||eval instant at 0 x|x{i="1"} 7|
+cleared.test|load 1m|x 1||clear||load 1m|y 2|
+"##;
+
+/// Each row is a status, a text with its line feeds written `;`, the words with two blanks between them, and the numbers of the
+/// fetch and of the write that fail, of the files of `FILES`.
+const RUNS: &str = r##"
+1|PASS a.test:4;FAIL a.test:7 up expected 3 got 2;passed 1 failed 1;|promqltest  a.test|0|0
 2|usage: promqltest [options] FILE.. or query [options] FILE EXPR;||0|0
 2|usage: promqltest [options] FILE.. or query [options] FILE EXPR;|promqltest|0|0
-2|usage: promqltest [options] FILE.. or query [options] FILE EXPR;|query a.test|0|0
-2|usage: promqltest [options] FILE.. or query [options] FILE EXPR;|Promqltest a.test|0|0
-2|usage: promqltest [options] FILE.. or query [options] FILE EXPR;|promqltest -a.test|0|0
-2|usage: promqltest [options] FILE.. or query [options] FILE EXPR;|promqltest --help|0|0
-2|usage: promqltest [options] FILE.. or query [options] FILE EXPR;|promqltest a.test b.test|0|0
-2|usage: promqltest [options] FILE.. or query [options] FILE EXPR;|a.test promqltest|0|0
-3|FAULT read -;|promqltest -|0|0
-3|FAULT read b.test;|promqltest b.test|0|0
-3|FAULT read a.test;|promqltest a.test|1|0
-4|PASS a.test:4;|promqltest a.test|0|2
+2|usage: promqltest [options] FILE.. or query [options] FILE EXPR;|query  a.test|0|0
+2|usage: promqltest [options] FILE.. or query [options] FILE EXPR;|query  a.test  up  up|0|0
+2|usage: promqltest [options] FILE.. or query [options] FILE EXPR;|query  --at  0  --from  0  a.test  up|0|0
+2|usage: promqltest [options] FILE.. or query [options] FILE EXPR;|query  --from  0  --to  1  a.test  up|0|0
+2|usage: promqltest [options] FILE.. or query [options] FILE EXPR;|query  --at  -1m  a.test  up|0|0
+2|usage: promqltest [options] FILE.. or query [options] FILE EXPR;|query  a.test  -1|0|0
+2|usage: promqltest [options] FILE.. or query [options] FILE EXPR;|promqltest  --at  0  a.test|0|0
+2|usage: promqltest [options] FILE.. or query [options] FILE EXPR;|Promqltest  a.test|0|0
+2|usage: promqltest [options] FILE.. or query [options] FILE EXPR;|promqltest  -a.test|0|0
+2|usage: promqltest [options] FILE.. or query [options] FILE EXPR;|promqltest  --help|0|0
+2|usage: promqltest [options] FILE.. or query [options] FILE EXPR;|a.test  promqltest|0|0
+3|FAULT read -;|promqltest  -|0|0
+3|FAULT read b.test;|promqltest  b.test|0|0
+3|FAULT read a.test;|promqltest  a.test|1|0
+4|PASS a.test:4;|promqltest  a.test|0|2
 4||promqltest|0|1
-";
+0|PASS one.test:4;PASS two.test:4;PASS two.test:7;passed 3 failed 0;|promqltest  one.test  two.test|0|0
+0|PASS two.test:4;PASS two.test:7;PASS one.test:4;passed 3 failed 0;|promqltest  two.test  one.test|0|0
+1|PASS one.test:4;FAIL no.test:1 missing up;PASS two.test:4;PASS two.test:7;passed 3 failed 1;|promqltest  one.test  no.test  two.test|0|0
+1|PASS a.test:4;FAIL a.test:7 up expected 3 got 2;FAIL no.test:1 missing up;passed 1 failed 2;|promqltest  a.test  no.test|0|0
+0|PASS one.test:4;PASS one.test:4;passed 2 failed 0;|promqltest  one.test  one.test|0|0
+0|PASS -x:1;PASS one.test:4;passed 2 failed 0;|promqltest  --  -x  one.test|0|0
+3|PASS one.test:4;FAULT read b.test;|promqltest  one.test  b.test  two.test|0|0
+3|PASS one.test:4;FAULT read one.test;|promqltest  one.test  one.test|2|0
+3|FAULT read b.test;|promqltest  b.test  bad.test|0|0
+6|PASS one.test:4;REFUSED bad.test:3 Malformed;|promqltest  one.test  bad.test  b.test|0|0
+6|PASS one.test:4;FAIL no.test:1 missing up;REFUSED twice.test:5 Conflict;|promqltest  one.test  no.test  twice.test  two.test|0|0
+6|REFUSED bad.test:3 Malformed;|promqltest  bad.test  one.test|0|0
+6|PASS one.test:4;REFUSED large.test:0 TooLarge;|promqltest  one.test  large.test|0|0
+6|REFUSED beyond.test:2 NumberRange;|promqltest  beyond.test|0|0
+6|REFUSED past.test:2 NumberRange;|promqltest  past.test|0|0
+0|x{i="1"} 1@0;x{i="2"} 20@0;|query  s.test  x|0|0
+0|x{i="1"} 2@60000;x{i="2"} 10@60000;|query  --at  1m  s.test  x|0|0
+0|x{i="1"} 3@300000;x{i="2"} 5@300000;|query  s.test  x  --at=300|0|0
+0|empty;|query  --at=-1m  s.test  x|0|0
+0|empty;|query  s.test  z|0|0
+0|x{i="1"} 1@0 2@60000 3@120000;x{i="2"} 20@0 10@60000 5@120000;|query  --from  0  --to  2m  --step  1m  s.test  x|0|0
+0|x{i="1"} 2@60000 3@120000;x{i="2"} 20@0 10@60000;|query  --from  0  --to  2m  --step  1m  s.test  (x > 1) < 4 or x > 5|0|0
+0|scalar 3@0;|query  s.test  1 + 2|0|0
+0|scalar 0@0 60@60000;|query  --from  0  --to  1m  --step  1m  s.test  time()|0|0
+0|scalar 0.5@-500;|query  --at=-0.5  s.test  1 / 2|0|0
+0|scalar -1@0;|query  --  s.test  -1|0|0
+0|{} 1@0;|query  --  -x  vector(1)|0|0
+0|x{i="2"} 20@0;x{i="1"} 1@0;|query  s.test  sort_desc(x)|0|0
+0|x{i="1"} 3@120000;x{i="2"} 5@120000;|query  --at  2m  s.test  sort(x)|0|0
+0|{} +Inf@120000;warning: quantile value should be between 0 and 1, got 2;|query  --at  2m  s.test  quantile(2, x)|0|0
+0|{i="1"} 2@120000;info: metric might not be a counter, name does not end in _total/_sum/_count/_bucket: x;|query  --at  2m  s.test  increase(x{i="1"}[2m])|0|0
+0|{} +Inf@120000;info: metric might not be a counter, name does not end in _total/_sum/_count/_bucket: x;warning: quantile value should be between 0 and 1, got 10;warning: quantile value should be between 0 and 1, got 2;|query  --at  2m  s.test  quantile(2, x) + quantile(10, increase(x[2m]))|0|0
+0|y 2@0;|query  cleared.test  {__name__=~".+"}|0|0
+1|REFUSED Expected at 3;|query  s.test  1 +|0|0
+1|REFUSED RefusedFunction sqrt at 0;|query  s.test  sqrt(x)|0|0
+1|FAILED at 0 irrational result;|query  s.test  2 ^ 0.5|0|0
+1|FAILED at 60000 irrational result;|query  --from  0  --to  2m  --step  1m  s.test  2 ^ (1 / scalar(x{i="1"}))|0|0
+1|FAILED at -60000 overflow;|query  --at=-1m  s.test  1e30 + 1|0|0
+3|FAULT read b.test;|query  b.test  x|0|0
+3|FAULT read s.test;|query  s.test  x|1|0
+6|REFUSED bad.test:3 Malformed;|query  bad.test  x|0|0
+6|REFUSED twice.test:5 Conflict;|query  twice.test  1 +|0|0
+6|REFUSED beyond.test:2 NumberRange;|query  beyond.test  up|0|0
+0|series 100 samples 6100;PASS workload:103;PASS workload:106;PASS workload:112;passed 3 failed 0;|workload  100|0|0
+0|series 1 samples 61;PASS workload:4;PASS workload:7;PASS workload:10;passed 3 failed 0;|workload  1|1|0
+0|series 5 samples 305;PASS workload:8;PASS workload:11;PASS workload:17;passed 3 failed 0;|workload  --  5|0|0
+2|usage: promqltest [options] FILE.. or query [options] FILE EXPR;|workload  0|0|0
+2|usage: promqltest [options] FILE.. or query [options] FILE EXPR;|workload  20001|0|0
+2|usage: promqltest [options] FILE.. or query [options] FILE EXPR;|workload  a.test|0|0
+"##;
 
 /// Appends a text with a line feed for each sign.
 fn push_lines(text: &mut Vec<u8>, written: &str, sign: u8) -> Result<(), AllocError> {
@@ -289,12 +356,13 @@ fn push_lines(text: &mut Vec<u8>, written: &str, sign: u8) -> Result<(), AllocEr
 }
 
 /// Appends what stands between two backquotes.
-fn push_special(alloc: Global, text: &mut Vec<u8>, special: &str) -> Result<(), AllocError> {
+fn push_special(text: &mut Vec<u8>, special: &str) -> Result<(), AllocError> {
     let Some((times, piece)) = special.split_once('*') else {
         text.push(u8::from_str_radix(special, 16).unwrap_or(b'?'))?;
         return Ok(());
     };
     let (front, back) = piece.split_once('%').unwrap_or((piece, ""));
+    let alloc = *text.allocator();
     for place in 0..times.parse::<u32>().unwrap_or(0) {
         push_lines(text, front, b'|')?;
         if front.len() < piece.len() {
@@ -305,8 +373,22 @@ fn push_special(alloc: Global, text: &mut Vec<u8>, special: &str) -> Result<(), 
     Ok(())
 }
 
-/// A library of one file, `a.test`. With a number other than 0 that fetch fails.
-fn library_of(alloc: Global, text: &[u8], fails: u32) -> Result<MemLibrary, AllocError> {
+/// Appends the bytes of a row's script.
+fn push_script(text: &mut Vec<u8>, written: &str) -> Result<(), AllocError> {
+    let mut is_special = false;
+    for piece in written.split('`') {
+        if is_special {
+            push_special(text, piece)?;
+        } else {
+            push_lines(text, piece, b'|')?;
+        }
+        is_special = !is_special;
+    }
+    Ok(())
+}
+
+/// A library of one file, `a.test`.
+fn library_of(alloc: Global, text: &[u8]) -> Result<MemLibrary, AllocError> {
     let mut paths = Items::new(alloc);
     paths.push(Text::of(alloc, "a.test")?)?;
     let mut file: Items<u8> = Items::new(alloc);
@@ -315,9 +397,16 @@ fn library_of(alloc: Global, text: &[u8], fails: u32) -> Result<MemLibrary, Allo
     }
     let mut bytes = Items::new(alloc);
     bytes.push(file)?;
-    let mut failing = Items::new(alloc);
-    failing.push(fails)?;
-    Ok(MemLibrary::of(paths, bytes, failing))
+    Ok(MemLibrary::of(paths, bytes, Items::new(alloc)))
+}
+
+/// With a number other than 0 that fetch fails.
+fn shelf_of(fails: u32) -> Shelf {
+    Shelf {
+        fails,
+        calls: 0,
+        faults: 0,
+    }
 }
 
 fn sink_of(alloc: Global, fails: u32) -> Result<MemSink, AllocError> {
@@ -328,7 +417,7 @@ fn sink_of(alloc: Global, fails: u32) -> Result<MemSink, AllocError> {
 
 fn words_of(alloc: Global, line: &str) -> Result<Vec<String>, AllocError> {
     let mut words = Vec::new(alloc);
-    for word in line.split(' ') {
+    for word in line.split("  ") {
         if !word.is_empty() {
             words.push(String::from_str(alloc, word)?)?;
         }
@@ -336,13 +425,82 @@ fn words_of(alloc: Global, line: &str) -> Result<Vec<String>, AllocError> {
     Ok(words)
 }
 
+/// The files of `FILES`, of which it tells nothing. The fetch of a number, counted from 1, fails.
+#[derive(Drop)]
+struct Shelf {
+    fails: u32,
+    calls: u32,
+    faults: u64,
+}
+
+/// The script at a path.
+fn script_at(path: &str) -> Option<&'static str> {
+    for row in FILES.lines() {
+        if let Some((name, script)) = row.split_once('|')
+            && name == path
+        {
+            return Some(script);
+        }
+    }
+    None
+}
+
+impl Library for Shelf {
+    ghost told = { λ _. None };
+
+    ghost faults = { λ shelf. shelf.faults };
+
+    ghost sound = { λ _. ⊥ };
+
+    ghost fetches = { λ _ _ _. Unit {0} };
+
+    fn fetch(&mut self, path: &str, limit: usize, into: &mut Vec<u8>) -> Result<Fetched, Fetch> {
+        self.calls = self.calls.saturating_add(1);
+        let script = script_at(path).unwrap_or("");
+        if self.calls == self.fails || script.is_empty() {
+            self.faults = self.faults.saturating_add(1);
+            return Err(Fetch::Failed);
+        }
+        if push_script(into, script).is_err() {
+            into.clear();
+            return Err(Fetch::Memory);
+        }
+        if into.len() > limit {
+            into.clear();
+            return Ok(Fetched::PastLimit);
+        }
+        Ok(Fetched::Whole)
+    }
+}
+
+/// A sink that takes at most so many bytes at once.
+#[derive(Drop)]
+struct Narrow {
+    most: usize,
+    bytes: Vec<u8>,
+}
+
+impl Sink for Narrow {
+    ghost written = { λ narrow. Some narrow.bytes.items };
+
+    ghost faults = { λ _. 0 };
+
+    ghost sound = { λ _. Unit {0} };
+
+    fn write(&mut self, piece: &[u8]) -> Result<usize, SinkFail> {
+        let (front, _) = piece.split_at(piece.len().min(self.most.max(1)));
+        self.bytes.extend_from_slice(front)?;
+        Ok(front.len())
+    }
+}
+
 /// Runs words with counters of their own.
-fn run_counted<W: Ledger>(
+fn run_counted<W: Ledger, L: Library, S: Sink>(
     alloc: Global,
     blank: Blank,
     words: &[String],
-    library: &mut MemLibrary,
-    out: &mut MemSink,
+    library: &mut L,
+    out: &mut S,
 ) -> Status
     requires name { blank.name ≡ W.name }
     requires parts { blank.parts ≡ W.parts }
@@ -352,20 +510,28 @@ fn run_counted<W: Ledger>(
     run_tool(alloc, words, library, out, &mut work)
 }
 
-fn run_words(
+fn run_words<L: Library, S: Sink>(
     alloc: Global,
     words: &[String],
-    library: &mut MemLibrary,
-    out: &mut MemSink,
+    library: &mut L,
+    out: &mut S,
 ) -> Status {
-    run_counted::<Brand>(alloc, Blank::new(3), words, library, out)
+    run_counted::<Brand, L, S>(alloc, Blank::new(3), words, library, out)
 }
 
-/// Words, the file `a.test`, and the numbers of the fetch and of the write that fail.
+/// Whether the file `a.test` of this text ends with this status, and has this report.
+fn reports_so(alloc: Global, text: &[u8], status: u32, printed: &[u8]) -> Result<bool, AllocError> {
+    let words = words_of(alloc, "promqltest  a.test")?;
+    let mut library = library_of(alloc, text)?;
+    let mut out = sink_of(alloc, 0)?;
+    let got = run_words(alloc, &words, &mut library, &mut out);
+    Ok(out.written() == printed && u32::from(got.0) == status)
+}
+
+/// Words over the files of `FILES`, and the numbers of the fetch and of the write that fail.
 #[derive(Clone, Copy)]
 struct Run<'a> {
     line: &'a str,
-    text: &'a [u8],
     fetch: u32,
     write: u32,
 }
@@ -373,10 +539,26 @@ struct Run<'a> {
 /// Whether a run ends with this status and has printed this.
 fn runs_so(alloc: Global, run: Run<'_>, status: u32, printed: &[u8]) -> Result<bool, AllocError> {
     let words = words_of(alloc, run.line)?;
-    let mut library = library_of(alloc, run.text, run.fetch)?;
+    let mut library = shelf_of(run.fetch);
     let mut out = sink_of(alloc, run.write)?;
     let got = run_words(alloc, &words, &mut library, &mut out);
     Ok(out.written() == printed && u32::from(got.0) == status)
+}
+
+/// The same over a sink that takes at most so many bytes at once.
+fn runs_narrowly(
+    alloc: Global,
+    run: Run<'_>,
+    most: usize,
+    status: u32,
+    printed: &[u8],
+) -> Result<bool, AllocError> {
+    let words = words_of(alloc, run.line)?;
+    let mut library = shelf_of(run.fetch);
+    let bytes = Vec::new(alloc);
+    let mut out = Narrow { most, bytes };
+    let got = run_words(alloc, &words, &mut library, &mut out);
+    Ok(out.bytes.as_slice() == printed && u32::from(got.0) == status)
 }
 
 fn status_of(report: &[u8]) -> u32 {
@@ -389,34 +571,14 @@ fn status_of(report: &[u8]) -> u32 {
     }
 }
 
-/// The bytes of a row's script.
-fn script_of(alloc: Global, written: &str) -> Result<Vec<u8>, AllocError> {
-    let mut text = Vec::new(alloc);
-    let mut is_special = false;
-    for piece in written.split('`') {
-        if is_special {
-            push_special(alloc, &mut text, piece)?;
-        } else {
-            push_lines(&mut text, piece, b'|')?;
-        }
-        is_special = !is_special;
-    }
-    Ok(text)
-}
-
 /// Whether a row's script has its report.
 fn row_reports_so(alloc: Global, told: &str, script: &str) -> Result<bool, AllocError> {
-    let text = script_of(alloc, script)?;
+    let mut text = Vec::new(alloc);
+    push_script(&mut text, script)?;
     let mut report = Vec::new(alloc);
     push_lines(&mut report, told, b';')?;
     report.push(b'\n')?;
-    let run = Run {
-        line: "promqltest a.test",
-        text: &text,
-        fetch: 0,
-        write: 0,
-    };
-    runs_so(alloc, run, status_of(&report), &report)
+    reports_so(alloc, &text, status_of(&report), &report)
 }
 
 /// Runs each row of a table, and answers how many there are.
@@ -435,7 +597,8 @@ fn number_in(field: Option<&str>) -> u32 {
     field.unwrap_or("").parse::<u32>().unwrap_or(0)
 }
 
-/// Whether the words of a row come to what stands before them.
+/// Whether the words of a row come to what stands before them, however few bytes the sink takes at once, and whether each
+/// write that fails in turn leaves the lines before it.
 fn row_runs_so(alloc: Global, row: &str) -> Result<bool, AllocError> {
     let mut fields = row.rsplitn(5, '|');
     let write = number_in(fields.next());
@@ -444,18 +607,37 @@ fn row_runs_so(alloc: Global, row: &str) -> Result<bool, AllocError> {
     let mut printed = Vec::new(alloc);
     push_lines(&mut printed, fields.next().unwrap_or(""), b';')?;
     let status = number_in(fields.next());
-    let run = Run {
-        line,
-        text: FIRST.as_bytes(),
-        fetch,
-        write,
-    };
-    runs_so(alloc, run, status, &printed)
+    let run = Run { line, fetch, write };
+    if !runs_so(alloc, run, status, &printed)? {
+        return Ok(false);
+    }
+    if write > 0 {
+        return Ok(true);
+    }
+    Ok(runs_narrowly(alloc, run, 7, status, &printed)? && is_cut_so(alloc, run, &printed)?)
+}
+
+/// Whether each write that fails in turn ends the run with 4, behind the lines before it.
+fn is_cut_so(alloc: Global, run: Run<'_>, printed: &[u8]) -> Result<bool, AllocError> {
+    let mut write = 1u32;
+    let mut begin = 0;
+    for (place, byte) in printed.iter().enumerate() {
+        if *byte != b'\n' {
+            continue;
+        }
+        let (front, _) = printed.split_at(begin);
+        let cut = Run { write, ..run };
+        if !runs_so(alloc, cut, 4, front)? {
+            return Ok(false);
+        }
+        write = write.saturating_add(1);
+        begin = place + 1;
+    }
+    Ok(true)
 }
 
 #[test]
 fn reports(rt: HostRuntime) -> Result<(), Fail> {
-    loads_put_their_samples();
     assert_eq!(rt; run_rows(&rt, rt.alloc(), REPORTS)?, 234);
     assert_eq!(rt; run_rows(&rt, rt.alloc(), LONG)?, 5);
     Ok(())
@@ -470,6 +652,6 @@ fn words_are_run(rt: HostRuntime) -> Result<(), Fail> {
             rows = rows.saturating_add(1);
         }
     }
-    assert_eq!(rt; rows, 14);
+    assert_eq!(rt; rows, 68);
     Ok(())
 }

@@ -1,46 +1,25 @@
 //! The whole program, over the words after its name.
-ghost use Rattle.edge_io.specs.Causes.{Rose};
+ghost use Rattle.edge_io.specs.Causes.{HasCause, Rose};
 ghost use Rattle.edge_io.specs.Fetches.{FetchesFront};
 ghost use Rattle.edge_io.specs.Written.{appended};
+ghost use Rattle.promql_tool.specs.Ends.{IfFirst, IfMade, IsCut, IsGone, IsOneOf, IsRefused, IsUnrun, Reports};
+ghost use Rattle.promql_tool.specs.Found.{Have, IsFound};
 ghost use Rattle.promql_tool.specs.Reading.{IsNoScript};
-ghost use Rattle.promql_tool.specs.Report.{HasReport, fault_text, files_of, names_file, path_of, usage, usage_report};
-ghost use Rattle.promql_tool.specs.Ends.{Ends, IsCut, IsOneOf, IsRefused, Reports, RunsPath, RunsWords};
-ghost use Rattle.std.specs.Prelude.{◌≡◌, ◌⊎◌, [], ◌∷◌, None, Some, Err, Ok, Option, map, option_map, string_bytes, IfSome, IsSomeAnd};
+ghost use Rattle.promql_tool.specs.Report.{HasReport, files_of};
+ghost use Rattle.promql_tool.specs.Runs.{Ends, ReportsWords};
+ghost use Rattle.promql_tool.specs.Texts.{usage};
+ghost use Rattle.std.specs.Prelude.{◌≡◌, ◌≤◌, ◌⊎◌, ℕ, [], ◌∷◌, List, Contains, None, length, map, string_bytes, IfOk, IfSome, IsErrOf};
+ghost use Rattle.tool_words.specs.Asked.{asked};
 
-use crate::fetch::read_file;
-use crate::print::{Status, print_read};
-use edge_io::{Library, Sink, SinkFail, write_all};
+use crate::files::run_files;
+use crate::print::{Status, print_usage};
+use crate::query::{Question, run_query};
+use crate::working::run_workload;
+use edge_io::{Library, Sink, SinkFail};
 use std::alloc::Global;
 use std::sync::ledger::Ledger;
 use ticks::Work;
-
-/// What is printed for words that are no command.
-const USAGE: &str = "usage: promqltest [options] FILE.. or query [options] FILE EXPR\n";
-
-/// A word that names a file: it doesn't begin with a minus sign, or is one alone.
-fn names_file(word: &str) -> bool
-    ensures { result ≡ names_file word.now }
-{
-    match word.as_bytes() {
-        [] => true,
-        [first, rest @ ..] => *first != b'-' || rest.is_empty(),
-    }
-}
-
-/// The file of `promqltest FILE`.
-fn path_in(words: &[String]) -> Option<&str>
-    ensures { option_map (λ path. path.now) result ≡ path_of (map string_bytes words.now) }
-{
-    if words.len() != 2 {
-        return None;
-    }
-    let path = words[1].as_str();
-    if words[0].as_str() == "promqltest" && names_file(path) {
-        Some(path)
-    } else {
-        None
-    }
-}
+use tool_words::{Asked, read_words};
 
 /// The status of a run whose printing was cut off.
 fn cut_status(cause: SinkFail) -> Status
@@ -53,69 +32,53 @@ fn cut_status(cause: SinkFail) -> Status
     }
 }
 
-fn print_usage<S: Sink>(out: &mut S) -> Status
-    ensures stays_sound { S.sound out.old → S.sound out.new }
-    ensures ends { Ends (record { before = S.written out.old; now = S.written out.new; faults_before = S.faults out.old; faults_now = S.faults out.new; sound = S.sound out.old }) usage_report result.0 }
-{
-    match write_all(out, USAGE.as_bytes()) {
-        Ok(()) => Status(2),
-        Err(cause) => cut_status(cause),
-    }
-}
-
-fn run_path<L: Library, S: Sink, W: Ledger>(
-    alloc: Global,
-    path: &str,
-    library: &mut L,
-    out: &mut S,
-    work: &mut Work<W>,
-) -> Status
-    ensures fetched { L.fetches library.old path.now library.new }
-    ensures told { L.told library.new ≡ L.told library.old }
-    ensures library_sound { L.sound library.old → L.sound library.new }
-    ensures sink_sound { S.sound out.old → S.sound out.new }
-    ensures idle { IsOneOf (3 ∷ 6 ∷ []) result.0 → work.new ≡ work.old }
-    ensures runs { RunsPath (record { told = L.told library.old; faults_before = L.faults library.old; faults_now = L.faults library.new; sound = L.sound library.old })
-        (record { before = S.written out.old; now = S.written out.new; faults_before = S.faults out.old; faults_now = S.faults out.new; sound = S.sound out.old })
-        result.0 path.now }
-{
-    let read = match read_file(alloc, path, library, work) {
-        Ok(read) => read,
-        Err(_) => return Status(7),
-    };
-    match print_read(alloc, path, &read, out) {
-        Ok(status) => status,
-        Err(cause) => cut_status(cause),
-    }
-}
-
+/// Runs what the words ask for. The errors are `Failed` of the sink and want of memory.
 fn run_words<L: Library, S: Sink, W: Ledger>(
     alloc: Global,
     words: &[String],
     library: &mut L,
     out: &mut S,
     work: &mut Work<W>,
-) -> Status
+) -> Result<Status, SinkFail>
     ensures fetched { FetchesFront L.fetches (files_of (map string_bytes words.now)) library.old library.new }
     ensures told { L.told library.new ≡ L.told library.old }
     ensures library_sound { L.sound library.old → L.sound library.new }
-    ensures sink_sound { S.sound out.old → S.sound out.new }
-    ensures idle { IsOneOf (2 ∷ 3 ∷ 6 ∷ []) result.0 → work.new ≡ work.old }
-    ensures runs { RunsWords (map string_bytes words.now)
-        (record { told = L.told library.old; faults_before = L.faults library.old; faults_now = L.faults library.new; sound = L.sound library.old })
-        (record { before = S.written out.old; now = S.written out.new; faults_before = S.faults out.old; faults_now = S.faults out.new; sound = S.sound out.old })
-        result.0 }
+    ensures gone { IfOk result (λ status. status.0 ≡ 3 → Rose (L.faults library.old) (L.faults library.new)) }
+    ensures ends { Ends (ReportsWords (map string_bytes words.now) (IsFound (L.told library.old) (L.sound library.old)) (work.new ≡ work.old))
+        (IsCut (map string_bytes words.now) (IsFound (L.told library.old) (L.sound library.old)) (S.written out.old) (S.written out.new))
+        (S.written out.old) (S.written out.new) result }
+    ensures cause { HasCause (S.faults out.old) (S.faults out.new) (IsErrOf result SinkFail.Failed) }
+    ensures sound { S.sound out.old → S.sound out.new }
+    ensures never { S.sound out.old → IsErrOf result SinkFail.Failed → ⊥ }
 {
-    match path_in(words) {
-        Some(path) => run_path(alloc, path, library, out, work),
+    match read_words(alloc, words)? {
         None => print_usage(out),
+        Some(Asked::Test { files }) => run_files(alloc, files.as_slice(), library, out, work),
+        Some(
+            Asked::Query {
+                grid,
+                instant,
+                file,
+                expr,
+            },
+        ) => {
+            let question = Question {
+                expr: expr.as_str(),
+                grid: &grid,
+                instant,
+            };
+            run_query(alloc, file.as_str(), question, library, out, work)
+        }
+        Some(Asked::Workload { count }) => run_workload(alloc, count, out, work),
     }
 }
 
-/// Runs `promqltest FILE`: fetches the file, judges each evaluation of its script over the samples that it loads, and
-/// prints a line for each and the totals. Samples are read by counted calls, in `work`. Status 0: all pass. 1: some
-/// don't. 2: the words are no command. 3: the file can't be fetched. 4: a write failed. 6: the file is no script, or a
-/// load is refused. 7: memory ran out.
+/// Runs `promqltest FILE..`: fetches the files in order, judges each evaluation of a script over the samples that its file
+/// loads, and prints a line for each and the totals of all; or `query FILE EXPR`: answers an expression over the samples
+/// that a file loads; or `workload N`: makes a script of N series and runs it as a file. Samples are read by counted calls,
+/// in `work`. Status 0: all pass, or the query has an answer. 1: some don't pass, or the query was refused or failed. 2: the
+/// words are no command. 3: a file can't be fetched. 4: a write failed. 6: a file is no script, or a load of it is refused.
+/// 7: memory ran out.
 pub fn run_tool<L: Library, S: Sink, W: Ledger>(
     alloc: Global,
     words: &[String],
@@ -127,43 +90,55 @@ pub fn run_tool<L: Library, S: Sink, W: Ledger>(
 
     // What is printed is a report of the words and the files, and the status is the report's.
     ensures report { IfSome (L.told library.old) (λ files. IsOneOf (0 ∷ 1 ∷ 2 ∷ 6 ∷ []) result.0 →
-        HasReport (map string_bytes words.now) files (Reports (S.written out.old) (S.written out.new) result.0)) }
+        HasReport (map string_bytes words.now) (Have files) (Reports (S.written out.old) (S.written out.new) result.0)) }
 
     // Where nothing can fail, the status is a report's, unless memory runs out.
     ensures answered { IfSome (L.told library.old) (λ files. L.sound library.old → S.sound out.old →
-        HasReport (map string_bytes words.now) files (λ report. result.0 ≡ report.status) ⊎ (result.0 ≡ 7)) }
+        HasReport (map string_bytes words.now) (Have files) (λ report. result.0 ≡ report.status) ⊎ (result.0 ≡ 7)) }
 
-    // The files of the words were fetched, from the first on, each at most once, and nothing else: of words that are no
-    // command nothing. What library and sink tell of themselves stays.
+    // The files of the words were fetched, from the first on, each at most once for each time that it is named, and nothing
+    // else: of words that are no command nothing. What library and sink tell of themselves stays.
     ensures fetched { FetchesFront L.fetches (files_of (map string_bytes words.now)) library.old library.new }
     ensures told { L.told library.new ≡ L.told library.old }
     ensures library_sound { L.sound library.old → L.sound library.new }
     ensures sink_sound { S.sound out.old → S.sound out.new }
 
     // 2: exactly where the words are no command; then the usage line is written.
-    ensures usage { result.0 ≡ 2 → (path_of (map string_bytes words.now) ≡ None) × (S.written out.new ≡ appended (S.written out.old) usage) }
-    ensures words { path_of (map string_bytes words.now) ≡ None → IsOneOf (2 ∷ 4 ∷ 7 ∷ []) result.0 }
+    ensures usage { result.0 ≡ 2 → (asked (map string_bytes words.now) ≡ None) × (S.written out.new ≡ appended (S.written out.old) usage) }
+    ensures words { asked (map string_bytes words.now) ≡ None → IsOneOf (2 ∷ 4 ∷ 7 ∷ []) result.0 }
 
-    // 6: exactly where the file that was fetched is no script; then its first refused line is printed, and no more.
-    ensures refused { IfSome (path_of (map string_bytes words.now)) (λ path. IfSome (L.told library.old) (λ files. result.0 ≡ 6 →
-        IsRefused path (files path) (S.written out.old) (S.written out.new))) }
-    ensures outside { IfSome (path_of (map string_bytes words.now)) (λ path. IfSome (L.told library.old) (λ files. IfSome (files path) (λ bytes.
-        IsNoScript bytes → IsOneOf (3 ∷ 4 ∷ 6 ∷ 7 ∷ []) result.0))) }
+    // 6: a file of the words is refused; then its refusal is printed behind the verdicts of the files before it, and no more. Or
+    // the script of a workload is; then its refusal is printed behind how much it loads.
+    ensures refused { result.0 ≡ 6 →
+        IsRefused (map string_bytes words.now) (IsFound (L.told library.old) (L.sound library.old)) (S.written out.old) (S.written out.new) }
+    ensures outside { IfSome (L.told library.old) (λ files. (path : List ℕ) → Contains (files_of (map string_bytes words.now)) path →
+        IsUnrun (files path) → IsOneOf (3 ∷ 4 ∷ 6 ∷ 7 ∷ []) result.0) }
+    ensures made { IfMade (asked (map string_bytes words.now)) (λ text. IsNoScript text → IsOneOf (4 ∷ 6 ∷ 7 ∷ []) result.0) }
 
-    // Where the words are no command, the file isn't there or is refused, nothing was evaluated.
-    ensures idle { IsOneOf (2 ∷ 3 ∷ 6 ∷ []) result.0 → work.new ≡ work.old }
+    // Where the words are no command, or the only file isn't there or is refused, nothing was evaluated; nor where the
+    // first one is so.
+    ensures idle { IsOneOf (2 ∷ 3 ∷ 6 ∷ []) result.0 → length (files_of (map string_bytes words.now)) ≤ 1 → work.new ≡ work.old }
+    ensures idle_first { IfSome (L.told library.old) (λ files. IfFirst (files_of (map string_bytes words.now)) (λ path.
+        IsUnrun (files path) → IsOneOf (3 ∷ 6 ∷ []) result.0 → work.new ≡ work.old)) }
 
-    // 3: a fetch failed, of the file of the words. Over a sound library that tells, exactly where it isn't there.
+    // 3: a fetch failed, of a file of the words; then its fault is printed behind the verdicts of the files before it, and no more.
+    // Over a sound library that tells, exactly where it isn't there.
     ensures fetch { result.0 ≡ 3 → Rose (L.faults library.old) (L.faults library.new) }
-    ensures fault_line { result.0 ≡ 3 → IsSomeAnd (path_of (map string_bytes words.now)) (λ path. S.written out.new ≡ appended (S.written out.old) (fault_text path)) }
-    ensures there { IfSome (path_of (map string_bytes words.now)) (λ path. IfSome (L.told library.old) (λ files. L.sound library.old → result.0 ≡ 3 → files path ≡ None)) }
-    ensures missing { IfSome (path_of (map string_bytes words.now)) (λ path. IfSome (L.told library.old) (λ files. files path ≡ None → IsOneOf (3 ∷ 4 ∷ 7 ∷ []) result.0)) }
+    ensures fault_line { result.0 ≡ 3 →
+        IsGone (files_of (map string_bytes words.now)) (IsFound (L.told library.old) (L.sound library.old)) (S.written out.old) (S.written out.new) }
+    ensures there { IfSome (L.told library.old) (λ files. L.sound library.old → result.0 ≡ 3 →
+        IsGone (files_of (map string_bytes words.now)) (Have files) (S.written out.old) (S.written out.new)) }
+    ensures missing { IfSome (L.told library.old) (λ files. IfFirst (files_of (map string_bytes words.now)) (λ path.
+        files path ≡ None → IsOneOf (3 ∷ 4 ∷ 7 ∷ []) result.0)) }
 
-    // 4: a write failed. After it, or want of memory, nothing was written or a front of a report is there.
+    // 4: a write failed. After it, or want of memory, nothing was written, or a front of what the run prints as far as it came.
     ensures write { result.0 ≡ 4 → Rose (S.faults out.old) (S.faults out.new) }
     ensures sound { S.sound out.old → result.0 ≡ 4 → ⊥ }
     ensures cut { IsOneOf (4 ∷ 7 ∷ []) result.0 →
-        IsCut (map string_bytes words.now) (L.told library.old) (L.sound library.old) (S.written out.old) (S.written out.new) }
+        IsCut (map string_bytes words.now) (IsFound (L.told library.old) (L.sound library.old)) (S.written out.old) (S.written out.new) }
 {
-    run_words(alloc, words, library, out, work)
+    match run_words(alloc, words, library, out, work) {
+        Ok(status) => status,
+        Err(cause) => cut_status(cause),
+    }
 }

@@ -1,5 +1,5 @@
 -- A verdict is a pass exactly where each expectation holds.
-use Rattle.std.proofs.Common.{◌≡◌, Bool, true, false, List, [], ◌∷◌, map, Option, None, Some, refl, sym, ap, subst, IsTrue}
+use Rattle.std.proofs.Common.{◌≡◌, Bool, true, false, List, [], ◌∷◌, Option, None, Some, refl, sym, ap, subst, IsTrue}
 use Rattle.std.specs.Prelude.{if◌then◌else◌, not}
 use Rattle.promql_meaning.specs.declared.answer.Answer.{Answer}
 use Rattle.promql_meaning.specs.declared.answer.Outcome.{Outcome}
@@ -10,7 +10,7 @@ use Rattle.script_read.specs.declared.script.Expected.{Expected}
 use Rattle.script_read.specs.declared.script.Expected.TheVariants.{Scalar, Rows}
 use Rattle.script_read.specs.declared.script.Wanted.{Wanted}
 use Rattle.script_check.specs.Series.{Agrees, are_near, misplaced, scalar_in, scalar_reason}
-use Rattle.script_check.specs.Verdicts.{Holds, IsAsExpected, IsExpectedAnswer, IsUnmarked, PatternList, ResultHolds, answer_reason, failure_holds, failure_reason, failure_text_holds, first_reason, is_answer, is_scalar, no_note, noted_holds, notes_in, notes_reason, reason_of, result_reason, series_reason, series_wanted, silence_holds, some_note, unless, verdict_by, verdict_of}
+use Rattle.script_check.specs.Verdicts.{Holds, IsAsExpected, IsExpectedAnswer, IsUnmarked, PatternList, ResultHolds, answer_reason, failure_holds, failure_reason, failure_text_holds, first_reason, is_answer, is_scalar, no_note, noted_holds, notes_in, notes_reason, reason_of, result_reason, series_reason, silence_holds, some_note, unless, verdict_by, verdict_of}
 use Rattle.script_check.specs.declared.verdict.Reason.{Reason}
 use Rattle.script_check.specs.declared.verdict.Reason.TheVariants.{NoFailure, Unexpected, FailureText, NotScalar, NotVector}
 use Rattle.script_check.specs.declared.verdict.Verdict.TheVariants.{Pass}
@@ -36,15 +36,15 @@ as_expected instant ordered (Scalar value) answer h =
       | false ↦ λ e. absurd (cc)
     ] h
 as_expected instant ordered (Rows rows) answer h =
-    elim (is_scalar instant answer) as (λ b. (if b then Some NotVector else series_reason ordered (map series_wanted rows) answer.series) ≡ None
-    → (b ≡ false) × Agrees (map series_wanted rows) answer.series × (ordered ≡ true → misplaced (map series_wanted rows) answer.series ≡ None)) [
+    elim (is_scalar instant answer) as (λ b. (if b then Some NotVector else series_reason ordered rows answer.series) ≡ None
+    → (b ≡ false) × Agrees rows answer.series × (ordered ≡ true → misplaced rows answer.series ≡ None)) [
       | true ↦ λ e. absurd (cc)
-      | false ↦ λ e. let agree = series_agree (map series_wanted rows) answer.series ordered e in (refl, agree.0, agree.1)
+      | false ↦ λ e. let agree = series_agree rows answer.series ordered e in (refl, agree.0, agree.1)
     ] h
 
 as_expected_if : (instant ordered : Bool) (expected : Expected) (answer : Answer) → IsAsExpected instant ordered expected answer → answer_reason instant ordered expected answer ≡ None
 as_expected_if instant ordered (Scalar value) answer h = rw h.0 (near_scalar_if value (scalar_in answer.series) h.1)
-as_expected_if instant ordered (Rows rows) answer h = rw h.0 (series_agree_if (map series_wanted rows) answer.series ordered h.1 h.2)
+as_expected_if instant ordered (Rows rows) answer h = rw h.0 (series_agree_if rows answer.series ordered h.1 h.2)
 
 result_holds : (e : Expectations) (instant : Bool) (o : Outcome) → result_reason e instant o ≡ None → ResultHolds e instant o
 result_holds e instant (outcome.Answer answer) h = as_expected instant e.ordered e.result answer h

@@ -1,21 +1,18 @@
 -- When the outcome of an evaluation is what a script expects of it, line by line, and the first reason why it isn't. (The rules of
 -- promqltest; the order of the reasons and the meaning of several `expect` lines are this project's own.)
-use Rattle.std.specs.Prelude.{◌≡◌, ◌<◌, ℕ, Bool, true, false, if◌then◌else◌, not, ◌&&◌, ◌||◌, List, [], length, map, bytes_eq, Option, None, Some, IsTrue}
+use Rattle.std.specs.Prelude.{◌≡◌, ◌<◌, ℕ, Bool, true, false, if◌then◌else◌, not, ◌&&◌, ◌||◌, List, [], length, bytes_eq, Option, None, Some, IsTrue}
 use Rattle.std.specs.List.{AllByRecursion, list_all, list_any}
 use Rattle.std.specs.Str.{is_utf8}
 use Rattle.match_rule.specs.Patterns.{passes_at}
 use Rattle.promql_meaning.specs.declared.answer.Answer.{Answer}
 use Rattle.promql_meaning.specs.declared.answer.Outcome.{Outcome}
 use Rattle.promql_meaning.specs.declared.answer.Outcome.TheVariants as outcome
-use Rattle.promql_meaning.specs.declared.answer.Point.{Point}
 use Rattle.promql_meaning.specs.declared.answer.ResultSeries.{ResultSeries}
 use Rattle.script_read.specs.Lines.{is_empty}
 use Rattle.script_read.specs.declared.script.Command.{Command}
 use Rattle.script_read.specs.declared.script.Expectations.{Expectations}
 use Rattle.script_read.specs.declared.script.Expected.{Expected}
 use Rattle.script_read.specs.declared.script.Expected.TheVariants.{Scalar, Rows}
-use Rattle.script_read.specs.declared.script.Point.{Point as LinePoint}
-use Rattle.script_read.specs.declared.script.ResultSeries.{ResultSeries as LineSeries}
 use Rattle.script_read.specs.declared.script.Script.{Script}
 use Rattle.script_read.specs.declared.script.Wanted.{Wanted}
 use Rattle.script_read.specs.declared.script.Wanted.TheVariants.{Any, Msg, Regex}
@@ -95,13 +92,6 @@ notes_reason kept warnings lines none notes =
 
 -- ---- results
 
--- the points and the series of a script, as an answer has them
-abbrev pub point_wanted : LinePoint → Point
-point_wanted p = record { at = p.at; value = p.value }
-
-abbrev pub series_wanted : LineSeries → ResultSeries
-series_wanted s = record { labels = s.labels; points = map point_wanted s.points }
-
 -- an answer is a scalar; in a range it is the series without labels
 abbrev pub is_scalar : Bool → Answer → Bool
 is_scalar instant answer = instant && answer.scalar
@@ -114,7 +104,7 @@ series_reason ordered wanted got =
 -- the first reason in the result of an answer: it is of another kind, or of its series
 abbrev pub answer_reason : Bool → Bool → Expected → Answer → Option Reason
 answer_reason instant ordered (Scalar value) answer = if is_scalar instant answer then scalar_reason value (scalar_in answer.series) else Some NotScalar
-answer_reason instant ordered (Rows rows) answer = if is_scalar instant answer then Some NotVector else series_reason ordered (map series_wanted rows) answer.series
+answer_reason instant ordered (Rows rows) answer = if is_scalar instant answer then Some NotVector else series_reason ordered rows answer.series
 
 -- only the result of an answer is judged
 abbrev pub result_reason : Expectations → Bool → Outcome → Option Reason
@@ -147,7 +137,7 @@ verdict_of kept e instant o = verdict_by (reason_of kept e instant o)
 abbrev pub IsAsExpected : Bool → Bool → Expected → Answer → Type 0
 IsAsExpected instant ordered (Scalar value) answer = (is_scalar instant answer ≡ true) × IsTrue (are_near (Some value) (scalar_in answer.series))
 IsAsExpected instant ordered (Rows rows) answer =
-    (is_scalar instant answer ≡ false) × Agrees (map series_wanted rows) answer.series × (ordered ≡ true → misplaced (map series_wanted rows) answer.series ≡ None)
+    (is_scalar instant answer ≡ false) × Agrees rows answer.series × (ordered ≡ true → misplaced rows answer.series ≡ None)
 
 abbrev pub ResultHolds : Expectations → Bool → Outcome → Type 0
 ResultHolds e instant (outcome.Answer answer) = IsAsExpected instant e.ordered e.result answer

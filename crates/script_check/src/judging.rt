@@ -4,7 +4,7 @@ ghost use Rattle.std.specs.Prelude.{◌≡◌, IfOk};
 
 use crate::note_text::texts_of;
 use crate::outcome_text::append_outcome;
-use crate::series::{judge_scalar, judge_series, scalar_in, series_wanted};
+use crate::series::{judge_scalar, judge_series, scalar_in};
 use crate::tested::{are_met, is_silent, meets_all};
 use crate::verdict::{Reason, Verdict};
 use label_set::Items;
@@ -145,8 +145,7 @@ fn judge_answer(
             if is_scalar(instant, answer) {
                 return Ok(Some(Reason::NotVector));
             }
-            let wanted = series_wanted(alloc, rows.as_slice())?;
-            judge_series(alloc, ordered, wanted.as_slice(), answer.series.as_slice())
+            judge_series(alloc, ordered, rows.as_slice(), answer.series.as_slice())
         }
     }
 }

@@ -1,13 +1,13 @@
 //! Whether the series of an answer are those that are expected.
 ghost use Rattle.script_check.specs.Lookups.{HasSeries, HasValues};
 ghost use Rattle.script_check.specs.Series.{differs, differs_from, extra_reason, first_apart, first_value, is_apart, is_differing, is_lacking, are_near, least, lesser, misplaced, missing_reason, order_reason, scalar_in, scalar_reason, soonest, soonest_of, sooner, times, value_at, value_reason};
-ghost use Rattle.script_check.specs.Verdicts.{point_wanted, series_reason, series_wanted};
+ghost use Rattle.script_check.specs.Verdicts.{series_reason};
 ghost use Rattle.promql_meaning.specs.declared.answer.Point.{Point};
 ghost use Rattle.promql_meaning.specs.declared.answer.ResultSeries.{ResultSeries};
-ghost use Rattle.std.specs.Prelude.{◌≡◌, filter, map, option_map, IfOk, List};
+ghost use Rattle.std.specs.Prelude.{◌≡◌, filter, option_map, IfOk, List};
 
 use crate::verdict::Reason;
-use label_set::{Items, Labels};
+use label_set::Labels;
 use promql_meaning::{Point, ResultSeries};
 use std::alloc::{AllocError, Global};
 use std::cmp::Ordering;
@@ -20,43 +20,6 @@ type SeriesMap<'a> = BTreeMap<Labels, &'a ResultSeries>;
 
 /// Values by their times in milliseconds.
 type Values = BTreeMap<i64, XFrac>;
-
-// ---- the series of a script
-
-fn point_wanted(point: &script_read::Point) -> Point
-    ensures { result ≡ point_wanted point.now }
-{
-    Point {
-        at: point.at,
-        value: point.value,
-    }
-}
-
-fn points_wanted(alloc: Global, points: &[script_read::Point]) -> Result<Items<Point>, AllocError>
-    ensures { IfOk result (λ all. all ≡ map point_wanted points.now) }
-{
-    let mut all = Items::new(alloc);
-    for point in points {
-        all.push(point_wanted(point))?;
-    }
-    Ok(all)
-}
-
-/// The series of a script, as an answer has them. The only error is want of memory.
-pub fn series_wanted(
-    alloc: Global,
-    rows: &[script_read::ResultSeries],
-) -> Result<Items<ResultSeries>, AllocError>
-    ensures { IfOk result (λ all. all ≡ map series_wanted rows.now) }
-{
-    let mut all = Items::new(alloc);
-    for row in rows {
-        let labels = row.labels.copy()?;
-        let points = points_wanted(alloc, row.points.as_slice())?;
-        all.push(ResultSeries { labels, points })?;
-    }
-    Ok(all)
-}
 
 // ---- values
 

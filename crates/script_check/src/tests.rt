@@ -55,23 +55,10 @@ fn first_expectations(script: &Script) -> Result<Expectations, Fail>
 fn series(alloc: Global, range: &str, lines: &str) -> Result<Items<ResultSeries>, Fail> {
     let mut searches = Patterns::new(alloc);
     let read = expectations(alloc, range, lines, &mut searches)?;
-    let mut all = Items::new(alloc);
-    if let Expected::Rows(rows) = &read.result {
-        for row in rows.as_slice() {
-            let mut points = Items::new(alloc);
-            for point in row.points.as_slice() {
-                points.push(Point {
-                    at: point.at,
-                    value: point.value,
-                })?;
-            }
-            all.push(ResultSeries {
-                labels: row.labels.copy()?,
-                points,
-            })?;
-        }
+    match &read.result {
+        Expected::Rows(rows) => Ok(rows.copy()?),
+        Expected::Scalar(_) => Ok(Items::new(alloc)),
     }
-    Ok(all)
 }
 
 /// A note: `q` and a number, `b` and a bound, `c` and a name, or `f`.
@@ -304,15 +291,15 @@ fn shuffled(alloc: Global, count: u32, stride: u32) -> Result<Items<ResultSeries
 }
 
 /// The lines of the same series in their order by number.
-fn lines_of(alloc: Global, count: u32) -> Result<Items<script_read::ResultSeries>, Fail> {
+fn lines_of(alloc: Global, count: u32) -> Result<Items<ResultSeries>, Fail> {
     let mut all = Items::new(alloc);
     for k in 0..count {
         let mut points = Items::new(alloc);
-        points.push(script_read::Point {
+        points.push(Point {
             at: Ms(0),
             value: whole(i64::from(k)),
         })?;
-        all.push(script_read::ResultSeries {
+        all.push(ResultSeries {
             labels: numbered_labels(alloc, k)?,
             points,
         })?;

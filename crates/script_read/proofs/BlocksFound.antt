@@ -3,6 +3,8 @@ use Rattle.std.proofs.Common.{◌≡◌, ◌≤◌, ℕ, Bool, true, false, cond
 use Rattle.std.specs.Prelude.{nat_lt}
 use Rattle.std.proofs.lemmas.Bool.{ltb-false}
 use Rattle.xfrac.specs.declared.value.XFrac.{XFrac}
+use Rattle.promql_meaning.specs.declared.answer.Point.{Point}
+use Rattle.promql_meaning.specs.declared.answer.ResultSeries.{ResultSeries}
 use Rattle.script_read.specs.BlockForms.{AreBlocks, AreExpected, AreItems, AreLoaded, ArePoints, IsBlock, IsScript, clear_block, eval_block, expectation_line, load_block, more_blocks, more_items, no_blocks, no_lines, no_series, nothing_more, on_grid, one_item, one_number, row_line, scalar_line, series_line}
 use Rattle.script_read.specs.Commands.{Order, Clearing, Loading, Evaluating, heading_of}
 use Rattle.script_read.specs.Expects.{expectation_added, expectation_of, fits, is_expectation, mode_wants, with_asked}
@@ -23,8 +25,6 @@ use Rattle.script_read.specs.declared.fault.ReadFault.TheVariants.{Refused}
 use Rattle.script_read.specs.declared.script.Expectations.{Expectations}
 use Rattle.script_read.specs.declared.script.Expected.{Expected}
 use Rattle.script_read.specs.declared.script.Expected.TheVariants.{Scalar, Rows}
-use Rattle.script_read.specs.declared.script.Point.{Point}
-use Rattle.script_read.specs.declared.script.ResultSeries.{ResultSeries}
 use Rattle.script_read.specs.declared.script.ScriptRefusal.TheVariants.{TooLarge}
 use Rattle.script_read.specs.declared.script.SeriesItem.{SeriesItem}
 use Rattle.script_read.specs.declared.script.SeriesLine.{SeriesLine}
@@ -43,11 +43,11 @@ onto_ok (Ok x) (Ok xs) all h = (x, xs, refl, refl, cc)
 onto_ok (Ok x) (Err e) all h = absurd (cc)
 onto_ok (Err e) s all h = absurd (cc)
 
-front_ok : {X E : Type 0} (x : X) (r : Result (List X) E) (all : List X) → in_front (x ∷ []) r ≡ Ok all → (xs : List X) × (r ≡ Ok xs) × (x ∷ xs ≡ all)
+pub front_ok : {X E : Type 0} (x : X) (r : Result (List X) E) (all : List X) → in_front (x ∷ []) r ≡ Ok all → (xs : List X) × (r ≡ Ok xs) × (x ∷ xs ≡ all)
 front_ok x (Ok xs) all h = (xs, refl, cc)
 front_ok x (Err e) all h = absurd (cc)
 
-joined_ok : {X E : Type 0} (r s : Result (List X) E) (all : List X) → joined r s ≡ Ok all → (xs : List X) × (ys : List X) × (r ≡ Ok xs) × (s ≡ Ok ys) × (xs ++ ys ≡ all)
+pub joined_ok : {X E : Type 0} (r s : Result (List X) E) (all : List X) → joined r s ≡ Ok all → (xs : List X) × (ys : List X) × (r ≡ Ok xs) × (s ≡ Ok ys) × (xs ++ ys ≡ all)
 joined_ok (Ok xs) (Ok ys) all h = (xs, ys, refl, refl, cc)
 joined_ok (Ok xs) (Err e) all h = absurd (cc)
 joined_ok (Err e) s all h = absurd (cc)

@@ -2,6 +2,8 @@
 use Rattle.std.proofs.Common.{◌≡◌, ◌≤◌, ℕ, ◌+◌, ◌-◌, true, false, cond, List, [], ◌∷◌, ◌++◌, length, Result, Ok, Err, refl, ap, sym, ◌∙◌, arith}
 use Rattle.std.proofs.lemmas.Bool.{le-leb, le-ltb, lt-ltb}
 use Rattle.xfrac.specs.declared.value.XFrac.{XFrac}
+use Rattle.promql_meaning.specs.declared.answer.Point.{Point}
+use Rattle.promql_meaning.specs.declared.answer.ResultSeries.{ResultSeries}
 use Rattle.script_read.specs.BlockForms.{AreBlocks, AreExpected, AreItems, AreLoaded, ArePoints, IsBlock, IsScript, clear_block, eval_block, expectation_line, load_block, more_blocks, more_items, no_blocks, no_lines, no_series, nothing_more, on_grid, one_item, one_number, row_line, scalar_line, series_line}
 use Rattle.script_read.specs.Commands.{Order, Clearing, Loading, Evaluating, heading_of}
 use Rattle.script_read.specs.Expects.{Expectation, expectation_added, expectation_of, fits, if_fits, is_expectation, mode_wants, with_asked}
@@ -21,8 +23,6 @@ use Rattle.script_read.specs.declared.fault.ReadFault.TheVariants.{Refused}
 use Rattle.script_read.specs.declared.script.Expectations.{Expectations}
 use Rattle.script_read.specs.declared.script.Expected.{Expected}
 use Rattle.script_read.specs.declared.script.Expected.TheVariants.{Scalar, Rows}
-use Rattle.script_read.specs.declared.script.Point.{Point}
-use Rattle.script_read.specs.declared.script.ResultSeries.{ResultSeries}
 use Rattle.script_read.specs.declared.script.ScriptRefusal.TheVariants.{TooLarge}
 use Rattle.script_read.specs.declared.script.SeriesItem.{SeriesItem}
 use Rattle.script_read.specs.declared.script.SeriesItem.TheVariants.{Gap, Stale, Run}

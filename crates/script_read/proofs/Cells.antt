@@ -1,12 +1,12 @@
 -- Items and points of results, one more at a time.
 use Rattle.std.proofs.Common.{◌≡◌, ◌≤◌, ◌<◌, ℕ, suc, ◌+◌, List, [], ◌∷◌, ◌++◌, length, get_or, drop, map, Bor, Result, Ok, Err, false, ◌==◌, refl, ap, ◌∙◌, arith, add-one, drop-cons, subst}
 use Rattle.xfrac.specs.declared.value.XFrac.{XFrac}
+use Rattle.promql_meaning.specs.declared.answer.Point.{Point}
 use Rattle.script_read.specs.Items.{item_spelled}
 use Rattle.script_read.specs.Moments.{Moments, point_at}
 use Rattle.script_read.specs.Outcomes.{in_front, joined, then_give, then_try}
 use Rattle.script_read.specs.Results.{cell_spelled, cells_from, cells_spelled, next_value, room_after, run_points, total_places, places_of}
 use Rattle.script_read.specs.declared.fault.LineFault.{LineFault}
-use Rattle.script_read.specs.declared.script.Point.{Point}
 use Rattle.std.proofs.lemmas.Bool.Decides.{nat_tests}
 use Rattle.script_read.specs.declared.script.SeriesItem.{SeriesItem}
 use Rattle.script_read.specs.declared.script.SeriesItem.TheVariants.{Gap, Stale, Run}

@@ -29,4 +29,5 @@ pub mod SeriesFound
 pub mod SeriesRead
 pub mod BlocksFound
 pub mod BlocksRead
+pub mod Few
 pub mod FirstRefused

@@ -1,5 +1,6 @@
 -- The labels of a result that are seen, beside lines that leave its series as they are.
 use Rattle.std.proofs.Common.{◌≡◌, ℕ, Bool, true, false, List, [], ◌∷◌, ◌++◌, Result, Ok, Err, refl, ap, subst, IfOk}
+use Rattle.promql_meaning.specs.declared.answer.ResultSeries.{ResultSeries}
 use Rattle.script_read.specs.Expects.{Expectation, InOrder, Failing, Warning, Informing, WithoutWarnings, WithoutInfos, expectation_added, expectation_of, fits, wanted_for, with_asked}
 use Rattle.script_read.specs.Lines.{words_of}
 use Rattle.script_read.specs.Outcomes.{Makes, MakesWith, PatternList}
@@ -10,7 +11,6 @@ use Rattle.script_read.specs.declared.fault.LineFault.TheVariants.{Malformed}
 use Rattle.script_read.specs.declared.script.Expectations.{Expectations}
 use Rattle.script_read.specs.declared.script.Expected.{Expected}
 use Rattle.script_read.specs.declared.script.Expected.TheVariants.{Scalar, Rows}
-use Rattle.script_read.specs.declared.script.ResultSeries.{ResultSeries}
 use Rattle.script_read.proofs.Takes.{give_ok, if_ok, same_ok, try_ok}
 
 -- an expectation leaves the result as it is

@@ -15,6 +15,7 @@ use Rattle.xfrac.specs.declared.value.XFrac.{XFrac}
 use Rattle.ticks.specs.declared.moment.Ms.{Ms}
 use Rattle.frac_text.specs.Times.{time_answer}
 use Rattle.frac_text.specs.declared.refusal.TimeRefusal.{TimeRefusal}
+use Rattle.promql_meaning.specs.declared.answer.ResultSeries.{ResultSeries}
 use Rattle.script_read.specs.Commands.{Order, Clearing, Loading, after_word, duration_after, eval_mode, evaluated, evaluation_of, heading_of, if_alone, instant_heading, moment_at, moments_from, load_heading, range_heading, range_of, time_after}
 use Rattle.script_read.specs.Expects.{RefusesOnLine, RefusesPattern, search_on}
 use Rattle.script_read.specs.Lines.{Numbered, behind_word, first_word, from_blank, is_empty, words_behind, words_of}
@@ -37,7 +38,6 @@ use Rattle.script_read.specs.declared.fault.LineFault.TheVariants.{Malformed, Na
 use Rattle.script_read.specs.declared.script.Expectations.{Expectations}
 use Rattle.script_read.specs.declared.script.Expected.{Expected}
 use Rattle.script_read.specs.declared.script.Expected.TheVariants.{Scalar, Rows}
-use Rattle.script_read.specs.declared.script.ResultSeries.{ResultSeries}
 use Rattle.script_read.specs.declared.script.SeriesItem.{SeriesItem}
 use Rattle.script_read.specs.declared.script.SeriesItem.TheVariants.{Gap, Stale, Run}
 use Rattle.script_read.proofs.Sparing.{filled_spares, front_spares, give_spares, if_spares, is_other, joined_spares, Spared, spares, number_spares, spared, spared_by, text_spares, try_spares}

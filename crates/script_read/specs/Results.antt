@@ -7,6 +7,8 @@ use Rattle.xfrac.specs.Arithmetic.{arithmetic}
 use Rattle.xfrac.specs.declared.value.NumFault.{NumFault}
 use Rattle.xfrac.specs.declared.value.ArithOp.TheVariants.{Add}
 use Rattle.xfrac.specs.declared.value.XFrac.{XFrac}
+use Rattle.promql_meaning.specs.declared.answer.Point.{Point}
+use Rattle.promql_meaning.specs.declared.answer.ResultSeries.{ResultSeries}
 use Rattle.script_read.specs.Items.{item_spelled}
 use Rattle.script_read.specs.Lines.{is_empty, words_behind, words_of}
 use Rattle.script_read.specs.Moments.{Moments, places, point_at}
@@ -18,8 +20,6 @@ use Rattle.script_read.specs.declared.fault.LineFault.TheVariants.{Malformed, Nu
 use Rattle.script_read.specs.declared.script.Expectations.{Expectations}
 use Rattle.script_read.specs.declared.script.Expected.{Expected}
 use Rattle.script_read.specs.declared.script.Expected.TheVariants.{Scalar, Rows}
-use Rattle.script_read.specs.declared.script.Point.{Point}
-use Rattle.script_read.specs.declared.script.ResultSeries.{ResultSeries}
 use Rattle.script_read.specs.declared.script.SeriesItem.{SeriesItem}
 use Rattle.script_read.specs.declared.script.SeriesItem.TheVariants.{Gap, Stale, Run}
 

@@ -22,8 +22,7 @@ pub use laws::{
 };
 pub use reader::read;
 pub use script::{
-    Command, Expectations, Expected, Point, ResultSeries, Script, ScriptRefusal, SeriesItem,
-    SeriesLine, Wanted, What,
+    Command, Expectations, Expected, Script, ScriptRefusal, SeriesItem, SeriesLine, Wanted, What,
 };
 pub use std::alloc::AllocError as Memory;
 

@@ -21,12 +21,12 @@ use crate::line::{Line, words_behind, words_in};
 use crate::quote::{has_histogram, without_comment};
 use crate::rows::{begins_series, instant_points, number_alone, range_points};
 use crate::script::{
-    Command, Expectations, Expected, ResultSeries, Script, ScriptRefusal, SeriesItem, SeriesLine,
-    What,
+    Command, Expectations, Expected, Script, ScriptRefusal, SeriesItem, SeriesLine, What,
 };
 use crate::series::read_series;
 use label_set::{Items, Labels, Text};
 use match_rule::Patterns;
+use promql_meaning::ResultSeries;
 use std::alloc::{AllocError, Global};
 use std::collections::BTreeSet;
 use ticks::Ms;
@@ -358,6 +358,7 @@ pub fn read(alloc: Global, bytes: &[u8], searches: &mut Patterns) -> Result<Scri
     ensures refused { IfErr result (RefusesOnLine searches.new (lines_of bytes.now)) }
     ensures grows { Gathers (lines_of bytes.now) searches.old searches.new }
     ensures gains { Gains searches.old searches.new }
+    ensures few { IfOk result (λ script. length script.commands < 2 ^ 32) }
 {
     if bytes.len() > LIMIT {
         return Err(ReadFault::Refused(ScriptRefusal::TooLarge));

@@ -8,9 +8,10 @@ ghost use Rattle.std.specs.Prelude.{◌≡◌, ◌<◌, ◌≤◌, ◌+◌, ◌^
 use crate::fault::LineFault;
 use crate::item::read_item;
 use crate::line::words_behind;
-use crate::script::{Point, SeriesItem};
+use crate::script::SeriesItem;
 use crate::word::{is_word, read_number, split_name, starts_name};
 use label_set::Items;
+use promql_meaning::Point;
 use std::alloc::Global;
 use ticks::{Grid, Ms};
 use xfrac::{ArithOp, XFrac, arith};

@@ -2,6 +2,7 @@
 ghost use Rattle.std.specs.Prelude.{◌≡◌, IfOk};
 
 use label_set::{Items, Labels, PatternId, Text};
+use promql_meaning::ResultSeries;
 use std::alloc::AllocError;
 use thiserror::Error;
 use ticks::{Grid, Ms};
@@ -190,40 +191,6 @@ impl Clone for Wanted {
     ghost is_clone = { λ s t. t ≡ s };
 
     fn clone(&self) -> Result<Wanted, AllocError> {
-        self.copy()
-    }
-}
-
-/// A value at an instant, in milliseconds.
-#[derive(Clone, Copy, Debug, PartialEq, Eq)]
-pub struct Point {
-    pub at: Ms,
-    pub value: XFrac,
-}
-
-/// The points of one series, in rising time.
-#[derive(Debug, Drop, PartialEq, Eq)]
-pub struct ResultSeries {
-    pub labels: Labels,
-    pub points: Items<Point>,
-}
-
-impl ResultSeries {
-    /// An equal value, on the allocators of this one. The only error is want of memory.
-    pub fn copy(&self) -> Result<ResultSeries, AllocError>
-        ensures { IfOk result (λ s. s ≡ self.now) }
-    {
-        Ok(ResultSeries {
-            labels: self.labels.copy()?,
-            points: self.points.copy()?,
-        })
-    }
-}
-
-impl Clone for ResultSeries {
-    ghost is_clone = { λ s t. t ≡ s };
-
-    fn clone(&self) -> Result<ResultSeries, AllocError> {
         self.copy()
     }
 }

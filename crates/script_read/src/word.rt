@@ -81,6 +81,7 @@ pub fn read_interval(word: &[u8]) -> Result<Ms, LineFault>
     }
 }
 
+/// Whether a name may begin with the byte: a letter, an underscore or a colon.
 pub fn starts_name(byte: u8) -> bool
     ensures { result ≡ starts_name byte }
 {
@@ -108,6 +109,7 @@ fn is_identifier(text: &[u8]) -> bool
     }
 }
 
+/// Whether the text is the word, in any case of its letters.
 pub fn is_word(text: &[u8], word: &[u8]) -> bool
     ensures { result ≡ bytes_eq (map to_ascii_lowercase text.now) (map to_ascii_lowercase word.now) }
 {

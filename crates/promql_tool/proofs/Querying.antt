@@ -1,0 +1,89 @@
+-- What a query comes to, and its report.
+use Rattle.std.proofs.Common.{◌≡◌, ℕ, Bool, List, [], ◌∷◌, Option, None, Some, Result, Ok, Err, IfOk, OnErr, refl, sym, subst}
+use Rattle.std.proofs.lemmas.Result.{IfOk-weaker}
+use Rattle.edge_io.specs.Written.{appended, WroteFront}
+use Rattle.edge_io.specs.declared.sink.SinkFail.{SinkFail}
+use Rattle.promql_meaning.specs.declared.answer.Outcome.{Outcome}
+use Rattle.promql_meaning.specs.declared.answer.Outcome.TheVariants as outcome
+use Rattle.script_read.specs.Outcomes.{PatternList}
+use Rattle.script_read.specs.declared.script.Script.{Script}
+use Rattle.ticks.specs.declared.grid.Grid.{Grid}
+use Rattle.promql_tool.specs.Ends.{IsOneOf, Reports}
+use Rattle.promql_tool.specs.Query.{AreNoteLines, Queried, answered, gone, notes_in, outcome_report, refused}
+use Rattle.promql_tool.specs.Reading.{IsReadAs}
+use Rattle.promql_tool.specs.Found.{Just}
+use Rattle.promql_tool.specs.Runs.{AnswersFile, AnswersScript, Ends, IsAnswered, IsCutReport, Nothing, Partly, ReportsAnswered, ReportsQuery, stop_report}
+use Rattle.promql_tool.specs.Texts.{Report}
+use Rattle.promql_tool.specs.declared.fault.Stop.{Stop}
+use Rattle.promql_tool.specs.declared.fault.Stop.TheVariants as stop
+use Rattle.promql_tool.specs.declared.print.Status.{Status}
+use Rattle.promql_tool.specs.declared.query.Answered.{Answered}
+use Rattle.promql_tool.specs.declared.query.Answered.TheVariants as end
+use Rattle.promql_tool.proofs.Judging.{loads_refused}
+use Rattle.promql_tool.proofs.Mapped.{just, stops_so}
+
+module _ (path expr : List ℕ) (grid : Grid) (instant : Bool) (idle : Type 0) where
+  -- what is answered over a script, as what is answered over its bytes
+  over_script : (kept : PatternList) (bytes : List ℕ) (script : Script) → IsReadAs kept bytes (Ok script) → (got : Answered) → AnswersScript script expr grid instant idle got → AnswersFile (Just bytes) path expr grid instant idle got
+  over_script kept bytes script is_read (end.Outcome got) h = record { bytes = bytes; is_found = refl; kept = kept; script = script; is_read = is_read; over = h }
+  over_script kept bytes script is_read (end.Stopped stop.Gone) h = absurd h
+  over_script kept bytes script is_read (end.Stopped (stop.Refused why)) h = ((bytes, refl, loads_refused kept bytes script is_read why h.0), h.1)
+
+  pub script_answered : (E : Type 0) (kept : PatternList) (bytes : List ℕ) (script : Script) (r : Result Answered E) → IsReadAs kept bytes (Ok script) → IfOk r (AnswersScript script expr grid instant idle)
+      → IfOk r (AnswersFile (Just bytes) path expr grid instant idle)
+  script_answered E kept bytes script r is_read h =
+      IfOk-weaker r (AnswersScript script expr grid instant idle) (AnswersFile (Just bytes) path expr grid instant idle) (over_script kept bytes script is_read) h
+
+  -- bytes are there
+  not_gone : (bytes : List ℕ) (got : Answered) (P : Type 0) → AnswersFile (Just bytes) path expr grid instant idle got → got ≡ end.Stopped stop.Gone → P
+  not_gone bytes (end.Outcome got) P h is = absurd (cc)
+  not_gone bytes (end.Stopped stop.Gone) P h is = let none = h.0 in absurd (cc)
+  not_gone bytes (end.Stopped (stop.Refused why)) P h is = absurd (cc)
+
+  pub never_gone : (E : Type 0) (bytes : List ℕ) (r : Result Answered E) (P : Type 0) → IfOk r (AnswersFile (Just bytes) path expr grid instant idle) → IfOk r (λ got. got ≡ end.Stopped stop.Gone → P)
+  never_gone E bytes r P h = IfOk-weaker r (AnswersFile (Just bytes) path expr grid instant idle) (λ got. got ≡ end.Stopped stop.Gone → P) (λ got. not_gone bytes got P) h
+
+  module _ (found : List ℕ → Option (List ℕ) → Type 0) where
+    over_bytes : (bytes : List ℕ) → found path (Some bytes) → (got : Answered) → AnswersFile (Just bytes) path expr grid instant idle got → AnswersFile found path expr grid instant idle got
+    over_bytes bytes is_found (end.Outcome got) h = record { bytes = h.bytes; is_found = just found path bytes is_found (Some h.bytes) h.is_found; kept = h.kept; script = h.script; is_read = h.is_read; over = h.over }
+    over_bytes bytes is_found (end.Stopped stop) h = (stops_so (Just bytes) found path (just found path bytes is_found) stop h.0, h.1)
+
+    pub bytes_answered : (E : Type 0) (bytes : List ℕ) (r : Result Answered E) → found path (Some bytes) → IfOk r (AnswersFile (Just bytes) path expr grid instant idle) → IfOk r (AnswersFile found path expr grid instant idle)
+    bytes_answered E bytes r is_found h = IfOk-weaker r (AnswersFile (Just bytes) path expr grid instant idle) (AnswersFile found path expr grid instant idle) (over_bytes bytes is_found) h
+
+    -- the report of an outcome is of status 0 or 1
+    outcome_rests : (got : Outcome) (notes : List (List ℕ)) → IsOneOf (3 ∷ 6 ∷ []) (outcome_report got notes).status → idle
+    outcome_rests (outcome.Answer answer) notes h = absurd (cc)
+    outcome_rests (outcome.Refused refusal) notes h = absurd (cc)
+    outcome_rests (outcome.Failed at mark) notes h = absurd (cc)
+    outcome_rests (outcome.TooManyRows at) notes h = absurd (cc)
+
+    report_is : (got : Answered) (report : Report) → AnswersFile found path expr grid instant idle got → ReportsAnswered path got report → ReportsQuery found path expr grid instant idle report
+    report_is (end.Outcome got) report h r = subst (ReportsQuery found path expr grid instant idle) (sym r.2)
+        (record { is = answered h.bytes h.kept h.script got r.0 h.is_found h.is_read h.over r.1; rests = outcome_rests got r.0 })
+    report_is (end.Stopped stop.Gone) report h r = subst (ReportsQuery found path expr grid instant idle) (sym r) (record { is = gone h.0; rests = λ _. h.1 })
+    report_is (end.Stopped (stop.Refused why)) report h r = subst (ReportsQuery found path expr grid instant idle) (sym r) (record { is = refused h.0.0 why h.0.1 h.0.2; rests = λ _. h.1 })
+
+    module _ (before now : Option (List ℕ)) (got : Answered) (h : AnswersFile found path expr grid instant idle got) where
+      cut_is : IsCutReport (ReportsAnswered path got) before now → IsCutReport (Queried found path expr grid instant) before now
+      cut_is (Nothing same) = Nothing same
+      cut_is (Partly report r front) = Partly report (report_is got report h r).is front
+
+      pub query_ends : (r : Result Status SinkFail) → Ends (ReportsAnswered path got) (IsCutReport (ReportsAnswered path got) before now) before now r
+          → Ends (ReportsQuery found path expr grid instant idle) (IsCutReport (Queried found path expr grid instant) before now) before now r
+      query_ends (Ok status) e = (e.0, report_is got e.0 h e.1, e.2)
+      query_ends (Err cause) e = cut_is e
+
+module _ (path : List ℕ) (before now : Option (List ℕ)) where
+  -- an outcome was printed
+  pub outcome_printed : (got : Outcome) (notes : List (List ℕ)) (r : Result Status SinkFail) → AreNoteLines (notes_in got) notes
+      → IfOk r (λ status. (status.0 ≡ (outcome_report got notes).status) × (now ≡ appended before (outcome_report got notes).text)) → OnErr r (WroteFront before now (outcome_report got notes).text)
+      → Ends (ReportsAnswered path (end.Outcome got)) (IsCutReport (ReportsAnswered path (end.Outcome got)) before now) before now r
+  outcome_printed got notes (Ok status) are ok err = (outcome_report got notes, (notes, are, refl), record { status_is = ok.0; text_is = ok.1 })
+  outcome_printed got notes (Err cause) are ok err = Partly (outcome_report got notes) (notes, are, refl) err
+
+  -- a file that isn't run was printed
+  pub stop_printed : (stop : Stop) (r : Result Status SinkFail) → IfOk r (λ status. (status.0 ≡ (stop_report path stop).status) × (now ≡ appended before (stop_report path stop).text))
+      → OnErr r (WroteFront before now (stop_report path stop).text) → Ends (ReportsAnswered path (end.Stopped stop)) (IsCutReport (ReportsAnswered path (end.Stopped stop)) before now) before now r
+  stop_printed stop (Ok status) ok err = (stop_report path stop, refl, record { status_is = ok.0; text_is = ok.1 })
+  stop_printed stop (Err cause) ok err = Partly (stop_report path stop) refl err

@@ -1,0 +1,78 @@
+-- The last lines of a report, and the status of the program. (This project's own.)
+use Rattle.std.specs.Prelude.{ℕ, List, ◌++◌, codes, decimal}
+use Rattle.script_read.specs.declared.script.ScriptRefusal.{ScriptRefusal}
+use Rattle.script_read.specs.declared.script.ScriptRefusal.TheVariants.{Malformed, NativeHistogram, NotUtf8, TooLarge, NumberRange, BadPattern, BadLabels}
+use Rattle.test_runner.specs.Lines.{placed}
+use Rattle.test_runner.specs.declared.fault.LoadRefusal.{LoadRefusal}
+use Rattle.test_runner.specs.declared.fault.LoadRefusal.TheVariants.{Conflict, TooManySamples, TooManySeries}
+use Rattle.promql_tool.specs.declared.fault.Refusal.{Refusal}
+use Rattle.promql_tool.specs.declared.fault.Refusal.TheVariants.{Script, Range, Load}
+
+-- what is printed, and the status of the program
+pub record Report : Type 0 where
+  pub text : List ℕ
+  pub status : ℕ
+
+abbrev pub usage : List ℕ
+usage = codes "usage: promqltest [options] FILE.. or query [options] FILE EXPR\n"
+
+abbrev pub usage_report : Report
+usage_report = record { text = usage; status = 2 }
+
+-- how many evaluations pass and fail
+abbrev pub totals_text : ℕ → ℕ → List ℕ
+totals_text passed failed = codes "passed " ++ (decimal passed ++ (codes " failed " ++ (decimal failed ++ codes "\n")))
+
+-- a file that isn't there
+abbrev pub fault_text : List ℕ → List ℕ
+fault_text path = codes "FAULT read " ++ (path ++ codes "\n")
+
+abbrev pub fault_report : List ℕ → Report
+fault_report path = record { text = fault_text path; status = 3 }
+
+-- the line of a refusal, 0 where it is the whole file
+abbrev pub script_line : ScriptRefusal → ℕ
+script_line TooLarge = 0
+script_line (Malformed line) = line
+script_line (NativeHistogram line) = line
+script_line (NotUtf8 line) = line
+script_line (NumberRange line) = line
+script_line (BadPattern line) = line
+script_line (BadLabels line) = line
+
+abbrev pub load_line : LoadRefusal → ℕ
+load_line (Conflict line kept given) = line
+load_line (TooManySamples line) = line
+load_line (TooManySeries line) = line
+
+abbrev pub refused_line : Refusal → ℕ
+refused_line (Script refused) = script_line refused
+refused_line (Range line) = line
+refused_line (Load refused) = load_line refused
+
+-- the name of a refusal
+abbrev pub script_name : ScriptRefusal → List ℕ
+script_name TooLarge = codes "TooLarge"
+script_name (Malformed line) = codes "Malformed"
+script_name (NativeHistogram line) = codes "NativeHistogram"
+script_name (NotUtf8 line) = codes "NotUtf8"
+script_name (NumberRange line) = codes "NumberRange"
+script_name (BadPattern line) = codes "BadPattern"
+script_name (BadLabels line) = codes "BadLabels"
+
+abbrev pub load_name : LoadRefusal → List ℕ
+load_name (Conflict line kept given) = codes "Conflict"
+load_name (TooManySamples line) = codes "TooManySamples"
+load_name (TooManySeries line) = codes "TooManySeries"
+
+abbrev pub refusal_name : Refusal → List ℕ
+refusal_name (Script refused) = script_name refused
+refusal_name (Range line) = codes "NumberRange"
+refusal_name (Load refused) = load_name refused
+
+-- a file that is refused
+abbrev pub refusal_text : List ℕ → Refusal → List ℕ
+refusal_text path refused = placed (codes "REFUSED") path (refused_line refused) (codes " " ++ (refusal_name refused ++ codes "\n"))
+
+abbrev pub refusal_report : List ℕ → Refusal → Report
+refusal_report path refused = record { text = refusal_text path refused; status = 6 }

@@ -1,0 +1,100 @@
+use Rattle.std.proofs.Common.{◌≡◌, ◌+◌, List, [], ◌∷◌, ap, drop, take, length, subst, sym, ◌∙◌, refl, Ok, Err, arith, rules}
+use Rattle.std.proofs.lemmas.List.{length-take}
+use Rattle.std.proofs.lemmas.Result.{err_from_is_err_and}
+use Rattle.std.specs.List.{AllByRecursion}
+use Rattle.sample_store.specs.Samples.{AllSeries}
+use Rattle.script_check.specs.Verdicts.{HasItsPatterns, PatternList}
+use Rattle.script_read.specs.declared.script.Command.{Command}
+use Rattle.test_runner.specs.Loads.{left_by, left_by_all}
+use Rattle.test_runner.specs.Running.{CarriedOut, IfCut, WasCutOff}
+use Rattle.test_runner.proofs.Carrying.{at_drop, at_take, carried_join, carried_none, cut_join, cut_on, explained_on, few_counted, left_more, left_refused, parted}
+use Rattle.test_runner.proofs.running.run_commands.Goals as goal
+
+pub loop-command-init : goal.loop-command-init
+loop-command-init g c = record {
+  ran = carried_none _ _ _ _ refl refl;
+  left = ap (λ (s : AllSeries). Ok s) (sym c.new-store.ensures);
+  kept = subst (AllByRecursion (λ (one : Command). HasItsPatterns c.args.searches.now one.what)) (sym c.as_slice-command-items.ensures) c.requires.kept;
+  same = search rules;
+  later = search rules;
+  sound = search rules;
+}
+
+pub run_command-requires : goal.run_command-requires
+run_command-requires g c =
+    let command = c.command-item.result in
+    let kept = c.args.searches.now in
+    let front = at_drop c.as_slice-command-items.result.now c.loop-command.command-index command c.loop-command-test.true c.command-item.is in
+    let has = subst (AllByRecursion (λ (one : Command). HasItsPatterns kept one.what)) front c.loop-command.invariant.kept in
+    subst (λ (k : PatternList). HasItsPatterns k command.what) (sym c.loop-command.invariant.same) has.0
+
+pub plus-totals-requires-clause-passed : goal.plus-totals-requires-clause-passed
+plus-totals-requires-clause-passed g c =
+    let sofar = few_counted c.loop-command.invariant.ran in
+    let one = few_counted c.in_ok-more.ensures.ran in
+    let size = length-take c.loop-command.command-index c.as_slice-command-items.result.now in
+    let all = ap length c.as_slice-command-items.ensures in
+    omega (arith, sofar, one, size, all, c.requires.few, c.loop-command-test.true)
+
+pub plus-totals-requires-clause-failed : goal.plus-totals-requires-clause-failed
+plus-totals-requires-clause-failed g c =
+    let sofar = few_counted c.loop-command.invariant.ran in
+    let one = few_counted c.in_ok-more.ensures.ran in
+    let size = length-take c.loop-command.command-index c.as_slice-command-items.result.now in
+    let all = ap length c.as_slice-command-items.ensures in
+    omega (arith, sofar, one, size, all, c.requires.few, c.loop-command-test.true)
+
+pub loop-command-preserved : goal.loop-command-preserved
+loop-command-preserved g c =
+    let all = c.as_slice-command-items.result.now in
+    let i = c.loop-command.command-index in
+    let command = c.command-item.result in
+    let kept = c.args.searches.now in
+    let path = c.args.path.now in
+    let mid = c.loop-command.store in
+    let sofar = c.loop-command.invariant in
+    let between = g.S.Sink.written c.loop-command.out in
+    let now = g.S.Sink.written c.run_command.new.out in
+    let to = at_take all i command c.loop-command-test.true c.command-item.is in
+    let has = subst (AllByRecursion (λ (one : Command). HasItsPatterns kept one.what)) (at_drop all i command c.loop-command-test.true c.command-item.is) sofar.kept in
+    let more = subst (λ (k : PatternList). CarriedOut k path mid (command ∷ []) between now c.in_ok-more.more) sofar.same c.in_ok-more.ensures.ran in
+    let both = carried_join [] mid (take i all) sofar.ran sofar.left (command ∷ []) c.in_ok-more.more c.plus-totals.result more c.plus-totals.ensures.passed c.plus-totals.ensures.failed in
+    record {
+      ran = subst (λ (cs : List Command). CarriedOut kept path [] cs (g.S.Sink.written c.args.out.now) now c.plus-totals.result) to both;
+      left = subst (λ (cs : List Command). left_by_all cs [] ≡ Ok c.run_command.new.store) to (left_more (take i all) command [] mid sofar.left c.run_command.new.store c.in_ok-more.ensures.left);
+      kept = has.1;
+      same = c.in_ok-more.ensures.same ∙ sofar.same;
+      later = omega (arith, sofar.later, c.in_ok-more.ensures.cause.later);
+      sound = λ s. c.in_ok-more.ensures.sound (sofar.sound s);
+    }
+
+pub returns-in_err-more-clause-cut : goal.returns-in_err-more-clause-cut
+returns-in_err-more-clause-cut g c =
+    let all = c.as_slice-command-items.result.now in
+    let i = c.loop-command.command-index in
+    let command = c.command-item.result in
+    let kept = c.args.searches.now in
+    let path = c.args.path.now in
+    let mid = c.loop-command.store in
+    let sofar = c.loop-command.invariant in
+    let before = g.S.Sink.written c.args.out.now in
+    let between = g.S.Sink.written c.loop-command.out in
+    let now = g.S.Sink.written c.run_command.new.out in
+    let fault = c.in_err-more.field-0.0 in
+    let p = err_from_is_err_and c.from_residual.result c.from_residual.ensures.1 in
+    let here = subst (λ (k : PatternList). IfCut fault (WasCutOff k path mid (command ∷ []) between now)) sofar.same c.in_err-more.ensures.cut in
+    let whole = parted all i command c.loop-command-test.true c.command-item.is ∙ c.as_slice-command-items.ensures in
+    rw (p.1, p.2) (cut_on fault (WasCutOff kept path mid (command ∷ []) between now) (WasCutOff kept path [] c.args.script.now.commands before now) here
+    (λ cut. subst (λ (cs : List Command). WasCutOff kept path [] cs before now) whole (cut_join [] mid (take i all) sofar.ran sofar.left (command ∷ []) (drop (i + 1) all) cut)))
+
+pub returns-in_err-more-clause-explained : goal.returns-in_err-more-clause-explained
+returns-in_err-more-clause-explained g c =
+    let all = c.as_slice-command-items.result.now in
+    let i = c.loop-command.command-index in
+    let command = c.command-item.result in
+    let mid = c.loop-command.store in
+    let fault = c.in_err-more.field-0.0 in
+    let p = err_from_is_err_and c.from_residual.result c.from_residual.ensures.1 in
+    let whole = parted all i command c.loop-command-test.true c.command-item.is ∙ c.as_slice-command-items.ensures in
+    rw (p.1, p.2) (explained_on (left_by command.what mid) (left_by_all c.args.script.now.commands []) fault c.in_err-more.ensures.explained
+    (λ h. subst (λ (cs : List Command). left_by_all cs [] ≡ Err fault) whole (left_refused (take i all) command [] mid c.loop-command.invariant.left (drop (i + 1) all) fault h)))

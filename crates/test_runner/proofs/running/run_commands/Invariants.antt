@@ -1,0 +1,18 @@
+use Rattle.std.proofs.Common.{◌≡◌, ◌≤◌, [], drop, take, Ok}
+use Rattle.std.specs.List.{AllByRecursion}
+use Rattle.script_check.specs.Verdicts.{HasItsPatterns}
+use Rattle.script_read.specs.declared.script.Command.{Command}
+use Rattle.test_runner.specs.Loads.{left_by_all}
+use Rattle.test_runner.specs.Running.{CarriedOut}
+use Rattle.test_runner.proofs.running.run_commands.Given as goal
+
+-- the commands so far were carried out
+abbrev pub invariant-loop-command : goal.invariant-loop-command
+invariant-loop-command g l = record {
+  ran : CarriedOut l.fn.searches l.path [] (take l.command-index l.command-items) (g.S.Sink.written l.fn.out) (g.S.Sink.written l.out) l.totals;
+  left : left_by_all (take l.command-index l.command-items) [] ≡ Ok l.store;
+  kept : AllByRecursion (λ (command : Command). HasItsPatterns l.fn.searches command.what) (drop l.command-index l.command-items);
+  same : l.searches ≡ l.fn.searches;
+  later : g.S.Sink.faults l.fn.out ≤ g.S.Sink.faults l.out;
+  sound : g.S.Sink.sound l.fn.out → g.S.Sink.sound l.out;
+}

@@ -1,0 +1,6 @@
+pub mod Loads
+pub mod Loading
+pub mod Verdicts
+pub mod Lines
+pub mod Running
+pub mod Steps

@@ -1,0 +1,37 @@
+//! Answering an expression over the samples of a script.
+ghost use Rattle.std.specs.Prelude.{◌≡◌, IfErr, IfOk};
+ghost use Rattle.test_runner.specs.Loads.{samples_left};
+ghost use Rattle.test_runner.specs.Running.{AnswersLoads, IfOfLoads, IsAnswerOver};
+ghost use Rattle.test_runner.specs.declared.fault.RunnerFault.TheVariants.{Write};
+
+use crate::fault::RunnerFault;
+use crate::load::load_all;
+use promql_meaning::Outcome;
+use query_engine::evaluate;
+use script_read::Script;
+use std::alloc::Global;
+use std::sync::ledger::Ledger;
+use ticks::{Grid, Work};
+
+/// What the text of a query comes to at the instants of a grid, or at its first where `instant` is told, over the samples
+/// that the `clear` and `load` commands of a script leave; its evaluations aren't run. `Refused` and `Range` come exactly
+/// where a load is refused, with the first refusal; then nothing was evaluated. `Write` never comes, and the only other
+/// error is want of memory. (The queries of promtool.)
+pub fn answer<W: Ledger>(
+    alloc: Global,
+    script: &Script,
+    text: &str,
+    grid: &Grid,
+    instant: bool,
+    work: &mut Work<W>,
+) -> Result<Outcome, RunnerFault>
+    ensures answered { IfOk result (IsAnswerOver script.now text.now grid.now instant) }
+    ensures refused { AnswersLoads (samples_left script.now) result }
+    ensures explained { IfErr result (IfOfLoads (samples_left script.now)) }
+    ensures unwritten { IfErr result (λ fault. fault ≡ Write → ⊥) }
+    ensures idle { IfErr (samples_left script.now) (λ _. work.new ≡ work.old) }
+{
+    let store = load_all(alloc, script)?;
+    let outcome = evaluate(alloc, text, grid, instant, &store, work)?;
+    Ok(outcome)
+}

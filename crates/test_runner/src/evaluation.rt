@@ -1,0 +1,84 @@
+//! Judging an evaluation: the line of its verdict.
+ghost use Rattle.script_check.specs.Verdicts.{HasPatterns};
+ghost use Rattle.std.specs.Prelude.{◌≡◌, IfOk};
+ghost use Rattle.test_runner.specs.Lines.{is_pass};
+ghost use Rattle.test_runner.specs.Steps.{IsJudgementOn, IsLine};
+ghost use Rattle.test_runner.specs.Verdicts.{judgement};
+
+use crate::text::verdict_line;
+use holders::Text;
+use match_rule::Patterns;
+use promql_meaning::Outcome;
+use query_engine::evaluate;
+use sample_store::Store;
+use script_check::{Verdict, append_outcome, judge};
+use script_read::Expectations;
+use std::alloc::{AllocError, Global};
+use std::sync::ledger::Ledger;
+use ticks::{Grid, Work};
+
+/// An evaluation of a script, with its line, counted from 1.
+#[derive(Clone, Copy)]
+pub struct Evaluation<'a> {
+    pub line: u32,
+    pub grid: &'a Grid,
+    pub instant: bool,
+    pub text: &'a Text,
+    pub expected: &'a Expectations,
+}
+
+/// The line of a verdict, and whether that is a pass.
+#[derive(Drop)]
+pub struct VerdictLine {
+    pub text: Vec<u8>,
+    pub passed: bool,
+}
+
+fn is_pass(verdict: &Verdict) -> bool
+    ensures { result ≡ is_pass verdict.now }
+{
+    match verdict {
+        Verdict::Pass => true,
+        Verdict::Fail(_) => false,
+    }
+}
+
+/// An outcome against what is expected of it. The only error is want of memory.
+fn judge_outcome(
+    alloc: Global,
+    path: &str,
+    asked: Evaluation<'_>,
+    outcome: &Outcome,
+    searches: &mut Patterns,
+) -> Result<VerdictLine, AllocError>
+    requires { HasPatterns searches.old asked.expected.now }
+    ensures line { IfOk result (λ line. IsLine path.now (λ judged. judged ≡ judgement searches.old asked.entry.line asked.entry.instant asked.entry.expected.now outcome.now) line.text.items line.passed) }
+    ensures same { searches.new ≡ searches.old }
+{
+    let verdict = judge(alloc, asked.expected, asked.instant, outcome, searches)?;
+    let mut told = Vec::new(alloc);
+    append_outcome(alloc, outcome, &mut told)?;
+    let text = verdict_line(alloc, path, asked.line, asked.instant, &told, &verdict)?;
+    Ok(VerdictLine {
+        text,
+        passed: is_pass(&verdict),
+    })
+}
+
+/// What an evaluation comes to over the samples of a store, against what is expected of it. The only error is want of memory.
+pub fn judge_evaluation<W: Ledger>(
+    alloc: Global,
+    path: &str,
+    asked: Evaluation<'_>,
+    store: &Store,
+    searches: &mut Patterns,
+    work: &mut Work<W>,
+) -> Result<VerdictLine, AllocError>
+    requires { HasPatterns searches.old asked.expected.now }
+    ensures line { IfOk result (λ line. IsLine path.now (IsJudgementOn searches.old store.now asked.entry) line.text.items line.passed) }
+    ensures same { searches.new ≡ searches.old }
+{
+    let text = asked.text.as_str();
+    let outcome = evaluate(alloc, text, asked.grid, asked.instant, store, work)?;
+    judge_outcome(alloc, path, asked, &outcome, searches)
+}

@@ -1,0 +1,21 @@
+//! Running a promqltest script: its loads, and the line of the verdict of each of its evaluations; and answering a query over
+//! what it loads.
+#![tactic(auto)]
+
+mod answering;
+mod evaluation;
+mod fault;
+mod laws;
+mod load;
+mod running;
+mod text;
+mod totals;
+
+pub use answering::answer;
+pub use fault::{LoadRefusal, RunnerFault};
+pub use laws::{each_evaluation_has_one_verdict, loads_put_their_samples};
+pub use running::run;
+pub use totals::Totals;
+
+#[cfg(test)]
+mod tests;

@@ -1,0 +1,149 @@
+//! Running a script: each evaluation is judged over the samples that were loaded before it, and its line is written.
+ghost use Rattle.edge_io.specs.Causes.{HasCause};
+ghost use Rattle.script_check.specs.Verdicts.{HasItsPatterns, HasPatterns, KeepsPatterns};
+ghost use Rattle.std.specs.Prelude.{◌≡◌, ◌<◌, ◌^◌, [], ◌∷◌, Ok, length, IfErr, IfOk, IsErrOf};
+ghost use Rattle.test_runner.specs.Loads.{left_by, samples_left};
+ghost use Rattle.test_runner.specs.Running.{AnswersLoads, CarriedOut, HasRun, IfCut, IfOfLoads, WasCut, WasCutOff};
+ghost use Rattle.test_runner.specs.Steps.{IsJudgementOn, WroteLess, WroteLine};
+
+use crate::evaluation::{Evaluation, judge_evaluation};
+use crate::fault::RunnerFault;
+use crate::load::{change_store, load_all};
+use crate::totals::Totals;
+use edge_io::{Sink, SinkFail, write_all};
+use match_rule::Patterns;
+use sample_store::Store;
+use script_read::{Command, Script, What};
+use std::alloc::Global;
+use std::sync::ledger::Ledger;
+use ticks::Work;
+
+/// Judges an evaluation, writes the line of its verdict, and answers whether that is a pass.
+fn run_evaluation<S: Sink, W: Ledger>(
+    alloc: Global,
+    path: &str,
+    asked: Evaluation<'_>,
+    store: &Store,
+    searches: &mut Patterns,
+    out: &mut S,
+    work: &mut Work<W>,
+) -> Result<bool, SinkFail>
+    requires { HasPatterns searches.old asked.expected.now }
+    ensures ran { IfOk result (WroteLine path.now (IsJudgementOn searches.old store.now asked.entry) (S.written out.old) (S.written out.new)) }
+    ensures cut { IfErr result (λ _. WroteLess path.now (IsJudgementOn searches.old store.now asked.entry) (S.written out.old) (S.written out.new)) }
+    ensures cause { HasCause (S.faults out.old) (S.faults out.new) (IsErrOf result SinkFail.Failed) }
+    ensures never { S.sound out.old → IsErrOf result SinkFail.Failed → ⊥ }
+    ensures sound { S.sound out.old → S.sound out.new }
+    ensures same { searches.new ≡ searches.old }
+{
+    let line = judge_evaluation(alloc, path, asked, store, searches, work)?;
+    write_all(out, &line.text)?;
+    Ok(line.passed)
+}
+
+/// Carries out a command, and answers the totals of its evaluation, if it is one.
+fn run_command<S: Sink, W: Ledger>(
+    alloc: Global,
+    path: &str,
+    command: &Command,
+    store: &mut Store,
+    searches: &mut Patterns,
+    out: &mut S,
+    work: &mut Work<W>,
+) -> Result<Totals, RunnerFault>
+    requires { HasItsPatterns searches.old command.now.what }
+    ensures left { IfOk result (λ _. left_by command.now.what store.old ≡ Ok store.new) }
+    ensures ran { IfOk result (CarriedOut searches.old path.now store.old (command.now ∷ []) (S.written out.old) (S.written out.new)) }
+    ensures cut { IfErr result (λ fault. IfCut fault (WasCutOff searches.old path.now store.old (command.now ∷ []) (S.written out.old) (S.written out.new))) }
+    ensures explained { IfErr result (IfOfLoads (left_by command.now.what store.old)) }
+    ensures cause { HasCause (S.faults out.old) (S.faults out.new) (IsErrOf result RunnerFault.Write) }
+    ensures never { S.sound out.old → IsErrOf result RunnerFault.Write → ⊥ }
+    ensures sound { S.sound out.old → S.sound out.new }
+    ensures same { searches.new ≡ searches.old }
+{
+    match &command.what {
+        What::Eval {
+            grid,
+            instant,
+            text,
+            expected,
+        } => {
+            let asked = Evaluation {
+                line: command.line,
+                grid,
+                instant: *instant,
+                text,
+                expected,
+            };
+            let passed = run_evaluation(alloc, path, asked, store, searches, out, work)?;
+            Ok(Totals::of_one(passed))
+        }
+        What::Clear | What::Load { .. } => {
+            change_store(store, &command.what)?;
+            Ok(Totals::NONE)
+        }
+    }
+}
+
+/// Carries out the commands of a script, and answers the totals of its evaluations.
+fn run_commands<S: Sink, W: Ledger>(
+    alloc: Global,
+    path: &str,
+    script: &Script,
+    searches: &mut Patterns,
+    out: &mut S,
+    work: &mut Work<W>,
+) -> Result<Totals, RunnerFault>
+    requires kept { KeepsPatterns searches.old script.now }
+    requires few { length script.now.commands < 2 ^ 32 }
+    ensures ran { IfOk result (HasRun searches.old path.now script.now (S.written out.old) (S.written out.new)) }
+    ensures cut { IfErr result (λ fault. IfCut fault (WasCut searches.old path.now script.now (S.written out.old) (S.written out.new))) }
+    ensures explained { IfErr result (IfOfLoads (samples_left script.now)) }
+    ensures cause { HasCause (S.faults out.old) (S.faults out.new) (IsErrOf result RunnerFault.Write) }
+    ensures never { S.sound out.old → IsErrOf result RunnerFault.Write → ⊥ }
+    ensures sound { S.sound out.old → S.sound out.new }
+    ensures same { searches.new ≡ searches.old }
+{
+    let mut store = Store::new(alloc);
+    let mut totals = Totals::NONE;
+    for command in script.commands.as_slice() {
+        let more = run_command(alloc, path, command, &mut store, searches, out, work)?;
+        totals = totals.plus(more);
+    }
+    Ok(totals)
+}
+
+/// Runs a script under a path: first all its loads are judged, then its commands are carried out in order, and each
+/// evaluation's line is written as it ends. `searches` keeps the patterns that the script names. `Refused` and `Range` come
+/// exactly where a load is refused, with the first refusal; then nothing was evaluated or written. After `Write`, which
+/// comes only where a write failed, and after want of memory, a front of the lines of the script's first evaluations was
+/// written. (The files of promqltest.)
+pub fn run<S: Sink, W: Ledger>(
+    alloc: Global,
+    path: &str,
+    script: &Script,
+    searches: &mut Patterns,
+    out: &mut S,
+    work: &mut Work<W>,
+) -> Result<Totals, RunnerFault>
+    requires kept { KeepsPatterns searches.old script.now }
+    requires few { length script.now.commands < 2 ^ 32 }
+
+    // Each evaluation's verdict was written, and these are their numbers.
+    ensures ran { IfOk result (HasRun searches.old path.now script.now (S.written out.old) (S.written out.new)) }
+
+    // A refusal of loads comes exactly where they are refused; then nothing was written or evaluated.
+    ensures refused { AnswersLoads (samples_left script.now) result }
+    ensures explained { IfErr result (IfOfLoads (samples_left script.now)) }
+    ensures untouched { IfErr (samples_left script.now) (λ _. (out.new ≡ out.old) × (work.new ≡ work.old)) }
+
+    // `Write` comes only from the sink. After it, and after want of memory, a front was written.
+    ensures cause { HasCause (S.faults out.old) (S.faults out.new) (IsErrOf result RunnerFault.Write) }
+    ensures never { S.sound out.old → IsErrOf result RunnerFault.Write → ⊥ }
+    ensures sound { S.sound out.old → S.sound out.new }
+    ensures cut { IfErr result (λ fault. IfCut fault (WasCut searches.old path.now script.now (S.written out.old) (S.written out.new))) }
+    ensures same { searches.new ≡ searches.old }
+{
+    load_all(alloc, script)?;
+    run_commands(alloc, path, script, searches, out, work)
+}

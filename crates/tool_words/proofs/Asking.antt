@@ -1,0 +1,133 @@
+-- From what the matches hold to what the words ask for, and what holds of all that is asked for.
+use Rattle.std.proofs.Common.{arith, ◌≡◌, ◌<◌, ◌≤◌, ◌∙◌, ℕ, Bool, true, false, cond, ap, refl, subst, sym, length, List, [], ◌∷◌, Option, None, Some, Result}
+use Rattle.std.specs.Prelude.{String, codes, map, pos, slice_get, string_bytes, option_and_then, option_map, IfOk, IfSome}
+use Rattle.std.specs.Str.{bytes_eq}
+use Rattle.std.proofs.lemmas.Slice.Eq.{bytes_eq-Decides}
+use Rattle.std.proofs.lemmas.Result.{IfOk-weaker}
+use Rattle.clap.specs.declared.parser.matches.ArgMatches.{ArgMatches}
+use Rattle.tool_words.specs.Asked.{Moments, Wish, asked, if_grid, is_grid, moments_of, query, query_at, query_of, query_worded, number_of, test, test_worded, time_of, moment_at, range_of, workload, workload_of, workload_worded}
+use Rattle.tool_words.specs.Said.{Item, Text, places_of, said, value_of}
+use Rattle.tool_words.specs.Tells.{Holds, Tells}
+use Rattle.tool_words.specs.Views.{HasSeries, IsOneInstant, wish_of}
+use Rattle.tool_words.specs.declared.asked.Asked.{Asked}
+use Rattle.tool_words.specs.declared.asked.Asked.TheVariants as wanted
+use Rattle.ticks.specs.declared.moment.Ms.{Ms}
+use Rattle.tool_words.proofs.Counts.{number_counted}
+
+pub answered : {E : Type 0} (m : ArgMatches) (said : Option (List Item)) (r : Result (Option Asked) E) (of : List Item → Option Wish) → Tells (Some m) said
+    → ((items : List Item) → Holds m items → IfOk r (λ asked. option_map wish_of asked ≡ of items)) → IfOk r (λ asked. option_map wish_of asked ≡ option_and_then of said)
+answered m said r of tells judged =
+    IfOk-weaker r _ _ (λ asked h. h ∙ sym (ap (option_and_then of) tells.1)) (judged tells.0 tells.2)
+
+pub told : (m : ArgMatches) (said : Option (List Item)) (o : Option Asked) (of : List Item → Option Wish) → Tells (Some m) said
+    → ((items : List Item) → Holds m items → option_map wish_of o ≡ of items) → option_map wish_of o ≡ option_and_then of said
+told m said o of tells judged = judged tells.0 tells.2 ∙ sym (ap (option_and_then of) tells.1)
+
+-- ---- what is asked for has files, an instant query has one instant, and a workload has series
+
+abbrev Alone : Moments → Type 0
+Alone m = m.instant ≡ true → m.start ≡ m.end
+
+abbrev Counted : ℕ → Type 0
+Counted count = (0 < count) × (count ≤ 20000)
+
+abbrev Sound : Wish → Type 0
+Sound (test files) = 0 < length files
+Sound (query moments file expr) = Alone moments
+Sound (workload count) = Counted count
+
+grid_alone : (m : Moments) → Alone m → IfSome (if_grid m) Alone
+grid_alone m alone = go (is_grid m)
+  where
+    go : (b : Bool) → IfSome (cond b (Some m) None) Alone
+    go true = alone
+    go false = tt
+
+at_once : (at : Ms) → IfSome (moment_at at) Alone
+at_once at = grid_alone (record { start = at; end = at; step = record { 0 = pos 1 }; instant = true }) (λ e. refl)
+
+moment_alone : (at : Option Ms) → IfSome (option_and_then moment_at at) Alone
+moment_alone None = tt
+moment_alone (Some at) = at_once at
+
+range_alone : (start end step : Option Ms) → IfSome (range_of start end step) Alone
+range_alone (Some start) (Some end) (Some step) =
+    grid_alone (record { start = start; end = end; step = step; instant = false }) (λ e. absurd (let many : false ≡ true = e in cc))
+range_alone _ _ _ = tt
+
+moments_alone : (at from to step : Option Text) → IfSome (moments_of at from to step) Alone
+moments_alone None None None None = at_once (record { 0 = pos 0 })
+moments_alone (Some at) None None None = moment_alone (time_of at)
+moments_alone None (Some from) (Some to) (Some step) = range_alone (time_of from) (time_of to) (time_of step)
+moments_alone _ _ _ _ = tt
+
+query_alone : (m : Moments) → Alone m → (words : List Text) → IfSome (query_worded m words) Sound
+query_alone m alone (file ∷ expr ∷ []) = alone
+query_alone m alone _ = tt
+
+query_sound : (m : Option Moments) → IfSome m Alone → (words : List Text) → IfSome (query_at m words) Sound
+query_sound None alone words = tt
+query_sound (Some m) alone words = query_alone m alone words
+
+test_sound : (words : List Text) → IfSome (test_worded words) Sound
+test_sound [] = tt
+test_sound (file ∷ files) = omega arith
+
+counted : (n : Option ℕ) → IfSome n Counted → IfSome (option_map workload n) Sound
+counted None h = tt
+counted (Some n) h = h
+
+workload_sound : (words : List Text) → IfSome (workload_worded words) Sound
+workload_sound (count ∷ []) = counted (number_of 20000 count) (number_counted 20000 count)
+workload_sound _ = tt
+
+workloads_sound : (said : Option (List Item)) → IfSome (option_and_then workload_of said) Sound
+workloads_sound None = tt
+workloads_sound (Some items) = workload_sound (places_of items)
+
+-- what the items of a query ask for
+queries_sound : (said : Option (List Item)) → IfSome (option_and_then query_of said) Sound
+queries_sound None = tt
+queries_sound (Some items) = query_sound _
+    (moments_alone (value_of (codes "at") items) (value_of (codes "from") items) (value_of (codes "to") items) (value_of (codes "step") items)) (places_of items)
+
+is_one_instant : (o : Option Asked) (said : Option (List Item)) → option_map wish_of o ≡ option_and_then query_of said → IfSome o IsOneInstant
+is_one_instant None said is = tt
+is_one_instant (Some (wanted.Test files)) said is = tt
+is_one_instant (Some (wanted.Query grid instant file expr)) said is = subst (λ (w : Option Wish). IfSome w Sound) (sym is) (queries_sound said)
+is_one_instant (Some (wanted.Workload count)) said is = tt
+
+pub one_instant : {E : Type 0} (r : Result (Option Asked) E) (said : Option (List Item)) → IfOk r (λ asked. option_map wish_of asked ≡ option_and_then query_of said)
+    → IfOk r (λ asked. IfSome asked IsOneInstant)
+one_instant r said read = IfOk-weaker r _ _ (λ asked is. is_one_instant asked said is) read
+
+has_series : (o : Option Asked) (said : Option (List Item)) → option_map wish_of o ≡ option_and_then workload_of said → IfSome o HasSeries
+has_series None said is = tt
+has_series (Some (wanted.Test files)) said is = tt
+has_series (Some (wanted.Query grid instant file expr)) said is = tt
+has_series (Some (wanted.Workload count)) said is = subst (λ (w : Option Wish). IfSome w Sound) (sym is) (workloads_sound said)
+
+pub some_series : {E : Type 0} (r : Result (Option Asked) E) (said : Option (List Item)) → IfOk r (λ asked. option_map wish_of asked ≡ option_and_then workload_of said)
+    → IfOk r (λ asked. IfSome asked HasSeries)
+some_series r said read = IfOk-weaker r _ _ (λ asked is. has_series asked said is) read
+
+-- ---- words that name no command
+
+apart : (x y : Text) → (x ≡ y → ⊥) → bytes_eq x y ≡ false
+apart x y other = go (bytes_eq x y) refl
+  where
+    go : (b : Bool) → bytes_eq x y ≡ b → bytes_eq x y ≡ false
+    go true e = absurd (other ((bytes_eq-Decides x y).0 e))
+    go false e = e
+
+unnamed : (command : Text) (rest : List Text) → (command ≡ codes "promqltest" → ⊥) → (command ≡ codes "query" → ⊥)
+    → (command ≡ codes "workload" → ⊥) → None ≡ asked (command ∷ rest)
+unnamed command rest no_test no_query no_workload =
+    rw (apart command (codes "promqltest") no_test, apart command (codes "query") no_query, apart command (codes "workload") no_workload) refl
+
+pub no_command : {Z : Type 0} (words : List (String Z)) (first : String Z) (command : Text) → Some first ≡ slice_get words 0 → command ≡ string_bytes first
+    → (command ≡ codes "promqltest" → ⊥) → (command ≡ codes "query" → ⊥) → (command ≡ codes "workload" → ⊥) → None ≡ asked (map string_bytes words)
+no_command [] first command is value no_test no_query no_workload = absurd (cc)
+no_command (word ∷ words) first command is value no_test no_query no_workload =
+    let same : string_bytes word ≡ command = ap string_bytes (let e : word ≡ first = cc in e) ∙ sym value in
+    unnamed (string_bytes word) (map string_bytes words) (λ e. no_test (sym same ∙ e)) (λ e. no_query (sym same ∙ e)) (λ e. no_workload (sym same ∙ e))

@@ -1,0 +1,9 @@
+pub mod Asking
+pub mod Built
+pub mod Counts
+pub mod Final
+pub mod Names
+pub mod Once
+pub mod Rows
+pub mod Spelled
+pub mod Walked

@@ -1,0 +1,112 @@
+-- What the words of the program ask for. (A command, its options and its files, as the words of Prometheus' promtool; the
+-- commands, their options and the limits are this project's own.)
+use Rattle.std.specs.Prelude.{◌==◌, ◌&&◌, ℕ, not, pos, Bool, true, false, List, [], ◌∷◌, Option, Some, None, codes, if◌then◌else◌, int_le, nat_le, neg_ℤ, option_and_then, option_map, ◌^◌}
+use Rattle.std.specs.Char.{is_ascii_digit}
+use Rattle.std.specs.List.{list_all}
+use Rattle.std.specs.Result.{result_ok}
+use Rattle.std.specs.Str.{bytes_eq}
+use Rattle.std.specs.Str.Parse.{digits_value}
+use Rattle.ticks.specs.Grids.{step_count}
+use Rattle.ticks.specs.declared.moment.Ms.{Ms}
+use Rattle.frac_text.specs.Times.{time_answer}
+use Rattle.tool_words.specs.Said.{Item, Text, places_of, said, value_of}
+
+-- a start, an end and a step, or one instant
+pub record Moments : Type 0 where
+  pub start : Ms
+  pub end : Ms
+  pub step : Ms
+  pub instant : Bool
+
+-- what a command asks for: to judge files, to answer an expression over a file's samples, or to judge a script that is made of
+-- so many series
+pub data Wish : Type 0 where
+  test : List Text → Wish
+  query : Moments → Text → Text → Wish
+  workload : ℕ → Wish
+
+-- the options of `promqltest` and `workload`, and those of `query`
+abbrev pub test_options : List Text
+test_options = []
+
+abbrev pub query_options : List Text
+query_options = codes "at" ∷ codes "from" ∷ codes "to" ∷ codes "step" ∷ []
+
+-- the start is not after the end, neither is further from 0 than 10^14 ms, the step is at least a millisecond, and there are
+-- at most 11,000 instants
+abbrev pub is_grid : Moments → Bool
+is_grid m =
+    int_le (neg_ℤ (pos (10 ^ 14))) m.start.0 && (int_le m.start.0 m.end.0 && (int_le m.end.0 (pos (10 ^ 14)) && (int_le (pos 1) m.step.0
+    && nat_le (step_count m.start.0 m.end.0 m.step.0) 11000)))
+
+abbrev pub if_grid : Moments → Option Moments
+if_grid m = if is_grid m then Some m else None
+
+abbrev pub time_of : Text → Option Ms
+time_of text = result_ok (time_answer text)
+
+-- one instant; the step has no meaning there
+abbrev pub moment_at : Ms → Option Moments
+moment_at at = if_grid (record { start = at; end = at; step = record { 0 = pos 1 }; instant = true })
+
+abbrev pub range_of : Option Ms → Option Ms → Option Ms → Option Moments
+range_of (Some start) (Some end) (Some step) = if_grid (record { start = start; end = end; step = step; instant = false })
+range_of _ _ _ = None
+
+-- the moments by the values of `--at`, `--from`, `--to` and `--step`: the instant 0 without any of them
+abbrev pub moments_of : Option Text → Option Text → Option Text → Option Text → Option Moments
+moments_of None None None None = moment_at (record { 0 = pos 0 })
+moments_of (Some at) None None None = option_and_then moment_at (time_of at)
+moments_of None (Some from) (Some to) (Some step) = range_of (time_of from) (time_of to) (time_of step)
+moments_of _ _ _ _ = None
+
+-- one file or more
+abbrev pub test_worded : List Text → Option Wish
+test_worded [] = None
+test_worded (file ∷ files) = Some (test (file ∷ files))
+
+abbrev pub test_of : List Item → Option Wish
+test_of items = test_worded (places_of items)
+
+-- a file and an expression
+abbrev pub query_worded : Moments → List Text → Option Wish
+query_worded moments (file ∷ expr ∷ []) = Some (query moments file expr)
+query_worded moments _ = None
+
+abbrev pub query_at : Option Moments → List Text → Option Wish
+query_at None words = None
+query_at (Some moments) words = query_worded moments words
+
+abbrev pub query_of : List Item → Option Wish
+query_of items =
+    query_at (moments_of (value_of (codes "at") items) (value_of (codes "from") items) (value_of (codes "to") items) (value_of (codes "step") items))
+    (places_of items)
+
+-- the number in decimal digits without a leading zero, where it is at most `most`
+abbrev pub has_no_zero : Text → Bool
+has_no_zero [] = false
+has_no_zero (digit ∷ digits) = not (digit == 48)
+
+abbrev pub number_of : ℕ → Text → Option ℕ
+number_of most text =
+    if has_no_zero text && (list_all is_ascii_digit text && nat_le (digits_value 10 text) most) then Some (digits_value 10 text) else None
+
+-- a number of series, at most 20,000
+abbrev pub workload_worded : List Text → Option Wish
+workload_worded (count ∷ []) = option_map workload (number_of 20000 count)
+workload_worded _ = None
+
+abbrev pub workload_of : List Item → Option Wish
+workload_of items = workload_worded (places_of items)
+
+abbrev pub command_of : Text → List Text → Option Wish
+command_of command rest =
+    if bytes_eq command (codes "promqltest") then option_and_then test_of (said test_options rest)
+    else (if bytes_eq command (codes "query") then option_and_then query_of (said query_options rest)
+    else (if bytes_eq command (codes "workload") then option_and_then workload_of (said test_options rest)
+    else None))
+
+-- what the program's words ask for, where they follow the rules
+abbrev pub asked : List Text → Option Wish
+asked [] = None
+asked (command ∷ rest) = command_of command rest

@@ -1,0 +1,6 @@
+pub mod Asked
+pub mod Commands
+pub mod Said
+pub mod Says
+pub mod Tells
+pub mod Views

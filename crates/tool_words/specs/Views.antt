@@ -1,0 +1,36 @@
+-- What the program's wishes stand for. (This project's own.)
+use Rattle.std.specs.Prelude.{◌≡◌, ◌<◌, ◌≤◌, Bool, IsTrue, length, ⊤}
+use Rattle.ticks.specs.declared.grid.Grid.{Grid}
+use Rattle.tool_words.specs.Asked.{Moments, Wish, query, test, workload}
+use Rattle.tool_words.specs.declared.asked.Asked.{Asked}
+use Rattle.tool_words.specs.declared.asked.Asked.TheVariants as wanted
+use Rattle.tool_words.specs.declared.instants.Instants.{Instants}
+
+abbrev pub moments_in : Grid → Bool → Moments
+moments_in grid instant = record { start = grid.start; end = grid.end; step = grid.step; instant = instant }
+
+abbrev pub moments_seen : Instants → Moments
+moments_seen instants = moments_in instants.grid instants.instant
+
+abbrev pub wish_of : Asked → Wish
+wish_of (wanted.Test files) = test files
+wish_of (wanted.Query grid instant file expr) = query (moments_in grid instant) file expr
+wish_of (wanted.Workload count) = workload count
+
+-- there is a file to judge
+abbrev pub HasFiles : Asked → Type 0
+HasFiles (wanted.Test files) = 0 < length files
+HasFiles (wanted.Query grid instant file expr) = ⊤
+HasFiles (wanted.Workload count) = ⊤
+
+-- an instant query has one instant
+abbrev pub IsOneInstant : Asked → Type 0
+IsOneInstant (wanted.Test files) = ⊤
+IsOneInstant (wanted.Query grid instant file expr) = IsTrue instant → grid.start ≡ grid.end
+IsOneInstant (wanted.Workload count) = ⊤
+
+-- a workload has a series, and at most 20,000
+abbrev pub HasSeries : Asked → Type 0
+HasSeries (wanted.Test files) = ⊤
+HasSeries (wanted.Query grid instant file expr) = ⊤
+HasSeries (wanted.Workload count) = (0 < count) × (count ≤ 20000)

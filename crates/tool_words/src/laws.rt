@@ -1,0 +1,21 @@
+ghost use Rattle.clap.specs.Simple.{is_simple};
+ghost use Rattle.std.specs.Prelude.{◌≡◌, IsTrue, List, None, Some};
+ghost use Rattle.tool_words.specs.Asked.{query_options, test_options};
+ghost use Rattle.tool_words.specs.Commands.{app};
+ghost use Rattle.tool_words.specs.Said.{Item, Text, said};
+ghost use Rattle.tool_words.specs.Says.{AreNames, IsOnce, Says};
+
+/// A law, with nothing to run: a command of the program is simple to `clap`, whatever options it has.
+pub fn commands_are_simple()
+    ensures { (name : Text) (options : List Text) → IsTrue (is_simple (app name options)) }
+{}
+
+/// A law, with nothing to run: where options have names, words say some items exactly where they spell them by the
+/// rules and give no option twice. The options of the program have names.
+pub fn words_say_what_they_spell()
+    ensures spelled { (names words : List Text) (items : List Item) → said names words ≡ Some items → Says names words items }
+    ensures once { (names words : List Text) (items : List Item) → said names words ≡ Some items → IsOnce items }
+    ensures said { (names words : List Text) (items : List Item) → AreNames names → Says names words items → IsOnce items → said names words ≡ Some items }
+    ensures test { AreNames test_options }
+    ensures query { AreNames query_options }
+{}

@@ -1,0 +1,18 @@
+//! The words of the program: the command that they name, and what it is asked for.
+#![tactic(auto)]
+
+mod asked;
+mod build;
+mod instants;
+mod laws;
+mod matches;
+mod number;
+mod read;
+
+pub use asked::Asked;
+pub use laws::{commands_are_simple, words_say_what_they_spell};
+pub use read::read_words;
+pub use std::alloc::AllocError as Memory;
+
+#[cfg(test)]
+mod tests;

@@ -1,0 +1,159 @@
+//! What the words of the program ask for.
+ghost use Rattle.std.specs.Prelude.{◌≡◌, IfOk, IfSome, List, codes, drop, map, option_and_then, option_map, string_bytes};
+ghost use Rattle.tool_words.specs.Asked.{asked, moments_of, query_of, query_options, query_worded, test_of, test_options, workload_of, workload_worded};
+ghost use Rattle.tool_words.specs.Said.{Item, said, value_of};
+ghost use Rattle.tool_words.specs.Tells.{Holds};
+ghost use Rattle.tool_words.specs.Views.{HasFiles, HasSeries, IsOneInstant, moments_seen, wish_of};
+
+use crate::Asked;
+use crate::instants::{Instants, instants_by};
+use crate::matches::{matches_in, places_in, value_in};
+use crate::number::number_in;
+use clap::ArgMatches;
+use holders::{Items, Text};
+use std::alloc::{AllocError, Global};
+
+/// The options of `promqltest` and `workload`, and those of `query`.
+static TEST_OPTIONS: [&str; 0] = [];
+
+static QUERY_OPTIONS: [&str; 4] = ["at", "from", "to", "step"];
+
+/// No workload has more series than this.
+const MOST_SERIES: u32 = 20_000;
+
+/// The words as texts.
+fn texts_of(alloc: Global, words: &[&str]) -> Result<Items<Text>, AllocError>
+    ensures { IfOk result (λ texts. texts ≡ map (λ w. w.now) words.now) }
+{
+    let mut texts = Items::new(alloc);
+    for word in words {
+        texts.push(Text::of(alloc, word)?)?;
+    }
+    Ok(texts)
+}
+
+/// The files to judge, of which there is at least one.
+fn judge_test(alloc: Global, matches: &ArgMatches<'_>) -> Result<Option<Asked>, AllocError>
+    ensures { (items : List Item) → Holds matches.now items → IfOk result (λ asked. option_map wish_of asked ≡ test_of items) }
+{
+    match places_in(matches) {
+        None => Ok(None),
+        Some(words) => Ok(Some(Asked::Test {
+            files: texts_of(alloc, words)?,
+        })),
+    }
+}
+
+/// The instants that the options give.
+fn instants_given(matches: &ArgMatches<'_>) -> Option<Instants>
+    ensures { (items : List Item) → Holds matches.now items → option_map moments_seen result
+        ≡ moments_of (value_of (codes "at") items) (value_of (codes "from") items) (value_of (codes "to") items) (value_of (codes "step") items) }
+{
+    instants_by(
+        value_in(matches, "at"),
+        value_in(matches, "from"),
+        value_in(matches, "to"),
+        value_in(matches, "step"),
+    )
+}
+
+/// A query at these instants, of the script and the expression that the words name.
+fn query_in(alloc: Global, instants: Instants, words: &[&str]) -> Result<Option<Asked>, AllocError>
+    ensures { IfOk result (λ asked. option_map wish_of asked ≡ query_worded (moments_seen instants) (map (λ w. w.now) words.now)) }
+{
+    let [file, expr] = words else {
+        return Ok(None);
+    };
+    Ok(Some(Asked::Query {
+        grid: instants.grid,
+        instant: instants.instant,
+        file: Text::of(alloc, file)?,
+        expr: Text::of(alloc, expr)?,
+    }))
+}
+
+/// The query that the options and the words ask for.
+fn judge_query(alloc: Global, matches: &ArgMatches<'_>) -> Result<Option<Asked>, AllocError>
+    ensures { (items : List Item) → Holds matches.now items → IfOk result (λ asked. option_map wish_of asked ≡ query_of items) }
+{
+    let Some(instants) = instants_given(matches) else {
+        return Ok(None);
+    };
+    match places_in(matches) {
+        None => Ok(None),
+        Some(words) => query_in(alloc, instants, words),
+    }
+}
+
+/// A workload of the series that the words number.
+fn workload_in(words: &[&str]) -> Option<Asked>
+    ensures { option_map wish_of result ≡ workload_worded (map (λ w. w.now) words.now) }
+{
+    match words {
+        [count] => match number_in(count.as_bytes(), MOST_SERIES) {
+            Some(count) => Some(Asked::Workload { count }),
+            None => None,
+        },
+        _ => None,
+    }
+}
+
+fn judge_workload(matches: &ArgMatches<'_>) -> Option<Asked>
+    ensures { (items : List Item) → Holds matches.now items → option_map wish_of result ≡ workload_of items }
+{
+    match places_in(matches) {
+        None => None,
+        Some(words) => workload_in(words),
+    }
+}
+
+/// `promqltest FILE..`
+fn read_test(alloc: Global, words: &[String]) -> Result<Option<Asked>, AllocError>
+    ensures { IfOk result (λ asked. option_map wish_of asked ≡ option_and_then test_of (said test_options (drop 1 (map string_bytes words.now)))) }
+{
+    match matches_in(alloc, "promqltest", &TEST_OPTIONS, words)? {
+        Some(matches) => judge_test(alloc, &matches),
+        None => Ok(None),
+    }
+}
+
+/// `query [--at T | --from A --to B --step S] FILE EXPR`
+fn read_query(alloc: Global, words: &[String]) -> Result<Option<Asked>, AllocError>
+    ensures { IfOk result (λ asked. option_map wish_of asked ≡ option_and_then query_of (said query_options (drop 1 (map string_bytes words.now)))) }
+{
+    match matches_in(alloc, "query", &QUERY_OPTIONS, words)? {
+        Some(matches) => judge_query(alloc, &matches),
+        None => Ok(None),
+    }
+}
+
+/// `workload N`
+fn read_workload(alloc: Global, words: &[String]) -> Result<Option<Asked>, AllocError>
+    ensures { IfOk result (λ asked. option_map wish_of asked ≡ option_and_then workload_of (said test_options (drop 1 (map string_bytes words.now)))) }
+{
+    match matches_in(alloc, "workload", &TEST_OPTIONS, words)? {
+        Some(matches) => Ok(judge_workload(&matches)),
+        None => Ok(None),
+    }
+}
+
+/// What the words behind the program's name ask for, where they follow the rules: `promqltest FILE..`,
+/// `query [--at T | --from A --to B --step S] FILE EXPR`, or `workload N` with N from 1 to 20,000. Each option stands
+/// at most once, in any place before a word `--`, as `--name value` or `--name=value`. The only error is want of
+/// memory.
+pub fn read_words(alloc: Global, words: &[String]) -> Result<Option<Asked>, AllocError>
+    ensures wish { IfOk result (λ wanted. option_map wish_of wanted ≡ asked (map string_bytes words.now)) }
+    ensures files { IfOk result (λ wanted. IfSome wanted HasFiles) }
+    ensures alone { IfOk result (λ wanted. IfSome wanted IsOneInstant) }
+    ensures series { IfOk result (λ wanted. IfSome wanted HasSeries) }
+{
+    let Some(command) = words.first() else {
+        return Ok(None);
+    };
+    match command.as_str() {
+        "promqltest" => read_test(alloc, words),
+        "query" => read_query(alloc, words),
+        "workload" => read_workload(alloc, words),
+        _ => Ok(None),
+    }
+}
