@@ -16,7 +16,7 @@ use Rattle.promql_tool.specs.declared.fault.Stop.{Stop}
 use Rattle.promql_tool.specs.declared.fault.Stop.TheVariants as stop
 use Rattle.promql_tool.specs.declared.print.Status.{Status}
 use Rattle.test_runner.specs.declared.totals.Totals.{Totals}
-use Rattle.promql_tool.proofs.Pieces.{appended-appended, appended-nil, front_last}
+use Rattle.edge_io.specs.Fronts.{appended-appended, appended-nil, front_last}
 
 -- What stands before the next file: the files that were judged, what was written of them, and what is known of the later ones.
 pub record RunSoFar (found : List ℕ → Option (List ℕ) → Type 0) (paths left : List (List ℕ)) (before now : Option (List ℕ)) (idle : Type 0) (passed failed : ℕ) : Type 0 where

@@ -1,35 +1,12 @@
--- The front of a text on a sink, after several pieces.
-use Rattle.std.proofs.Common.{◌≡◌, ◌<◌, ℕ, ◌+◌, List, [], ◌∷◌, ◌++◌, length, take, drop, get_or, Option, None, Some, Result, Ok, Err, OnErr, refl, sym, ap, ◌∙◌, append_assoc, take-append-drop}
-use Rattle.std.proofs.lemmas.List.{append-nil, drop_more}
+-- A text in pieces, and what holds of an answer.
+use Rattle.std.proofs.Common.{◌≡◌, ◌<◌, ℕ, ◌+◌, List, ◌∷◌, ◌++◌, length, take, drop, get_or, Result, Ok, Err, OnErr, sym, ap, ◌∙◌, take-append-drop}
+use Rattle.std.proofs.lemmas.List.{drop_more}
 use Rattle.std.specs.List.{flat_map}
 use Rattle.std.proofs.lemmas.List.Folds.{flat_map-map}
 use Rattle.std.proofs.lemmas.List.Concat.{flat_map-append}
 use Rattle.std.specs.Prelude.{Vec}
 use Rattle.std.specs.declared.alloc.Global.{Global}
-use Rattle.edge_io.specs.Written.{appended, WroteFront}
 use Rattle.promql_tool.specs.Runs.{bytes_of}
-
--- one piece behind another
-pub appended-appended : (before : Option (List ℕ)) (xs ys : List ℕ) → appended (appended before xs) ys ≡ appended before (xs ++ ys)
-appended-appended None xs ys = refl
-appended-appended (Some before) xs ys = ap (λ (l : List ℕ). Some l) (append_assoc before xs ys)
-
-pub appended-nil : (before : Option (List ℕ)) → appended before [] ≡ before
-appended-nil None = refl
-appended-nil (Some before) = ap (λ (l : List ℕ). Some l) (append-nil before)
-
--- a front of a piece, behind what was there, and before the rest
-pub front_more : {before mid now : Option (List ℕ)} (sofar piece rest : List ℕ) → mid ≡ appended before sofar → WroteFront mid now piece → WroteFront before now (sofar ++ (piece ++ rest))
-front_more {before} {mid} {now} sofar piece rest was wrote = record {
-  front = sofar ++ wrote.front;
-  left = wrote.left ++ rest;
-  parts = append_assoc sofar wrote.front (wrote.left ++ rest) ∙ ap (λ l. sofar ++ l) (sym (append_assoc wrote.front wrote.left rest) ∙ ap (λ l. l ++ rest) wrote.parts);
-  took = wrote.took ∙ ap (λ w. appended w wrote.front) was ∙ appended-appended before sofar wrote.front;
-}
-
--- nothing was written
-pub front_none : (before : Option (List ℕ)) (text : List ℕ) → WroteFront before before text
-front_none before text = record { front = []; left = text; parts = refl; took = sym (appended-nil before) }
 
 -- what the elements give, parted at one of them
 pub flat_parted : {X : Type 0} (f : X → List ℕ) (xs : List X) (i : ℕ) (d : X) → i < length xs
@@ -45,24 +22,6 @@ pub lines_parted : (lines : List (Vec ℕ Global)) (i : ℕ) (d : Vec ℕ Global
 lines_parted lines i d lt =
     let flat = flat_map-map (λ (line : List ℕ). line) (λ (line : Vec ℕ Global). line.items) in
     rw (flat (take i lines), flat (drop (i + 1) lines), flat lines) (flat_parted (λ (line : Vec ℕ Global). line.items) lines i d lt)
-
--- a front of the first piece
-pub front_first : {before now : Option (List ℕ)} (piece rest : List ℕ) → WroteFront before now piece → WroteFront before now (piece ++ rest)
-front_first piece rest wrote = record {
-  front = wrote.front;
-  left = wrote.left ++ rest;
-  parts = sym (append_assoc wrote.front wrote.left rest) ∙ ap (λ l. l ++ rest) wrote.parts;
-  took = wrote.took;
-}
-
--- a front of the last piece
-pub front_last : {before mid now : Option (List ℕ)} (sofar piece : List ℕ) → mid ≡ appended before sofar → WroteFront mid now piece → WroteFront before now (sofar ++ piece)
-front_last {before} {mid} {now} sofar piece was wrote = record {
-  front = sofar ++ wrote.front;
-  left = wrote.left;
-  parts = append_assoc sofar wrote.front wrote.left ∙ ap (λ l. sofar ++ l) wrote.parts;
-  took = wrote.took ∙ ap (λ w. appended w wrote.front) was ∙ appended-appended before sofar wrote.front;
-}
 
 -- what holds anyway holds after a refusal
 pub on_err : {T E : Type 0} (r : Result T E) (P : Type 0) → P → OnErr r P

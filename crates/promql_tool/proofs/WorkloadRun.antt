@@ -11,7 +11,7 @@ use Rattle.promql_tool.specs.Runs.{Almost, Begun, Early, Ends, IsCutFiles, IsCut
 use Rattle.promql_tool.specs.Texts.{Report}
 use Rattle.promql_tool.specs.Workload.{loaded_text, workload_path, workload_text}
 use Rattle.promql_tool.specs.declared.print.Status.{Status}
-use Rattle.promql_tool.proofs.Pieces.{appended-appended, front_last}
+use Rattle.edge_io.specs.Fronts.{appended-appended, front_last}
 
 module _ (series : ℕ) (before mid now : Option (List ℕ)) (idle : Type 0) (loaded : mid ≡ appended before (loaded_text series)) where
   -- what stands behind the line of how much is loaded

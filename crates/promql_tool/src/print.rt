@@ -22,6 +22,7 @@ const USAGE: &str = "usage: promqltest [options] FILE.. or query [options] FILE 
 #[derive(Clone, Copy, Debug, PartialEq, Eq)]
 pub struct Status(pub u8);
 
+/// Prints the usage. The status is 2; after an error a front of the line stands.
 pub fn print_usage<S: Sink>(out: &mut S) -> Result<Status, SinkFail>
     ensures ok { IfOk result (λ status. (status.0 ≡ 2) × (S.written out.new ≡ appended (S.written out.old) usage)) }
     ensures err { OnErr result (WroteFront (S.written out.old) (S.written out.new) usage) }

@@ -24,7 +24,8 @@ use Rattle.test_runner.specs.Verdicts.{AreVerdicts, IsJudgement, IsNoEvaluation,
 use Rattle.test_runner.specs.declared.fault.RunnerFault.{RunnerFault}
 use Rattle.test_runner.specs.declared.fault.RunnerFault.TheVariants.{Refused, Range, Write, Memory}
 use Rattle.test_runner.specs.declared.totals.Totals.{Totals}
-use Rattle.test_runner.proofs.Pieces.{appended-appended, appended-nil, front_last, front_none, on_err}
+use Rattle.edge_io.specs.Fronts.{appended-appended, appended-nil, front_last, front_none}
+use Rattle.test_runner.proofs.Answered.{on_err}
 
 -- ---- what commands leave
 

@@ -1,4 +1,4 @@
 pub mod Loading
 pub mod Standing
-pub mod Pieces
+pub mod Answered
 pub mod Carrying

@@ -2,7 +2,8 @@ use Rattle.std.proofs.Common.{◌+◌, take, drop, get_or, subst, ap}
 use Rattle.std.specs.List.{flat_map}
 use Rattle.edge_io.specs.Written.{WroteFront}
 use Rattle.promql_tool.specs.Query.{series_text}
-use Rattle.promql_tool.proofs.Pieces.{front_more, flat_parted, on_err}
+use Rattle.edge_io.specs.Fronts.{front_more}
+use Rattle.promql_tool.proofs.Pieces.{flat_parted, on_err}
 use Rattle.promql_tool.proofs.print.print_each.Goals as goal
 
 pub returns-in_err-print_one-clause-err : goal.returns-in_err-print_one-clause-err

@@ -4,7 +4,8 @@ use Rattle.std.specs.List.{flat_map}
 use Rattle.std.specs.declared.alloc.Global.{Global}
 use Rattle.edge_io.specs.Written.{WroteFront}
 use Rattle.promql_tool.specs.Runs.{bytes_of}
-use Rattle.promql_tool.proofs.Pieces.{front_more, lines_parted, on_err}
+use Rattle.edge_io.specs.Fronts.{front_more}
+use Rattle.promql_tool.proofs.Pieces.{lines_parted, on_err}
 use Rattle.promql_tool.proofs.print.print_notes.Goals as goal
 
 pub returns-in_err-write_all-clause-err : goal.returns-in_err-write_all-clause-err
