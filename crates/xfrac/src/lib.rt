@@ -5,14 +5,13 @@ mod arithmetic;
 mod closeness;
 mod divisors;
 mod forming;
+mod halves;
 pub mod laws;
 mod order;
 mod power;
 mod product;
 mod ratio;
 mod sums;
-#[cfg(test)]
-mod tests;
 mod value;
 
 pub use arithmetic::arith;

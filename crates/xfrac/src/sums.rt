@@ -341,24 +341,3 @@ fn difference(a: u128, b: u128, d: u128) -> Frac
         lowest_terms(false, a - b, d)
     }
 }
-
-#[cfg(test)]
-mod tests {
-    use super::SumAcc;
-    use crate::{of, whole};
-    use std::test::Fail;
-
-    #[test]
-    fn keeps_multiple_and_magnitude(rt: HostRuntime) -> Result<(), Fail> {
-        let mut sum = SumAcc::new();
-        sum.add(&of(1, 2)?)?;
-        sum.add(&of(1, 3)?)?;
-        sum.add(&of(-5, 6)?)?;
-        assert_eq!(rt; sum.value(), whole(0));
-        assert_eq!(rt;
-            (sum.multiple, sum.above + sum.below, sum.count),
-            (6, 10, 3)
-        );
-        Ok(())
-    }
-}

@@ -3,6 +3,7 @@ ghost use Rattle.std.specs.Prelude.{◌≡◌, ◌<◌, ◌≤◌, ◌<ℤ◌, �
 ghost use Rattle.xfrac.specs.Fractions.{IsReduced, limit, with_sign};
 ghost use Rattle.xfrac.specs.Kinds.{is_not_a_number, is_positive_infinity, is_negative_infinity, is_zero as is_zero_number};
 
+use crate::halves::Halves;
 use std::marker::Model;
 use thiserror::Error;
 
@@ -10,79 +11,106 @@ use thiserror::Error;
 pub const LIMIT: u128 = 1_000_000_000_000_000_000_000_000_000_000;
 
 /// A fraction in lowest terms: a numerator of magnitude at most `LIMIT` over a denominator from 1 to `LIMIT`.
-#[derive(Clone, Copy, Debug, PartialEq, Eq)]
+#[derive(Clone, Copy, Debug)]
 pub struct Frac {
-    n: i128,
-    d: u128,
+    /// The bits of the numerator.
+    n: Halves,
+    d: Halves,
 }
 
 impl Model for Frac {
-    ghost use Rattle.std.specs.Prelude.{ℕ, ℤ, unsigned_abs};
+    ghost use Rattle.std.specs.Prelude.{◌<◌, ◌^◌, ℕ, ℤ, unsigned_abs};
+    ghost use Rattle.std.specs.Int.{cast_signed, cast_unsigned, w128};
+    ghost use Rattle.std.proofs.lemmas.Int.{of_z-to_z};
     ghost use Rattle.xfrac.specs.Fractions.{IsReduced};
 
     ghost Value = { ℤ × ℕ };
 
-    ghost view = { λ f. (f.n, f.d) };
+    ghost view = { λ f. (cast_signed w128 f.n, f.d) };
 
-    ghost invariant = { λ f. IsReduced (unsigned_abs f.n) f.d };
+    ghost invariant = { λ f. (f.n < 2 ^ 128) × IsReduced (unsigned_abs (cast_signed w128 f.n)) f.d };
 
-    ghost inverse = { λ v. record { n = v.0; d = v.1 } };
+    ghost inverse = { λ v. record { n = cast_unsigned w128 v.0; d = v.1 } };
+
+    ghost inverse_ok = { λ f h i. record { n = of_z-to_z w128 f.n h.0 i; d = f.d } };
+}
+
+impl PartialEq for Frac {
+    ghost use Rattle.std.proofs.Common.{rules, int_eq, nat_eq, ◌&&◌};
+    ghost use Rattle.std.specs.Cmp.Rules.{comparing};
+
+    ghost eq = { λ x y. int_eq x.0 y.0 && nat_eq x.1 y.1 };
+
+    ghost laws = { Prim.search (comparing, rules) };
+
+    fn eq(&self, other: &Frac) -> bool {
+        self.is_same(other)
+    }
+}
+
+impl Eq for Frac {
+    ghost use Rattle.std.proofs.Common.{rules};
+    ghost use Rattle.std.specs.Cmp.Rules.{comparing};
+
+    ghost laws = { Prim.search (comparing, rules) };
 }
 
 impl Frac {
+    fn of(n: i128, d: u128) -> Frac
+        requires { IsReduced (unsigned_abs n) d }
+        ensures { result ≡ (n, d) }
+    {
+        Frac {
+            n: Halves::of(n.cast_unsigned()),
+            d: Halves::of(d),
+        }
+    }
+
     /// The fraction of this sign, magnitude and denominator.
     pub(crate) fn with_parts(negative: bool, m: u128, d: u128) -> Frac
         requires { IsReduced m d }
         ensures { result ≡ (with_sign negative m, d) }
     {
         let n = m as i128;
-        Frac {
-            n: if negative { -n } else { n },
-            d,
-        }
+        Frac::of(if negative { -n } else { n }, d)
     }
 
     pub(crate) fn negated(&self) -> Frac
         ensures { result ≡ (neg_ℤ self.now.0, self.now.1) }
     {
-        Frac {
-            n: -self.n,
-            d: self.d,
-        }
+        Frac::of(-self.numerator(), self.denominator())
     }
 
     pub(crate) fn without_sign(&self) -> Frac
         ensures { result ≡ (pos (unsigned_abs self.now.0), self.now.1) }
     {
-        Frac {
-            n: self.n.unsigned_abs() as i128,
-            d: self.d,
-        }
+        Frac::of(self.numerator().abs(), self.denominator())
     }
 
     pub(crate) fn is_negative(&self) -> bool
         ensures { IsTrue result ↔ (self.now.0 <ℤ pos 0) }
     {
-        self.n < 0
+        self.numerator() < 0
     }
 
     pub(crate) fn is_positive(&self) -> bool
         ensures { result ≡ int_lt (pos 0) self.now.0 }
     {
-        0 < self.n
+        0 < self.numerator()
     }
 
     pub(crate) fn numerator(&self) -> i128
-        ensures { result ≡ self.now.0 }
+        ensures value { result ≡ self.now.0 }
+        ensures reduced { IsReduced (unsigned_abs self.now.0) self.now.1 }
     {
-        self.n
+        self.n.get().cast_signed()
     }
 
     pub(crate) fn magnitude(&self) -> u128
         ensures value { result ≡ unsigned_abs self.now.0 }
         ensures within { result ≤ limit }
     {
-        self.n.unsigned_abs()
+        self.numerator().unsigned_abs()
     }
 
     /// The sign, the magnitude and the denominator.
@@ -92,7 +120,8 @@ impl Frac {
         ensures magnitude { result.1 ≡ unsigned_abs self.now.0 }
         ensures reduced { IsReduced result.1 result.2 }
     {
-        (self.n < 0, self.n.unsigned_abs(), self.d)
+        let n = self.numerator();
+        (n < 0, n.unsigned_abs(), self.d.get())
     }
 
     /// Whether both parts are the same.
@@ -116,7 +145,7 @@ impl Frac {
         ensures positive { 0 < result }
         ensures within { result ≤ limit }
     {
-        self.d
+        self.d.get()
     }
 }
 
@@ -187,7 +216,7 @@ pub struct Overflow;
 pub fn whole(n: i64) -> XFrac
     ensures { result ≡ XFrac.Fin (n, 1) }
 {
-    XFrac::Fin(Frac { n: n as i128, d: 1 })
+    XFrac::Fin(Frac::of(n as i128, 1))
 }
 
 /// The numerator and the denominator, which is positive: lowest terms within the limits.
@@ -196,7 +225,7 @@ pub fn parts(f: &Frac) -> (i128, i128)
     ensures denominator { result.1 ≡ pos f.now.1 }
     ensures reduced { IsReduced (unsigned_abs f.now.0) f.now.1 }
 {
-    (f.n, f.d as i128)
+    (f.numerator(), f.denominator() as i128)
 }
 
 /// Whether the number is NaN.
@@ -222,7 +251,7 @@ pub(crate) fn is_zero(a: &XFrac) -> bool
     ensures { result ≡ is_zero_number a.now }
 {
     match a {
-        XFrac::Fin(f) => f.n == 0,
+        XFrac::Fin(f) => f.numerator() == 0,
         _ => false,
     }
 }

@@ -3,6 +3,6 @@ use Rattle.std.proofs.lemmas.Int.{to_z-of_z}
 use Rattle.xfrac.specs.Reduced.{whole_is_reduced}
 use Rattle.xfrac.proofs.value.whole.Goals as goal
 
-pub invariant_of-result : goal.invariant_of-result
-invariant_of-result c =
+pub of-requires : goal.of-requires
+of-requires c =
     whole_is_reduced _ (grind (arith, to_z-of_z))
