@@ -10,6 +10,3 @@ pub use library::{Fetch, Fetched, Library};
 pub use memory::{MemLibrary, MemSink};
 pub use sink::{Sink, SinkFail, write_all};
 pub use system::{StdLibrary, StdSink};
-
-#[cfg(test)]
-mod tests;

@@ -10,6 +10,3 @@ pub use boxed::Boxed;
 pub use items::Items;
 pub use std::alloc::AllocError as Memory;
 pub use text::Text;
-
-#[cfg(test)]
-mod tests;

@@ -1,6 +1,6 @@
 -- Spans stay in a text that grows and cut out of it what they cut before; and where a new pair goes.
 use Rattle.std.proofs.Common.{◌≡◌, ◌≤◌, ◌+◌, ◌-◌, ℕ, List, [], ◌∷◌, ◌++◌, length, map, take, drop, get_or, refl, sym, subst, ap, ◌∙◌, inl, inr, eq-or-lt_of_le, arith, length-append, length-drop}
-use Rattle.std.specs.Prelude.{IsUtf8, IsCharBoundary, slice_range, insert, Result, Ok, Err, OnErr, is_ok, if◌then◌else◌}
+use Rattle.std.specs.Prelude.{IsUtf8, IsCharBoundary, slice_range, insert, Result, Err, is_ok, if◌then◌else◌}
 use Rattle.std.specs.List.{All}
 use Rattle.std.proofs.lemmas.List.{get_or_append_left, take-append-le, drop-append-le, drop_at, take_all, take-map, drop-map, map-append}
 use Rattle.std.proofs.lemmas.List.Elements.{All-append, All-cons, All-drop, All-head, All-tail, All-take, All-weaker}
@@ -83,10 +83,6 @@ All-insert P xs i x a p = All-append P (take i xs) (x ∷ drop i xs) (All-take P
 -- a text to which nothing could be put
 pub text_kept : {T E : Type 0} (was now more : List ℕ) (r : Result T E) (e : E) → r ≡ Err e → now ≡ (if is_ok r then was ++ more else was) → now ≡ was
 text_kept was now more r e p q = rw p at q
-
-pub on_err : {T E : Type 0} (r : Result T E) (P : Type 0) → P → OnErr r P
-on_err (Ok x) P p = tt
-on_err (Err e) P p = p
 
 module _ (text name value : List ℕ) (spans : List Span) (u : IsUtf8 name) (all : All (IsSpanIn text) spans) where
   pub named_within : (t : List ℕ) → t ≡ text ++ name → All (IsSpanIn t) spans

@@ -28,7 +28,7 @@ fn push_braced_name(out: &mut Vec<u8>, name: &str, pairs: &Pairs) -> Result<(), 
     ensures { OnOk result (out.new.items ≡ out.old.items ++ braced (quoted name.now ∷ map label_text (without (metric_name ∷ []) pairs.now))) }
 {
     out.push(b'{')?;
-    push_quoted(out, name)?;
+    append_quoted(name, out)?;
     push_labels(out, true, pairs)?;
     out.push(b'}')?;
     Ok(())
@@ -69,7 +69,7 @@ fn push_label(out: &mut Vec<u8>, started: bool, name: &str, value: &str) -> Resu
     }
     push_label_name(out, name)?;
     out.push(b'=')?;
-    push_quoted(out, value)
+    append_quoted(value, out)
 }
 
 /// Appends a label's name, in quotes where it needs them.
@@ -79,19 +79,20 @@ fn push_label_name(out: &mut Vec<u8>, name: &str) -> Result<(), AllocError>
     if is_name(false, name) {
         out.extend_from_slice(name.as_bytes())
     } else {
-        push_quoted(out, name)
+        append_quoted(name, out)
     }
 }
 
-/// Appends a text in quotes.
-fn push_quoted(out: &mut Vec<u8>, text: &str) -> Result<(), AllocError>
-    ensures { OnOk result (out.new.items ≡ out.old.items ++ quoted text.now) }
+/// Appends a text in quotes, as a label's value is printed: a backslash, a quote and a line feed are written `\\`, `\"` and `\n`.
+/// The only error is want of memory; then a part of the text may stand at the end.
+pub fn append_quoted(text: &str, into: &mut Vec<u8>) -> Result<(), AllocError>
+    ensures { OnOk result (into.new.items ≡ into.old.items ++ quoted text.now) }
 {
-    out.push(b'"')?;
+    into.push(b'"')?;
     for byte in text.as_bytes() {
-        push_escaped(out, *byte)?;
+        push_escaped(into, *byte)?;
     }
-    out.push(b'"')?;
+    into.push(b'"')?;
     Ok(())
 }
 

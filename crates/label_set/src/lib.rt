@@ -8,8 +8,6 @@ mod pairs;
 mod rules;
 
 pub use holders::{Boxed, Items, Memory, Text};
+pub use label_text::append_quoted;
 pub use labels::{LabelRefusal, Labels, METRIC_NAME, order_is_total};
 pub use rules::{Card, Grouping, Pairing, PatternId, Relabel, Rule, RuleKind};
-
-#[cfg(test)]
-mod tests;

@@ -12,6 +12,3 @@ pub use matcher::PatternMatcher;
 pub use patterns::{PatternRefusal, Patterns};
 pub use rules::{RuleMatchers, labels_pass, passes};
 pub use spans::Spans;
-
-#[cfg(test)]
-mod tests;

@@ -9,10 +9,10 @@ ghost use Rattle.step_table.specs.Unions.{set_of};
 
 use crate::givens::{barren, no_marks};
 use label_set::{Items, Labels, METRIC_NAME, Rule, RuleKind, Text};
-use promql_meaning::{Given, Selection, Windows, labelled, put_one};
+use promql_meaning::{Given, Selection, Windows, labelled};
 use std::alloc::{AllocError, Global};
 use std::collections::BTreeSet;
-use step_table::{Marks, Step, taken};
+use step_table::{Marks, Step, put_one, taken};
 use xfrac::whole;
 
 /// One row 1 where a vector has no rows, or windows have none. The only error is want of memory.

@@ -1,9 +1,9 @@
 -- What a tree needs, from what its parts are.
-use Rattle.std.proofs.Common.{◌≡◌, ℕ, zero, suc, ◌+◌, ◌*◌, ◌≤◌, List, [], ◌∷◌, ◌++◌, map, refl, sym, subst, arith}
-use Rattle.std.specs.Prelude.{◌^◌, max, ℤ, pos, negsuc, neg_ℤ, ◌-ℤ◌, ◌+ℤ◌, ◌<ℤ◌, ◌≤ℤ◌, Option, None, Some}
-use Rattle.std.specs.Int.{int_rem_euclid}
+use Rattle.std.proofs.Common.{ℕ, zero, suc, ◌+◌, ◌*◌, ◌≤◌, List, [], ◌∷◌, ◌++◌, map, sym, subst, arith}
+use Rattle.std.specs.Prelude.{◌^◌, max, ℤ, pos, negsuc, neg_ℤ, ◌-ℤ◌, ◌<ℤ◌, ◌≤ℤ◌, Option, None, Some}
 use Rattle.std.specs.List.{AllByRecursion}
 use Rattle.std.proofs.lemmas.Int.{ints}
+use Rattle.holders.specs.Joins.{back_of, both_of, front_of}
 use Rattle.match_rule.specs.Patterns.{HaveTheirPatterns}
 use Rattle.promql_ast.specs.Depth.{depth, greatest, node_depth}
 use Rattle.promql_ast.specs.declared.tree.Expr.{Expr}
@@ -11,33 +11,18 @@ use Rattle.promql_ast.specs.declared.tree.Fixed.{Fixed}
 use Rattle.promql_ast.specs.declared.tree.Fixed.TheVariants.{At, Start, End}
 use Rattle.promql_ast.specs.declared.tree.Moment.{Moment}
 use Rattle.promql_ast.specs.declared.tree.Node.{Node}
-use Rattle.promql_ast.specs.declared.tree.Node.TheOpen.{Node-F, Expr-F}
+use Rattle.promql_ast.specs.declared.tree.Node.TheOpen.{Node-F}
 use Rattle.promql_ast.specs.declared.tree.Node.TheViews.{roll-Node, roll-Expr}
 use Rattle.promql_ast.specs.declared.tree.Node.TheFolds.{map-Node, fold-Node, fold-roll-Node, fold-roll-Expr, ind-Expr}
 use Rattle.ticks.specs.Walks.{IsTime}
 use Rattle.ticks.specs.declared.moment.Ms.{Ms}
 use Rattle.promql_meaning.specs.Conditions.{AreMet, IsMet, Need, needs_at, needs_of, needs_over, node_needs}
 use Rattle.promql_meaning.specs.Laws.{IsMultipleIn}
-use Rattle.promql_ast.specs.Parts.{AreWithin, IsAtMost, IsFixedWithin, IsWithin, Part, all_of as all_parts, node_parts, parts_of}
+use Rattle.promql_ast.specs.Parts.{AreWithin, IsFixedWithin, IsWithin, Part, all_of as all_parts, node_parts, parts_of}
 use Rattle.promql_meaning.specs.Reaches.{EndsWithin, NeedsAreMet, reach}
 use Rattle.promql_meaning.specs.Selecting.{Asked, base_of, lookback, moment_of}
 use Rattle.promql_meaning.specs.Subqueries.{as_times, multiple_after, multiples}
 use Rattle.promql_meaning.proofs.Points.{after_is_multiple, all_up_to, rem_in}
-
--- ---- lists
-
-module _ {X : Type 0} (P : X → Type 0) where
-  front_of : (xs ys : List X) → AllByRecursion P (xs ++ ys) → AllByRecursion P xs
-  front_of [] ys a = tt
-  front_of (x ∷ xs) ys a = (a.0, front_of xs ys a.1)
-
-  back_of : (xs ys : List X) → AllByRecursion P (xs ++ ys) → AllByRecursion P ys
-  back_of [] ys a = a
-  back_of (x ∷ xs) ys a = back_of xs ys a.1
-
-  both_of : (xs ys : List X) → AllByRecursion P xs → AllByRecursion P ys → AllByRecursion P (xs ++ ys)
-  both_of [] ys a b = b
-  both_of (x ∷ xs) ys a b = (a.0, both_of xs ys a.1 b)
 
 -- ---- times
 

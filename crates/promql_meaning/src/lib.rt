@@ -19,8 +19,5 @@ pub use answer::{Answer, Outcome, Point, ResultSeries};
 pub use buckets::Bucket;
 pub use elements::map_rows;
 pub use given::{Given, Selection, Stamped, WindowRow, Windows, barren, no_marks, step_of_rows};
-pub use limits::{labelled, labels_with, put_one, without_label};
+pub use limits::{labelled, labels_with, without_label};
 pub use notes::{is_outside, range_notes, range_notes_of, with_notes};
-
-#[cfg(test)]
-mod tests;

@@ -1,12 +1,12 @@
 //! Labels that are made anew, within the limits of labels.
-ghost use Rattle.label_set.specs.Labels.{put_refusal, set_refusal, with_pair, with_value, without};
+ghost use Rattle.label_set.specs.Labels.{set_refusal, with_value, without};
 ghost use Rattle.promql_meaning.specs.Countings.{with_label};
-ghost use Rattle.std.specs.Prelude.{◌≡◌, ◌≢◌, ◌∷◌, [], false, true, is_some, IfOk, MatchBool};
+ghost use Rattle.std.specs.Prelude.{◌≡◌, ◌∷◌, [], false, true, is_some, IfOk, MatchBool};
 ghost use Rattle.step_table.specs.Matching.{labelled as with_labels};
 
-use label_set::{Items, LabelRefusal, Labels, Text};
+use label_set::{Items, Labels, Text};
 use std::alloc::{AllocError, Global};
-use step_table::Outcome;
+use step_table::{Outcome, not_taken};
 use xfrac::{NumFault, XFrac};
 
 /// A value under its labels; labels that would pass the limits are the fault Overflow, under no labels.
@@ -64,28 +64,5 @@ fn set_one(labels: &mut Labels, name: &str, value: &str) -> Result<bool, AllocEr
     match labels.set(name, value) {
         Ok(()) => Ok(true),
         Err(refusal) => not_taken(refusal),
-    }
-}
-
-/// Puts a value under a name that has none, and answers whether it was taken: not where the name is empty or there, or where
-/// the labels would pass their limits. An empty value changes nothing. The only error is want of memory.
-pub fn put_one(labels: &mut Labels, name: &str, value: &str) -> Result<bool, AllocError>
-    ensures { IfOk result (λ taken. MatchBool taken
-        ((is_some (put_refusal labels.old name.now value.now) ≡ false) × (labels.new ≡ with_pair labels.old name.now value.now))
-        (is_some (put_refusal labels.old name.now value.now) ≡ true)) }
-{
-    match labels.put(name, value) {
-        Ok(()) => Ok(true),
-        Err(refusal) => not_taken(refusal),
-    }
-}
-
-/// Want of memory is an error; for other refusals nothing is taken.
-fn not_taken(refusal: LabelRefusal) -> Result<bool, AllocError>
-    ensures { IfOk result (λ taken. (taken ≡ false) × (refusal ≢ LabelRefusal.Memory)) }
-{
-    match refusal {
-        LabelRefusal::Memory => Err(AllocError),
-        _ => Ok(false),
     }
 }

@@ -19,7 +19,7 @@ use Rattle.promql_ast.specs.declared.tree.Node.TheVariants.{Number, Words, Paren
 use Rattle.promql_parse.specs.Build.{moment_of, node_of, selector_of, tree}
 use Rattle.promql_parse.specs.Grammar.{ArgumentList, Body, Operand, Phrase, Primary, Term, another, a_range, a_selector, a_subquery, term_tree}
 use Rattle.promql_parse.specs.Laws.{DepthsAreTold, QueriesAreWithin}
-use Rattle.promql_parts.specs.Joins.{back_of, both_of, front_of}
+use Rattle.holders.specs.Joins.{back_of, both_of, front_of}
 use Rattle.promql_parts.specs.Labels.{no_grouping}
 use Rattle.promql_parts.specs.Limits.{IsLengthWithin, OffsetsAreWithin, RangesAreWithin, RulesHaveTheirs, StepsAreWithin, TimesAreWithin}
 use Rattle.promql_parts.specs.Patterned.{HasPattern}

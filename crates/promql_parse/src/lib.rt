@@ -11,6 +11,3 @@ pub use laws::{
     each_query_is_read, queries_lie_within_limits, refusals_stand, what_is_read_is_a_query,
 };
 pub use query::parse;
-
-#[cfg(test)]
-mod tests;

@@ -1,5 +1,5 @@
 -- Parts lie within the limits.
-use Rattle.std.proofs.Common.{◌≡◌, ◌≤◌, ℕ, ap, subst, sym, ⊎_elim, List, [], ◌∷◌, ◌++◌, map, arith}
+use Rattle.std.proofs.Common.{◌≡◌, ◌≤◌, ℕ, subst, sym, ⊎_elim, List, [], ◌∷◌, ◌++◌, map, arith}
 use Rattle.std.proofs.lemmas.Bool.{ltb-false}
 use Rattle.std.proofs.lemmas.Int.{ints}
 use Rattle.std.specs.List.{AllByRecursion}
@@ -9,7 +9,7 @@ use Rattle.label_set.specs.declared.rules.Rule.{Rule}
 use Rattle.match_rule.specs.Patterns.{HasItsPattern, HaveTheirPatterns}
 use Rattle.promql_ast.specs.Parts.{IsAtMost, IsFixedWithin}
 use Rattle.promql_ast.specs.declared.tree.Fixed.{Fixed}
-use Rattle.promql_parts.specs.Joins.{back_of, both_of, front_of}
+use Rattle.holders.specs.Joins.{back_of, both_of, front_of}
 use Rattle.promql_parts.specs.Limits.{IsLengthWithin, OffsetsAreWithin, RangesAreWithin, RulesHaveTheirs, StepsAreWithin, TimesAreWithin}
 use Rattle.promql_parts.specs.Patterned.{HasPattern, HavePatterns, Kept}
 use Rattle.promql_parts.specs.Productions.{IsLength, MatcherList, Matchers, OffsetBehind, OneMatcher, RangeBrackets, Selected, Signed, StepBrackets, TimeBehind}

@@ -14,7 +14,7 @@ use Rattle.promql_ast.specs.declared.refusal.QueryRefusal.TheVariants.{BadToken}
 use Rattle.promql_lex.specs.declared.token.Token.{Token}
 use Rattle.promql_lex.specs.declared.token.TokenKind.{TokenKind}
 use Rattle.promql_lex.specs.declared.token.TokenKind.TheVariants as tokens
-use Rattle.promql_parts.specs.Joins.{both_of}
+use Rattle.holders.specs.Joins.{both_of}
 use Rattle.promql_parts.specs.Lexemes.{kind_of, lexeme_of, sign_kind, sign_of, spelling_in, word_kind, word_of}
 use Rattle.promql_parts.specs.Patterned.{Becomes, HasPattern, HavePatterns, Kept, Patterned, is_bad, is_string, takes_pattern}
 use Rattle.promql_parts.specs.Patterned.Patterned.{done, last, more}

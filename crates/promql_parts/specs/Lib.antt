@@ -1,4 +1,3 @@
-pub mod Joins
 pub mod Labels
 pub mod Laws
 pub mod Lexemes

@@ -1,17 +1,15 @@
 -- A run over files, as far as it came.
-use Rattle.std.proofs.Common.{◌≡◌, ℕ, ◌+◌, Bool, List, [], ◌∷◌, ◌++◌, Option, None, Some, Result, Ok, Err, IfOk, OnErr, refl, sym, ap, subst, ◌∙◌, append_assoc, append-nil, arith}
-use Rattle.std.specs.Prelude.{◌==◌, if◌then◌else◌, sum_by}
-use Rattle.std.specs.List.{flat_map}
+use Rattle.std.proofs.Common.{◌≡◌, ℕ, ◌+◌, List, [], ◌∷◌, ◌++◌, Option, Result, Ok, Err, IfOk, OnErr, refl, sym, ap, subst, ◌∙◌, append_assoc, append-nil, arith}
+use Rattle.std.specs.Prelude.{◌==◌, if◌then◌else◌}
 use Rattle.std.proofs.lemmas.List.Concat.{flat_map-append}
 use Rattle.std.proofs.lemmas.List.Sums.{sum_by-append}
 use Rattle.edge_io.specs.Written.{appended, WroteFront}
 use Rattle.edge_io.specs.declared.sink.SinkFail.{SinkFail}
 use Rattle.test_runner.specs.Lines.{failed_in, lines_text, passed_in}
 use Rattle.test_runner.specs.Verdicts.{Judged}
-use Rattle.promql_tool.specs.Ends.{Reports}
-use Rattle.promql_tool.specs.Files.{All, Begins, Gone, IsJudged, JudgedFile, Last, Refused, Sees, all, all_failed, all_passed, files_text, gone, judged, last_text, last_status, refused, report_of, running, waiting}
-use Rattle.promql_tool.specs.Runs.{ComesTo, Early, Ends, HasJudged, IsCutFile, IsCutFiles, Late, ReportsFiles, Running, Stops, Unwritten, last_at, stop_report}
-use Rattle.promql_tool.specs.Texts.{Report, totals_text}
+use Rattle.promql_tool.specs.Files.{All, Begins, Gone, JudgedFile, Last, Refused, Sees, all, all_failed, all_passed, files_text, gone, judged, last_text, last_status, refused, report_of, running, waiting}
+use Rattle.promql_tool.specs.Runs.{Early, Ends, HasJudged, IsCutFile, IsCutFiles, Late, ReportsFiles, Running, Stops, Unwritten, last_at, stop_report}
+use Rattle.promql_tool.specs.Texts.{totals_text}
 use Rattle.promql_tool.specs.declared.fault.Stop.{Stop}
 use Rattle.promql_tool.specs.declared.fault.Stop.TheVariants as stop
 use Rattle.promql_tool.specs.declared.print.Status.{Status}

@@ -1,5 +1,5 @@
 -- What a script and bytes come to.
-use Rattle.std.proofs.Common.{◌≡◌, ℕ, List, [], Option, Some, Result, Ok, Err, IfErr, IfOk, OnErr, refl, ap}
+use Rattle.std.proofs.Common.{◌≡◌, ℕ, List, Option, Result, Ok, Err, IfErr, IfOk, OnErr, refl, ap}
 use Rattle.sample_store.specs.Samples.{AllSeries}
 use Rattle.script_read.specs.Outcomes.{PatternList}
 use Rattle.script_read.specs.declared.script.Script.{Script}

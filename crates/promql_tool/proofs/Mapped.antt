@@ -1,11 +1,10 @@
 -- What a fetch finds in two senses: what is said of a file in one of them holds in the other.
-use Rattle.std.proofs.Common.{◌≡◌, ℕ, List, [], ◌∷◌, Option, None, Some, Result, Ok, Err, IfOk, OnErr, refl, sym, subst}
+use Rattle.std.proofs.Common.{◌≡◌, ℕ, List, Option, None, Some, Result, Ok, Err, IfOk, OnErr, refl, sym, subst}
 use Rattle.std.proofs.lemmas.Result.{IfOk-weaker}
 use Rattle.test_runner.specs.Verdicts.{Judged}
-use Rattle.promql_tool.specs.Files.{All, Gone, IsJudged, IsRunning, JudgedFile, Last, Refused, Begins, Sees, all, gone, judged, refused, running, waiting}
-use Rattle.promql_tool.specs.Reading.{IsRefusedFor}
+use Rattle.promql_tool.specs.Files.{Gone, IsJudged, IsRunning, JudgedFile, Last, Refused, Sees, all, gone, judged, refused}
 use Rattle.promql_tool.specs.Found.{Just}
-use Rattle.promql_tool.specs.Runs.{ComesTo, Finds, HasJudged, IsCutFile, Running, Stops, Unwritten}
+use Rattle.promql_tool.specs.Runs.{ComesTo, IsCutFile, Running, Stops, Unwritten}
 use Rattle.promql_tool.specs.declared.fault.Stop.{Stop}
 use Rattle.promql_tool.specs.declared.fault.Stop.TheVariants as stop
 use Rattle.promql_tool.specs.declared.judge.FileEnd.{FileEnd}

@@ -1,5 +1,5 @@
--- A text in pieces, and what holds of an answer.
-use Rattle.std.proofs.Common.{◌≡◌, ◌<◌, ℕ, ◌+◌, List, ◌∷◌, ◌++◌, length, take, drop, get_or, Result, Ok, Err, OnErr, sym, ap, ◌∙◌, take-append-drop}
+-- A text in pieces.
+use Rattle.std.proofs.Common.{◌≡◌, ◌<◌, ℕ, ◌+◌, List, ◌∷◌, ◌++◌, length, take, drop, get_or, sym, ap, ◌∙◌, take-append-drop}
 use Rattle.std.proofs.lemmas.List.{drop_more}
 use Rattle.std.specs.List.{flat_map}
 use Rattle.std.proofs.lemmas.List.Folds.{flat_map-map}
@@ -22,8 +22,3 @@ pub lines_parted : (lines : List (Vec ℕ Global)) (i : ℕ) (d : Vec ℕ Global
 lines_parted lines i d lt =
     let flat = flat_map-map (λ (line : List ℕ). line) (λ (line : Vec ℕ Global). line.items) in
     rw (flat (take i lines), flat (drop (i + 1) lines), flat lines) (flat_parted (λ (line : Vec ℕ Global). line.items) lines i d lt)
-
--- what holds anyway holds after a refusal
-pub on_err : {T E : Type 0} (r : Result T E) (P : Type 0) → P → OnErr r P
-on_err (Ok x) P h = tt
-on_err (Err e) P h = h

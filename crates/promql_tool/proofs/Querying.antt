@@ -1,5 +1,5 @@
 -- What a query comes to, and its report.
-use Rattle.std.proofs.Common.{◌≡◌, ℕ, Bool, List, [], ◌∷◌, Option, None, Some, Result, Ok, Err, IfOk, OnErr, refl, sym, subst}
+use Rattle.std.proofs.Common.{◌≡◌, ℕ, Bool, List, [], ◌∷◌, Option, Some, Result, Ok, Err, IfOk, OnErr, refl, sym, subst}
 use Rattle.std.proofs.lemmas.Result.{IfOk-weaker}
 use Rattle.edge_io.specs.Written.{appended, WroteFront}
 use Rattle.edge_io.specs.declared.sink.SinkFail.{SinkFail}
@@ -8,11 +8,11 @@ use Rattle.promql_meaning.specs.declared.answer.Outcome.TheVariants as outcome
 use Rattle.script_read.specs.Outcomes.{PatternList}
 use Rattle.script_read.specs.declared.script.Script.{Script}
 use Rattle.ticks.specs.declared.grid.Grid.{Grid}
-use Rattle.promql_tool.specs.Ends.{IsOneOf, Reports}
+use Rattle.promql_tool.specs.Ends.{IsOneOf}
 use Rattle.promql_tool.specs.Query.{AreNoteLines, Queried, answered, gone, notes_in, outcome_report, refused}
 use Rattle.promql_tool.specs.Reading.{IsReadAs}
 use Rattle.promql_tool.specs.Found.{Just}
-use Rattle.promql_tool.specs.Runs.{AnswersFile, AnswersScript, Ends, IsAnswered, IsCutReport, Nothing, Partly, ReportsAnswered, ReportsQuery, stop_report}
+use Rattle.promql_tool.specs.Runs.{AnswersFile, AnswersScript, Ends, IsCutReport, Nothing, Partly, ReportsAnswered, ReportsQuery, stop_report}
 use Rattle.promql_tool.specs.Texts.{Report}
 use Rattle.promql_tool.specs.declared.fault.Stop.{Stop}
 use Rattle.promql_tool.specs.declared.fault.Stop.TheVariants as stop

@@ -1,5 +1,5 @@
 -- What stands after a run, from what was reported.
-use Rattle.std.proofs.Common.{◌≡◌, ◌≤◌, ℕ, Bool, true, false, List, [], ◌∷◌, ◌++◌, length, Option, None, Some, IfSome, refl, sym, ap, subst, ◌∙◌, inl, inr, ◌⊎◌, arith}
+use Rattle.std.proofs.Common.{◌≡◌, ◌≤◌, ℕ, Bool, true, false, List, [], ◌∷◌, ◌++◌, length, Option, None, Some, IfSome, refl, sym, ap, subst, ◌∙◌, inl, ◌⊎◌, arith}
 use Rattle.std.specs.Prelude.{◌==◌, if◌then◌else◌, Contains}
 use Rattle.std.specs.List.{AllByRecursion}
 use Rattle.std.proofs.lemmas.List.Elements.{All-contains, All-from_recursion}
@@ -16,8 +16,8 @@ use Rattle.promql_tool.specs.Files.{All, Gone, IsJudged, JudgedFile, Last, Refus
 use Rattle.promql_tool.specs.Found.{Have, IsFound, Just}
 use Rattle.promql_tool.specs.Query.{Queried, answered, gone as query_gone, outcome_report, refused as query_refused}
 use Rattle.promql_tool.specs.Reading.{IsNoScript, IsRefusedFor}
-use Rattle.promql_tool.specs.Report.{HasReport, IsReport, files_asked, files_of, misused, queried, tested, worked, workload_report}
-use Rattle.promql_tool.specs.Runs.{Misused, Queries, ReportsFiles, ReportsQuery, ReportsWords, ReportsWorkload, Tested, Works}
+use Rattle.promql_tool.specs.Report.{HasReport, IsReport, files_asked, files_of, misused, queried, tested, worked}
+use Rattle.promql_tool.specs.Runs.{Misused, Queries, ReportsFiles, ReportsWords, ReportsWorkload, Tested, Works}
 use Rattle.promql_tool.specs.Texts.{Report, refusal_text, usage}
 use Rattle.promql_tool.specs.Workload.{loaded_text, workload_path, workload_text}
 use Rattle.promql_tool.specs.declared.fault.Refusal.{Refusal as Refusing}

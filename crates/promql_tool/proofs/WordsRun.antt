@@ -1,17 +1,17 @@
 -- What words come to, from what they ask for.
-use Rattle.std.proofs.Common.{◌≡◌, ℕ, Bool, List, [], ◌∷◌, Option, None, Some, Result, Ok, Err, IfOk, OnErr, refl, sym, ap, subst}
+use Rattle.std.proofs.Common.{◌≡◌, ℕ, Bool, List, [], ◌∷◌, Option, None, Some, Result, Ok, Err, IfOk, OnErr, refl, subst}
 use Rattle.edge_io.specs.Fetches.{FetchesFront}
 use Rattle.edge_io.specs.Written.{appended, WroteFront}
 use Rattle.edge_io.specs.declared.sink.SinkFail.{SinkFail}
 use Rattle.ticks.specs.declared.grid.Grid.{Grid}
 use Rattle.tool_words.specs.Asked.{asked, query, test, workload}
 use Rattle.tool_words.specs.Views.{moments_in}
-use Rattle.promql_tool.specs.Ends.{IsCut, Reports, judging, reporting, unwritten, working}
+use Rattle.promql_tool.specs.Ends.{IsCut, judging, reporting, unwritten, working}
 use Rattle.promql_tool.specs.Files.{report_of}
 use Rattle.promql_tool.specs.Query.{Queried}
-use Rattle.promql_tool.specs.Report.{IsReport, files_asked, files_of, misused, queried, tested, worked, workload_report}
+use Rattle.promql_tool.specs.Report.{misused, queried, tested, worked, workload_report}
 use Rattle.promql_tool.specs.Runs.{Almost, Begun, Early, Ends, IsCutFiles, IsCutReport, IsCutWorkload, Late, Misused, Nothing, Partly, Queries, ReportsFiles, ReportsQuery, ReportsWorkload, ReportsWords, Tested, Unmade, Works}
-use Rattle.promql_tool.specs.Texts.{Report, usage, usage_report}
+use Rattle.promql_tool.specs.Texts.{usage, usage_report}
 use Rattle.promql_tool.specs.declared.print.Status.{Status}
 
 -- one file was fetched

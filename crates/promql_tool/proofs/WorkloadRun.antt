@@ -1,10 +1,8 @@
 -- A run over one text, and of a workload.
-use Rattle.std.proofs.Common.{◌≡◌, ℕ, ◌+◌, Bool, List, [], ◌∷◌, ◌++◌, Option, None, Some, Result, Ok, Err, IfOk, OnErr, refl, sym, ap, subst, ◌∙◌, append-nil}
-use Rattle.std.specs.Prelude.{◌==◌, if◌then◌else◌}
+use Rattle.std.proofs.Common.{◌≡◌, ℕ, ◌+◌, List, [], ◌∷◌, ◌++◌, Option, Result, Ok, Err, refl, sym, ap, subst, ◌∙◌, append-nil}
 use Rattle.edge_io.specs.Written.{appended, WroteFront}
 use Rattle.edge_io.specs.declared.sink.SinkFail.{SinkFail}
-use Rattle.promql_tool.specs.Ends.{Reports}
-use Rattle.promql_tool.specs.Files.{Begins, report_of, waiting}
+use Rattle.promql_tool.specs.Files.{report_of, waiting}
 use Rattle.promql_tool.specs.Found.{Just}
 use Rattle.promql_tool.specs.Report.{workload_report}
 use Rattle.promql_tool.specs.Runs.{Almost, Begun, Early, Ends, IsCutFiles, IsCutWorkload, Late, ReportsFiles, ReportsWorkload}

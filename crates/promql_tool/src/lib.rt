@@ -15,6 +15,4 @@ mod workload;
 pub use fault::Refusal;
 pub use print::Status;
 pub use tool::run_tool;
-
-#[cfg(test)]
-mod tests;
+pub use workload::{loaded_line, workload_text};

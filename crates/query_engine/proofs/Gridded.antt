@@ -1,10 +1,11 @@
 -- The instants of a grid lie from its start to its end, and at each of them a tree's needs are met.
-use Rattle.std.proofs.Common.{◌≡◌, ℕ, Bool, zero, suc, ◌+◌, ◌-◌, ◌*◌, ◌/◌, ◌≤◌, true, false, List, [], ◌∷◌, ◌++◌, map, refl, sym, subst, arith, add-one}
+use Rattle.std.proofs.Common.{◌≡◌, ℕ, Bool, zero, suc, ◌+◌, ◌-◌, ◌*◌, ◌/◌, ◌≤◌, true, false, List, [], ◌∷◌, refl, sym, subst, arith, add-one}
 use Rattle.std.specs.Prelude.{◌^◌, ℤ, pos, negsuc, ◌+ℤ◌, ◌-ℤ◌, ◌≤ℤ◌, int_lt, unsigned_abs, if◌then◌else◌}
 use Rattle.std.specs.List.{AllByRecursion}
 use Rattle.std.proofs.lemmas.Int.{ints}
 use Rattle.std.proofs.Math.Nat.{div-mul-le_self}
 use Rattle.frac_text.specs.Times.{time_limit}
+use Rattle.holders.specs.Joins.{both_of}
 use Rattle.label_set.specs.Entries.{recursion_map}
 use Rattle.match_rule.specs.Patterns.{HaveTheirPatterns}
 use Rattle.promql_ast.specs.Depth.{depth}
@@ -64,13 +65,9 @@ reach_few d few =
 
 -- ---- needs
 
-both_of : (asked : Asked) (xs ys : List Need) → AreMet asked xs → AreMet asked ys → AreMet asked (xs ++ ys)
-both_of asked [] ys a b = b
-both_of asked (x ∷ xs) ys a b = (a.0, both_of asked xs ys a.1 b)
-
 each_met : (asked : Asked) (needs : ℤ → List Need) (us : List ℤ) → AllByRecursion (λ u. AreMet asked (needs u)) us → AreMet asked (needs_over needs (as_times us))
 each_met asked needs [] all = tt
-each_met asked needs (u ∷ us) all = both_of asked (needs u) (needs_over needs (as_times us)) all.0 (each_met asked needs us all.1)
+each_met asked needs (u ∷ us) all = both_of (IsMet asked.kept) (needs u) (needs_over needs (as_times us)) all.0 (each_met asked needs us all.1)
 
 pub grid_met : (samples : AllSeries) (kept : List (Bool × List ℕ)) (grid : Grid) (e : Expr) → NeedsAreMet → depth e ≤ 128
     → AreWithin (HaveTheirPatterns kept) hundred_years time_limit (parts_of e)

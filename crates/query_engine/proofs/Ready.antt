@@ -6,7 +6,6 @@ use Rattle.match_rule.specs.Gains.{Gains}
 use Rattle.match_rule.specs.Patterns.{HaveTheirPatterns}
 use Rattle.promql_ast.specs.Depth.{depth}
 use Rattle.promql_ast.specs.Parts.{AreWithin, parts_of}
-use Rattle.promql_ast.specs.declared.refusal.QueryRefusal.{QueryRefusal}
 use Rattle.promql_ast.specs.declared.tree.Expr.{Expr}
 use Rattle.promql_parse.specs.Parsing.{Parses}
 use Rattle.promql_type.specs.Answers.{IsLeastRefusal, MayFault, refusals_of}

@@ -1,5 +1,5 @@
 -- The result of a typed tree is what its text comes to, and is no refusal.
-use Rattle.std.proofs.Common.{◌≡◌, ℕ, ◌+◌, Bool, true, false, List, [], ◌∷◌, length, Option, None, Some, subst, sym}
+use Rattle.std.proofs.Common.{◌≡◌, ℕ, ◌+◌, Bool, true, false, List, [], ◌∷◌, length, Option, None, Some, subst}
 use Rattle.std.specs.Prelude.{nat_lt, Result, Ok, Err, IfOk, if◌then◌else◌, ⊤}
 use Rattle.std.specs.Option.{option_or, unwrap_or}
 use Rattle.promql_ast.specs.declared.tree.Expr.{Expr}

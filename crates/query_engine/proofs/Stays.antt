@@ -1,6 +1,5 @@
 -- What holds of the parts of a tree while more patterns are kept.
-use Rattle.std.proofs.Common.{◌≡◌, ◌<◌, ℕ, zero, suc, Bool, true, List, [], ◌∷◌, length, slice_get, Option, Some, sym, subst, arith}
-use Rattle.std.specs.List.{AllByRecursion}
+use Rattle.std.proofs.Common.{◌≡◌, ◌<◌, ℕ, zero, suc, Bool, true, List, [], ◌∷◌, length, Option, Some, sym, subst, arith}
 use Rattle.std.specs.Option.{option_map}
 use Rattle.label_set.specs.Entries.{recursion_map}
 use Rattle.label_set.specs.declared.rules.Rule.{Rule}

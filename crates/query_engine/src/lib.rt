@@ -5,6 +5,3 @@ mod evaluating;
 
 pub use evaluating::evaluate;
 pub use std::alloc::AllocError as Memory;
-
-#[cfg(test)]
-mod tests;

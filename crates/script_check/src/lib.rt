@@ -18,6 +18,3 @@ pub use note_text::{append_note, is_warning};
 pub use outcome_text::{append_mark, append_outcome, append_refusal};
 pub use std::alloc::AllocError as Memory;
 pub use verdict::{Reason, Verdict};
-
-#[cfg(test)]
-mod tests;

@@ -1,11 +1,11 @@
 //! The texts of notes.
 ghost use Rattle.frac_text.specs.Spellings.{spelling};
-ghost use Rattle.label_set.specs.LabelText.{escaped_byte, quoted};
+ghost use Rattle.label_set.specs.LabelText.{quoted};
 ghost use Rattle.script_check.specs.NoteTexts.{is_of, is_warning, note_text, texts_of};
 ghost use Rattle.std.specs.Prelude.{◌≡◌, ◌++◌, IfOk, OnOk};
 
 use frac_text::write_number;
-use label_set::Items;
+use label_set::{Items, append_quoted};
 use std::alloc::{AllocError, Global};
 use step_table::Note;
 use xfrac::XFrac;
@@ -30,34 +30,6 @@ fn is_of(warnings: bool, note: &Note) -> bool
     } else {
         !is_warning(note)
     }
-}
-
-/// Appends a byte of a text in quotes.
-fn append_escaped(byte: u8, into: &mut Vec<u8>) -> Result<(), AllocError>
-    ensures { OnOk result (into.new.items ≡ into.old.items ++ escaped_byte byte) }
-{
-    if byte == b'\\' || byte == b'"' {
-        into.push(b'\\')?;
-        into.push(byte)?;
-    } else if byte == b'\n' {
-        into.push(b'\\')?;
-        into.push(b'n')?;
-    } else {
-        into.push(byte)?;
-    }
-    Ok(())
-}
-
-/// Appends a text in quotes, as a label's value is printed.
-fn append_quoted(text: &str, into: &mut Vec<u8>) -> Result<(), AllocError>
-    ensures { OnOk result (into.new.items ≡ into.old.items ++ quoted text.now) }
-{
-    into.push(b'"')?;
-    for byte in text.as_bytes() {
-        append_escaped(*byte, into)?;
-    }
-    into.push(b'"')?;
-    Ok(())
 }
 
 fn append_text(text: &str, into: &mut Vec<u8>) -> Result<(), AllocError>

@@ -16,12 +16,10 @@ use Rattle.label_set.specs.declared.rules.Pairing.{Pairing}
 use Rattle.step_table.specs.Gathering.{settled_table}
 use Rattle.step_table.specs.Matching.{signature_of}
 use Rattle.step_table.specs.OrderLaws.{mark_cmp_total, note_cmp_total}
-use Rattle.step_table.specs.Orders.{mark_cmp, note_cmp}
 use Rattle.step_table.specs.Outcomes.{settled}
 use Rattle.step_table.specs.Sets.{combined, is_on, rows_off, step_of}
 use Rattle.step_table.specs.Unions.{united}
 use Rattle.step_table.specs.WellFormed.{IsWellFormed}
-use Rattle.step_table.specs.declared.marks.Marks.{Marks}
 use Rattle.step_table.specs.declared.step.Row.{Row}
 use Rattle.step_table.specs.declared.step.Step.{Step}
 

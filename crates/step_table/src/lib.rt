@@ -18,10 +18,7 @@ pub use cells::{Cell, CellRow, PartKind, StepCells};
 pub use groups::{Parted, add, gather, part, part_groups};
 pub use marks::{Mark, Marks, Note};
 pub use matching::pair;
-pub use operators::{drops_name, operate, without_name};
+pub use operators::{drops_name, not_taken, operate, put_one, without_name};
 pub use outcomes::{Outcome, settled, taken};
 pub use set_operators::combine;
 pub use step::{Row, Step, Table};
-
-#[cfg(test)]
-mod tests;

@@ -25,7 +25,7 @@ use Rattle.test_runner.specs.declared.fault.RunnerFault.{RunnerFault}
 use Rattle.test_runner.specs.declared.fault.RunnerFault.TheVariants.{Refused, Range, Write, Memory}
 use Rattle.test_runner.specs.declared.totals.Totals.{Totals}
 use Rattle.edge_io.specs.Fronts.{appended-appended, appended-nil, front_last, front_none}
-use Rattle.test_runner.proofs.Answered.{on_err}
+use Rattle.holders.specs.Answers.{on_err}
 
 -- ---- what commands leave
 

@@ -1,4 +1,3 @@
 pub mod Loading
 pub mod Standing
-pub mod Answered
 pub mod Carrying

@@ -16,6 +16,3 @@ pub use fault::{LoadRefusal, RunnerFault};
 pub use laws::{each_evaluation_has_one_verdict, loads_put_their_samples};
 pub use running::run;
 pub use totals::Totals;
-
-#[cfg(test)]
-mod tests;

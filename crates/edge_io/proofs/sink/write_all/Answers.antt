@@ -1,7 +1,7 @@
 use Rattle.std.proofs.Common.{take, drop, sym, ap, ◌∙◌, arith, take-append-drop, take-add}
 use Rattle.edge_io.specs.Written.{appended, WroteFront}
 use Rattle.edge_io.specs.Fronts.{appended-appended}
-use Rattle.edge_io.proofs.Answered.{on_err}
+use Rattle.holders.specs.Answers.{on_err}
 use Rattle.edge_io.proofs.sink.write_all.Goals as goal
 
 pub returns-in_err-done-clause-err : goal.returns-in_err-done-clause-err

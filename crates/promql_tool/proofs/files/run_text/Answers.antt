@@ -1,7 +1,6 @@
-use Rattle.std.proofs.Common.{◌≡◌, ◌+◌, ◌∙◌, [], ◌∷◌, List, ℕ, Option, arith, refl, sym, subst}
+use Rattle.std.proofs.Common.{◌≡◌, ◌+◌, [], ◌∷◌, List, ℕ, Option, arith, sym, subst}
 use Rattle.std.proofs.lemmas.Result.{err_from_is_err_and}
 use Rattle.promql_tool.specs.Found.{Just}
-use Rattle.promql_tool.specs.declared.judge.FileEnd.TheVariants.{Judged, Stopped}
 use Rattle.promql_tool.proofs.FilesRun.{RunSoFar, next_cut, none_run, one_more, stop_printed, totals_printed}
 use Rattle.promql_tool.proofs.files.run_text.Goals as goal
 

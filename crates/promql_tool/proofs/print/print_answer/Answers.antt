@@ -5,7 +5,7 @@ use Rattle.promql_meaning.specs.declared.answer.ResultSeries.{ResultSeries}
 use Rattle.promql_tool.specs.Query.{all_series_text}
 use Rattle.promql_tool.specs.Runs.{bytes_of}
 use Rattle.edge_io.specs.Fronts.{front_first, front_last}
-use Rattle.promql_tool.proofs.Pieces.{on_err}
+use Rattle.holders.specs.Answers.{on_err}
 use Rattle.promql_tool.proofs.print.print_answer.Goals as goal
 
 pub returns-in_err-print_series-clause-err : goal.returns-in_err-print_series-clause-err

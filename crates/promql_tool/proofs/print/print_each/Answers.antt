@@ -3,7 +3,8 @@ use Rattle.std.specs.List.{flat_map}
 use Rattle.edge_io.specs.Written.{WroteFront}
 use Rattle.promql_tool.specs.Query.{series_text}
 use Rattle.edge_io.specs.Fronts.{front_more}
-use Rattle.promql_tool.proofs.Pieces.{flat_parted, on_err}
+use Rattle.promql_tool.proofs.Pieces.{flat_parted}
+use Rattle.holders.specs.Answers.{on_err}
 use Rattle.promql_tool.proofs.print.print_each.Goals as goal
 
 pub returns-in_err-print_one-clause-err : goal.returns-in_err-print_one-clause-err

@@ -5,7 +5,8 @@ use Rattle.std.specs.declared.alloc.Global.{Global}
 use Rattle.edge_io.specs.Written.{WroteFront}
 use Rattle.promql_tool.specs.Runs.{bytes_of}
 use Rattle.edge_io.specs.Fronts.{front_more}
-use Rattle.promql_tool.proofs.Pieces.{lines_parted, on_err}
+use Rattle.promql_tool.proofs.Pieces.{lines_parted}
+use Rattle.holders.specs.Answers.{on_err}
 use Rattle.promql_tool.proofs.print.print_notes.Goals as goal
 
 pub returns-in_err-write_all-clause-err : goal.returns-in_err-write_all-clause-err

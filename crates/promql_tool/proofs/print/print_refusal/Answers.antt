@@ -1,6 +1,6 @@
 use Rattle.promql_tool.specs.Texts.{refusal_text}
 use Rattle.edge_io.specs.Fronts.{front_none}
-use Rattle.promql_tool.proofs.Pieces.{on_err}
+use Rattle.holders.specs.Answers.{on_err}
 use Rattle.promql_tool.proofs.print.print_refusal.Goals as goal
 
 pub returns-in_err-text-clause-err : goal.returns-in_err-text-clause-err

@@ -1,4 +1,4 @@
-use Rattle.std.proofs.Common.{◌≡◌, sym, subst}
+use Rattle.std.proofs.Common.{sym, subst}
 use Rattle.promql_ast.specs.declared.refusal.QueryRefusal.{QueryRefusal}
 use Rattle.promql_meaning.specs.declared.answer.Outcome.TheVariants as outcome
 use Rattle.promql_meaning.specs.Selecting.{asked_over}

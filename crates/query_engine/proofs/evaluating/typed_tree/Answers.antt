@@ -1,4 +1,4 @@
-use Rattle.std.proofs.Common.{◌≡◌, [], sym, subst}
+use Rattle.std.proofs.Common.{[], sym, subst}
 use Rattle.std.specs.Prelude.{Ok, Err}
 use Rattle.promql_parse.specs.Parsing.{Parses, Refuses}
 use Rattle.promql_type.specs.Replacements.{Kept}

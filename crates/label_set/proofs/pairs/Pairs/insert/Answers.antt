@@ -2,7 +2,8 @@ use Rattle.std.proofs.Common.{length, refl, ap, ◌∙◌}
 use Rattle.std.specs.Prelude.{insert}
 use Rattle.std.specs.String.{string_bytes}
 use Rattle.std.proofs.lemmas.Slice.{pushed}
-use Rattle.label_set.proofs.SpanLemmas.{kept_view, kept_within, named_view, named_within, on_err, put_view, put_within, text_kept}
+use Rattle.holders.specs.Answers.{on_err}
+use Rattle.label_set.proofs.SpanLemmas.{kept_view, kept_within, named_view, named_within, put_view, put_within, text_kept}
 use Rattle.label_set.proofs.pairs.Pairs.insert.Goals as goal
 
 pub invariant_of-self-in_err-push_str-2 : goal.invariant_of-self-in_err-push_str-2

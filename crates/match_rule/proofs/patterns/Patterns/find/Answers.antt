@@ -1,6 +1,6 @@
-use Rattle.std.proofs.Common.{◌≡◌, ◌<◌, ◌≤◌, ℕ, length, map, Some, slice_get, subst, rules, arith}
+use Rattle.std.proofs.Common.{◌≡◌, ◌<◌, ◌≤◌, ℕ, length, map, subst, rules}
 use Rattle.match_rule.specs.Patterns.{number_of}
-use Rattle.match_rule.proofs.Numbers.{absent_among, among_at_most, pattern_of, there_among}
+use Rattle.match_rule.proofs.Numbers.{absent_among, pattern_of, there_among}
 use Rattle.match_rule.proofs.patterns.Patterns.find.Goals as goal
 
 pub returns-then-place-len-clause-there : goal.returns-then-place-len-clause-there

@@ -1,4 +1,4 @@
-use Rattle.std.proofs.Common.{◌≡◌, ℕ, [], IfSome, Option, None, Some, rules, subst}
+use Rattle.std.proofs.Common.{◌≡◌, [], IfSome, rules, subst}
 use Rattle.match_rule.specs.Patterns.{AreCutFrom}
 use Rattle.match_rule.proofs.Cuts.{none_cut, on_ok_cut}
 use Rattle.match_rule.proofs.patterns.Patterns.groups.Goals.{in-Some, in-None}

@@ -1,0 +1,7 @@
+-- What holds of an answer, for proofs.
+use Rattle.std.specs.Prelude.{Result, Ok, Err, OnErr}
+
+-- what holds anyway holds after an error
+pub on_err : {T E : Type 0} (r : Result T E) (P : Type 0) → P → OnErr r P
+on_err (Ok x) P h = tt
+on_err (Err e) P h = h

@@ -1,7 +1,0 @@
-use Rattle.std.proofs.Common.{◌≡◌, ◌++◌, take}
-use Rattle.std.specs.List.{flat_map}
-use Rattle.label_set.specs.LabelText.{escaped_byte}
-use Rattle.script_check.proofs.note_text.append_quoted.Given as goal
-
-abbrev pub invariant-loop-byte : goal.invariant-loop-byte
-invariant-loop-byte l = l.into.items ≡ l.initial.into.items ++ flat_map escaped_byte (take l.byte-index l.byte-items)
