@@ -20,6 +20,3 @@ pub use refusal::{NumberRefusal, TimeRefusal};
 pub use std::alloc::AllocError as Memory;
 pub use time::read_time;
 pub use write::write_number;
-
-#[cfg(test)]
-mod tests;

@@ -3,8 +3,6 @@
 
 mod names;
 mod table;
-#[cfg(test)]
-mod tests;
 
 pub use names::{find, listed_names_are_found};
 pub use table::{Aggregate, Element, Found, Func, SetOp, Window};

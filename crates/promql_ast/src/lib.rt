@@ -9,6 +9,3 @@ mod tree;
 pub use laws::depths_are_by_nodes;
 pub use refusal::QueryRefusal;
 pub use tree::{Expr, Fixed, Moment, Node, Selector};
-
-#[cfg(test)]
-mod tests;

@@ -17,6 +17,3 @@ pub use fault::LexFault;
 pub use laws::{kinds_are_of_spellings, refused_spellings_are_last, spans_lie_in_order};
 pub use std::alloc::AllocError as Memory;
 pub use token::{Token, TokenKind};
-
-#[cfg(test)]
-mod tests;

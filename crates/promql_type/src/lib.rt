@@ -18,6 +18,3 @@ mod typed_tree;
 pub use checking::check;
 pub use laws::{least_is_first, typed_trees_fit};
 pub use typed_tree::{TypeFault, Typed};
-
-#[cfg(test)]
-mod tests;

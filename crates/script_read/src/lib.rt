@@ -25,6 +25,3 @@ pub use script::{
     Command, Expectations, Expected, Script, ScriptRefusal, SeriesItem, SeriesLine, Wanted, What,
 };
 pub use std::alloc::AllocError as Memory;
-
-#[cfg(test)]
-mod tests;

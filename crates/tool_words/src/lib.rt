@@ -13,6 +13,3 @@ pub use asked::Asked;
 pub use laws::{commands_are_simple, words_say_what_they_spell};
 pub use read::read_words;
 pub use std::alloc::AllocError as Memory;
-
-#[cfg(test)]
-mod tests;

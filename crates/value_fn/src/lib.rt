@@ -3,8 +3,6 @@
 
 mod formulas;
 mod laws;
-#[cfg(test)]
-mod tests;
 
 pub use formulas::element;
 pub use laws::{clamp_is_both_halves, rounding_is_nearest};

@@ -10,8 +10,6 @@ mod quantiles;
 mod slopes;
 mod steps;
 mod sums;
-#[cfg(test)]
-mod tests;
 mod windows;
 
 pub use frame::{WindowFault, WindowFrame};

@@ -1,0 +1,144 @@
+//! Rows whose answers were worked out by exact arithmetic elsewhere.
+ghost use Rattle.std.specs.Prelude.{◌≡◌};
+
+use func_table::{Element, Found, Func, find};
+use std::test::Fail;
+use value_fn::element;
+use xfrac::{NumFault, XFrac, of};
+
+/// A call a line: the function, the value, both parameters and the answer. `-` is the sign minus.
+const CALLS: &str = "abs -3/2 nan nan 3/2
+abs 3/2 nan nan 3/2
+abs -inf nan nan inf
+abs nan nan nan nan
+ceil -3/2 nan nan -1/1
+ceil 1/3 nan nan 1/1
+ceil inf nan nan inf
+floor -1/3 nan nan -1/1
+floor 7/2 nan nan 3/1
+floor nan nan nan nan
+- 3/4 nan nan -3/4
+- 0/1 nan nan 0/1
+- inf nan nan -inf
+- nan nan nan nan
+sgn -3/7 nan nan -1/1
+sgn 0/1 nan nan 0/1
+sgn 1000000000000000000000000000000/1 nan nan 1/1
+sgn inf nan nan 1/1
+sgn -inf nan nan -1/1
+sgn nan nan nan nan
+round 1/2 1/1 nan 1/1
+round -1/2 1/1 nan 0/1
+round 3/2 1/1 nan 2/1
+round -3/2 1/1 nan -1/1
+round 5/2 1/1 nan 3/1
+round 49/100 1/1 nan 0/1
+round 7/10 1/5 nan 4/5
+round 7/1 5/1 nan 5/1
+round 1/3 1/10 nan 3/10
+round 5/1 0/1 nan nan
+round -5/1 0/1 nan nan
+round 0/1 0/1 nan nan
+round 1/1 -2/1 nan 0/1
+round 3/1 -2/1 nan 2/1
+round -3/1 -2/1 nan -4/1
+round 1/1 inf nan nan
+round -1/1 -inf nan nan
+round 1/1 nan nan nan
+round nan 1/1 nan nan
+round inf 1/1 nan inf
+round inf -1/1 nan inf
+round -inf 1/1 nan -inf
+round inf 0/1 nan nan
+round inf inf nan nan
+round 0/1 7/1 nan 0/1
+round 1000000000000000000000000000000/1 1/1 nan overflow
+round 1000000000000000000000000000000/1 2/1 nan overflow
+round 1000000000000000000000000000000/1 1/2 nan overflow
+round 1000000000000000000000000000000/1 1000000000000000000000000000000/1 nan 1000000000000000000000000000000/1
+round 1000000000000000000000000000000/1 600000000000000000000000000000/1 nan overflow
+round 1/3 1/1000000000000000000000000000000 nan overflow
+round 1/2 1/500000000000000000000000000000 nan 1/2
+clamp 5/1 0/1 3/1 3/1
+clamp -1/1 0/1 3/1 0/1
+clamp 2/1 0/1 3/1 2/1
+clamp 3/1 3/1 3/1 3/1
+clamp 4/1 3/1 3/1 3/1
+clamp 2/1 3/1 0/1 none
+clamp nan 3/1 0/1 none
+clamp 1/1 inf -inf none
+clamp 2/1 nan 3/1 nan
+clamp 2/1 0/1 nan nan
+clamp 5/1 nan nan nan
+clamp nan 0/1 3/1 nan
+clamp inf 0/1 3/1 3/1
+clamp -inf -inf inf -inf
+clamp 1/3 1/2 2/3 1/2
+clamp -inf 1/2 inf 1/2
+clamp_min 1/1 2/1 nan 2/1
+clamp_min 3/1 2/1 nan 3/1
+clamp_min nan 2/1 nan nan
+clamp_min 2/1 nan nan nan
+clamp_min -inf 2/1 nan 2/1
+clamp_min 2/1 inf nan inf
+clamp_max 1/1 2/1 nan 1/1
+clamp_max 3/1 2/1 nan 2/1
+clamp_max nan 2/1 nan nan
+clamp_max 2/1 nan nan nan
+clamp_max inf 2/1 nan 2/1
+clamp_max 2/1 -inf nan -inf";
+
+/// A fraction n/d, an infinity or NaN.
+fn read(text: &str) -> Result<XFrac, Fail> {
+    if text == "inf" {
+        return Ok(XFrac::PosInf);
+    }
+    if text == "-inf" {
+        return Ok(XFrac::NegInf);
+    }
+    if text == "nan" {
+        return Ok(XFrac::NaN);
+    }
+    let (n, d) = text.split_once('/').ok_or("no fraction")?;
+    let n: i128 = n.parse()?;
+    let d: i128 = d.parse()?;
+    if d <= 0 {
+        return Err("no denominator")?;
+    }
+    Ok(of(n, d)?)
+}
+
+fn function(name: &str) -> Result<Element, Fail> {
+    if name == "-" {
+        return Ok(Element::Neg);
+    }
+    match find(name) {
+        Found::Known(Func::Element(element)) => Ok(element),
+        _ => Err("no element function")?,
+    }
+}
+
+fn answer(text: &str) -> Result<Result<Option<XFrac>, NumFault>, Fail> {
+    if text == "overflow" {
+        return Ok(Err(NumFault::Overflow));
+    }
+    if text == "none" {
+        return Ok(Ok(None));
+    }
+    Ok(Ok(Some(read(text)?)))
+}
+
+#[test]
+fn elements(rt: HostRuntime) -> Result<(), Fail> {
+    for line in CALLS.lines() {
+        let mut words = line.split_whitespace();
+        let f = function(words.next().ok_or("no function")?)?;
+        let v = read(words.next().ok_or("no value")?)?;
+        let first = read(words.next().ok_or("no first parameter")?)?;
+        let second = read(words.next().ok_or("no second parameter")?)?;
+        let wanted = answer(words.next().ok_or("no answer")?)?;
+        assert_eq!(rt; element(f, &v, &first, &second), wanted, "{line}");
+    }
+    assert_eq!(rt; CALLS.lines().count(), 80);
+    Ok(())
+}

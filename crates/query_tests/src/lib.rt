@@ -1,0 +1,5 @@
+//! Rows of queries over a few series, and what comes of each. The answers are worked out elsewhere.
+#![tactic(auto)]
+
+#[cfg(test)]
+mod results;

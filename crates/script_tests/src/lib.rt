@@ -1,0 +1,7 @@
+//! Rows of scripts and of the verdicts on their evaluations. The answers are worked out elsewhere.
+#![tactic(auto)]
+
+#[cfg(test)]
+mod scripts;
+#[cfg(test)]
+mod verdicts;

@@ -1,0 +1,385 @@
+use func_table::SetOp;
+use label_set::{Card, Items, Labels, METRIC_NAME, Pairing, Text};
+use std::alloc::Global;
+use std::test::Fail;
+use step_table::*;
+use xfrac::{ArithOp, CompareOp, PairOp, XFrac, of};
+
+// Each line is a left vector, an operator with its modifiers, a right vector, and the rows and the marks that come,
+// worked by hand. A row is its metric's name and its labels, and a value behind a colon; `#N` is N labels from `l0` on,
+// and `big` is 10^30. A mark is the letter of its kind and its labels; one of an operand stands behind `!`.
+const ROWS: &str = "a:1 + b:2 :3 -
+a:5 - b:2 :3 -
+a:5 * b:2 :10 -
+a:1 / b:4 :1/4 -
+a:7 % b:4 :3 -
+a:2 ^ b:3 :8 -
+a,x=1:1;a,x=2:2 + b,x=1:10;b,x=2:20 ,x=1:11;,x=2:22 -
+a,x=1:1;a,x=2:2 + b,x=2:20;b,x=3:30 ,x=2:22 -
+a,x=1:1 + b,x=2:2 - -
+a,x=1:1 + b:2 - -
+a,x=1,y=1:1 +;on=x b,x=1,z=9:2 ,x=1:3 -
+a,x=1,y=1:1 +;ign=y,z b,x=1,z=9:2 ,x=1:3 -
+a,x=1,y=1:1 +;ign=y b,x=1:2 ,x=1:3 -
+a,x=1:1 +;on= b,y=2:2 :3 -
+a,x=1:1 +;ign= b,x=1:2 ,x=1:3 -
+a,x=1:1 +;ign=x b,x=2:2 :3 -
+a,x=1:1 +;on=__name__ b,x=1:2 - -
+a,x=1:1 +;on=__name__ a,y=1:2 :3 -
+a,x=1:3 >;on=__name__ a,y=1:2 a:3 -
+a,x=1:3 > b,x=1:2 a,x=1:3 -
+a:1 > b:2 - -
+a,x=1,y=1:3 >;on=x b,x=1:2 ,x=1:3 -
+a,x=1,y=1:3 >;ign=y b,x=1:2 a,x=1:3 -
+a,x=1:3 >;ign=__name__ b,x=1:2 ,x=1:3 -
+a:3 >b b:2 :1 -
+a:1 >b b:2 :0 -
+a:1 == b:1 a:1 -
+a:1 != b:1 - -
+a:nan == b:nan - -
+a:nan != b:nan a:nan -
+a:nan ==b b:nan :0 -
+a:nan !=b b:nan :1 -
+a:1 < b:2 a:1 -
+a:2 <= b:2 a:2 -
+a:2 >= b:3 - -
+a,i=1:1;a,i=2:2 *;on= b:1 - M
+a,i=1:1;a,i=2:2 *;on=;left= b:1 ,i=1:1;,i=2:2 -
+b:1 *;on= a,i=1:1;a,i=2:2 - D
+b:1 *;on=;right= a,i=1:1;a,i=2:2 ,i=1:1;,i=2:2 -
+a,i=1:1;a,i=2:5 >;on= b:3 :5 -
+a,i=1:4;a,i=2:5 >;on= b:3 - M
+a,i=1:1;a,i=2:2 >;on= b:3 - -
+a,i=1:1;a,i=2:5 >b;on= b:3 - M
+a,i=1:2;a,i=2:inf ^;on= b:1/2 :inf I
+a,i=1:big;a,i=2:1 *;on= b:2 :2 O
+a,x=1:1 +;on=x b,x=1,y=1:1;b,x=1,y=2:2 - D,x=1
+a,x=2:1 +;on=x b,x=1,y=1:1;b,x=1,y=2:2;b,x=2:5 ,x=2:6 D,x=1
+a,x=1:1 + b,x=1:1;c,x=1:2 - D,x=1
+c,x=1:2 * a,x=1:1;a,x=2:1;b,x=2:1 ,x=1:2 D,x=2
+a,x=1:1;b,x=1:2 + c,x=1:5 - M,x=1
+a,x=1:1;b,x=1:2 + c,x=1:5;d,x=1:6 - D,x=1
+a,i=1,x=1:1;a,i=2,x=1:2 +;on=x b,x=1:5;b,x=2,y=1:1;b,x=2,y=2:2 - D,x=2;M,x=1
+a:1 +;on=x b,x=1,y=1:1;b,x=1,y=2:1;b,x=2,y=1:1;b,x=2,y=2:1 - D,x=1;D,x=2
+- +;on=x b,x=1,y=1:1;b,x=1,y=2:2 - -
+a,x=1,y=1:1;a,x=1,y=2:2 *;on=x;right= - - -
+a:1 + - - -
+- + - - -
+a:1;!O + - - O
+a:1;!S,x=1 + b:2;!O :3 O;S,x=1
+a:1;!O;!I + b:2;!O :3 O;I
+a,i=1:1;a,i=2:2;!R,z=1 *;on= b:1;!O - O;M;R,z=1
+a,i=1,x=1:2 *;on=x;left= b,x=1,z=9:3 ,i=1,x=1:6 -
+a,i=1,x=1:2 *;on=x;left=z b,x=1,z=9:3 ,i=1,x=1,z=9:6 -
+a,i=1,x=1,z=7:2 *;on=x;left=z b,x=1:3 ,i=1,x=1:6 -
+a,i=1,x=1,z=7:2 *;on=x;left=z b,x=1,z=9:3 ,i=1,x=1,z=9:6 -
+a,x=1:2 *;on=x;left=q b,x=1:3 ,x=1:6 -
+a,x=1,y=5:2 *;on=x;left=y,z b,x=1,z=9:3 ,x=1,z=9:6 -
+a,x=1:2 *;on=x;left=__name__ b,x=1:3 b,x=1:6 -
+b,x=1:10 -;on=x;right= a,i=1,x=1:3;a,i=2,x=1:4 ,i=1,x=1:7;,i=2,x=1:6 -
+b,x=1,z=9:10 -;on=x;right=z a,i=1,x=1:3 ,i=1,x=1,z=9:7 -
+b,x=1:10 >;on=x;right= a,i=1,x=1:3 a,i=1,x=1:10 -
+a,i=1,x=1:3;a,i=2,x=1:30 >;on=x;left= b,x=1:10 a,i=2,x=1:30 -
+a,i=1,x=1:3 *;on=x;left= b,x=1,y=1:1;b,x=1,y=2:2 - D,x=1
+b,x=1,y=1:1;b,x=1,y=2:2 *;on=x;right= a,i=1,x=1:3 - D,x=1
+a,i=1,x=1:2;a,i=2,x=1:3 *;ign=i;left= b,x=1:5 ,i=1,x=1:10;,i=2,x=1:15 -
+a,i=1:1;b,i=1:2 *;ign=i;left= c:5 - R,i=1
+a,i=1:1;a,i=2:2 *;on=;left=i b,i=9:3 - R,i=9
+a:1;b:2 +;on=__name__ a,x=1:1;b,x=1:2 - S
+a,x=1:1;b,x=1:2 +;on=__name__,x a,x=1:5;b,x=1:6 - S,x=1
+a,x=1:1;b,x=1:2 <;on=__name__,x a,x=1:5;b,x=1:6 a,x=1:1;b,x=1:2 -
+a,x=1:1;b,x=1:2 <b;on=__name__,x a,x=1:5;b,x=1:6 - S,x=1
+a,x=1:1;b,x=1:2 < c,x=1:5 - M,x=1
+a,#63:1 + b,#63:2 ,#63:3 -
+a,#63:1 *;on=l0;left=z b,l0=v,z=9:2 ,#63,z=9:2 -
+a,#63:3 >;on=l0;left=z b,l0=v,z=9:2 - O
+,#64:1 *;on=l0;left=z b,l0=v,z=9:2 - O
+,#64:1 *;on=l0;left=l1 b,l0=v,l1=w:2 ,#64,l1=w:2 -
+,#64:1 *;on=l0;left=z,l1 b,l0=v,z=9:2 ,#64,l1=,z=9:2 -
+,l0=v:5;,#64:1 *;on=l0;left=z b,l0=v,z=9:2 ,l0=v,z=9:10 O
+,#64:1 >;on=l0;left=z b,l0=v,z=9:2 - -
+a,i=1:big;a,i=2:2;a,i=3:2 *;on= b:2 - O;M
+a,i=1:2;a,i=2:3 ^;on=;left= b:1/2 - I
+a,x=1:2;a,x=2:big ^;on=x b,x=1:1/2;b,x=2:2 - O;I
+x,i=1:1 and x,i=1:1 x,i=1:1 -
+x,i=1:1 unless x,i=1:1 - -
+x,i=1:1 or :9 :9;x,i=1:1 -
+x,i=1:1 or;on= :9 x,i=1:1 -
+x,i=1:1 and;on= :9 x,i=1:1 -
+y:1 or :9 y:1 -
+x,i=1:1;x,i=2:2 and y,i=2:5 x,i=2:2 -
+x,i=1:1;x,i=2:2 unless y,i=2:5 x,i=1:1 -
+x,i=1:1;x,i=2:2 and;on= y:5 x,i=1:1;x,i=2:2 -
+x,i=1:1;x,i=2:2 unless;on= y:5 - -
+x,i=1:1 and - - -
+x,i=1:1 unless - x,i=1:1 -
+- or y:2 y:2 -
+x:1 or - x:1 -
+x,i=1,j=1:1 and;on=i y,i=1,k=3:5 x,i=1,j=1:1 -
+x,i=1,j=1:1 unless;ign=j y,i=1,j=2:5 - -
+x,i=1:1 or;on=i y,i=1:2;y,i=2:3 x,i=1:1;y,i=2:3 -
+x,i=1:1 or;on=i y,i=2,j=1:2;y,i=2,j=2:3 x,i=1:1;y,i=2,j=1:2;y,i=2,j=2:3 -
+x:1;!O or y,i=1:2;!S,a=1 x:1;y,i=1:2 O;S,a=1
+x:1;y:2 and;on=__name__ y:7 y:2 -
+x:1;x:2 or - - S,x
+x,i=1:nan and y,i=1:0 x,i=1:nan -";
+
+fn value(text: &str) -> Result<XFrac, Fail> {
+    if text == "inf" {
+        return Ok(XFrac::PosInf);
+    }
+    if text == "nan" {
+        return Ok(XFrac::NaN);
+    }
+    if text == "big" {
+        return Ok(of(1_000_000_000_000_000_000_000_000_000_000, 1)?);
+    }
+    let (n, d) = text.split_once('/').unwrap_or((text, "1"));
+    let n: i128 = n.parse()?;
+    let d: i128 = d.parse()?;
+    if d <= 0 {
+        return Err("no denominator")?;
+    }
+    Ok(of(n, d)?)
+}
+
+fn set_many(alloc: Global, labels: &mut Labels, count: u32) -> Result<(), Fail> {
+    for i in 0..count {
+        labels.set(format!(in alloc; "l{i}")?.as_str(), "v")?;
+    }
+    Ok(())
+}
+
+fn set_label(alloc: Global, labels: &mut Labels, word: &str) -> Result<(), Fail> {
+    if let Some(count) = word.strip_prefix('#') {
+        return set_many(alloc, labels, count.parse()?);
+    }
+    let (name, value) = word.split_once('=').unwrap_or((METRIC_NAME, word));
+    labels.set(name, value)?;
+    Ok(())
+}
+
+fn labels(alloc: Global, text: &str) -> Result<Labels, Fail> {
+    let mut labels = Labels::empty(alloc);
+    for word in text.split(',') {
+        if word != "" {
+            set_label(alloc, &mut labels, word)?;
+        }
+    }
+    Ok(labels)
+}
+
+fn mark_of(kind: &str, labels: Labels) -> Mark {
+    if kind == "O" {
+        Mark::Overflow
+    } else if kind == "I" {
+        Mark::Irrational
+    } else if kind == "S" {
+        Mark::SameLabelset(labels)
+    } else if kind == "D" {
+        Mark::DuplicateOneSide(labels)
+    } else if kind == "M" {
+        Mark::ImplicitManyToOne(labels)
+    } else {
+        Mark::DuplicateResult(labels)
+    }
+}
+
+fn mark(alloc: Global, text: &str) -> Result<Mark, Fail> {
+    let (kind, names) = text.split_once(',').unwrap_or((text, ""));
+    Ok(mark_of(kind, labels(alloc, names)?))
+}
+
+/// The marks among words, which stand behind a sign.
+fn marks(alloc: Global, text: &str, sign: &str) -> Result<Items<Mark>, Fail> {
+    let mut marks = Items::new(alloc);
+    for word in text.split(';') {
+        if let Some(word) = word.strip_prefix(sign) {
+            if word != "-" {
+                marks.push(mark(alloc, word)?)?;
+            }
+        }
+    }
+    Ok(marks)
+}
+
+fn row(alloc: Global, word: &str) -> Result<Row, Fail> {
+    let (names, number) = word.split_once(':').ok_or("a row without a value")?;
+    let value = value(number)?;
+    Ok(Row {
+        labels: labels(alloc, names)?,
+        value,
+    })
+}
+
+/// The rows among words.
+fn rows(alloc: Global, text: &str) -> Result<Items<Row>, Fail> {
+    let mut rows = Items::new(alloc);
+    for word in text.split(';') {
+        if word != "-" && !word.starts_with('!') {
+            rows.push(row(alloc, word)?)?;
+        }
+    }
+    Ok(rows)
+}
+
+/// A step of rows and of marks behind a sign.
+fn step(alloc: Global, listed: &str, marked: &str, sign: &str) -> Result<Step, Fail> {
+    let rows = rows(alloc, listed)?;
+    let fatal = marks(alloc, marked, sign)?;
+    Ok(Step {
+        table: Table { rows },
+        marks: Marks {
+            fatal,
+            notes: Items::new(alloc),
+        },
+    })
+}
+
+/// A vector: rows, and marks behind `!`.
+fn vector(alloc: Global, text: Option<&str>) -> Result<Step, Fail> {
+    let text = text.ok_or("no vector")?;
+    step(alloc, text, text, "!")
+}
+
+fn names(alloc: Global, text: &str) -> Result<Items<Text>, Fail> {
+    let mut names = Items::new(alloc);
+    for word in text.split(',') {
+        if word == "" {
+            continue;
+        }
+        names.push(Text::of(alloc, word)?)?;
+    }
+    Ok(names)
+}
+
+fn comparison(word: &str) -> CompareOp {
+    if word == "==" {
+        CompareOp::Eq
+    } else if word == "!=" {
+        CompareOp::Ne
+    } else if word == "<" {
+        CompareOp::Lt
+    } else if word == "<=" {
+        CompareOp::Le
+    } else if word == ">" {
+        CompareOp::Gt
+    } else {
+        CompareOp::Ge
+    }
+}
+
+fn arithmetic(word: &str) -> Option<ArithOp> {
+    if word == "+" {
+        Some(ArithOp::Add)
+    } else if word == "-" {
+        Some(ArithOp::Sub)
+    } else if word == "*" {
+        Some(ArithOp::Mul)
+    } else if word == "/" {
+        Some(ArithOp::Div)
+    } else if word == "%" {
+        Some(ArithOp::Rem)
+    } else if word == "^" {
+        Some(ArithOp::Pow)
+    } else {
+        None
+    }
+}
+
+fn pair_operator(word: &str) -> PairOp {
+    if let Some(op) = arithmetic(word) {
+        return PairOp::Arith(op);
+    }
+    match word.strip_suffix('b') {
+        Some(word) => PairOp::Flag(comparison(word)),
+        None => PairOp::Filter(comparison(word)),
+    }
+}
+
+fn set_operator(word: &str) -> Option<SetOp> {
+    if word == "and" {
+        Some(SetOp::And)
+    } else if word == "unless" {
+        Some(SetOp::Unless)
+    } else if word == "or" {
+        Some(SetOp::Or)
+    } else {
+        None
+    }
+}
+
+fn set_modifier(alloc: Global, p: &mut Pairing, word: &str) -> Result<(), Fail> {
+    let (kind, list) = word.split_once('=').ok_or("no modifier")?;
+    let list = names(alloc, list)?;
+    if kind == "on" {
+        p.on = true;
+        p.names = list;
+        return Ok(());
+    }
+    if kind == "ign" {
+        p.names = list;
+        return Ok(());
+    }
+    p.card = if kind == "left" {
+        Card::GroupLeft
+    } else {
+        Card::GroupRight
+    };
+    p.extra = list;
+    Ok(())
+}
+
+fn pairing(alloc: Global, modifiers: &str) -> Result<Pairing, Fail> {
+    let mut p = Pairing {
+        on: false,
+        names: Items::new(alloc),
+        card: Card::OneToOne,
+        extra: Items::new(alloc),
+    };
+    for word in modifiers.split(';') {
+        if word != "" {
+            set_modifier(alloc, &mut p, word)?;
+        }
+    }
+    Ok(p)
+}
+
+/// The step of an operator with its modifiers.
+fn operated(alloc: Global, l: &Step, text: &str, r: &Step) -> Result<Step, Fail> {
+    let (word, modifiers) = text.split_once(';').unwrap_or((text, ""));
+    let p = pairing(alloc, modifiers)?;
+    match set_operator(word) {
+        Some(op) => Ok(combine(alloc, l, r, op, &p)?),
+        None => Ok(pair(alloc, l, r, pair_operator(word), &p)?),
+    }
+}
+
+fn answer(
+    alloc: Global,
+    left: Option<&str>,
+    op: Option<&str>,
+    right: Option<&str>,
+) -> Result<Step, Fail> {
+    let left = vector(alloc, left)?;
+    let right = vector(alloc, right)?;
+    operated(alloc, &left, op.unwrap_or(""), &right)
+}
+
+/// Whether the rows and the marks of a line come.
+fn line_holds(alloc: Global, line: &str) -> Result<bool, Fail> {
+    let mut words = line.split_whitespace();
+    let (left, op, right) = (words.next(), words.next(), words.next());
+    let (rows, marks) = (words.next().unwrap_or(""), words.next().unwrap_or(""));
+    let got = answer(alloc, left, op, right)?;
+    Ok(got == step(alloc, rows, marks, "")?)
+}
+
+#[test]
+fn rows_between_two_vectors(rt: HostRuntime) -> Result<(), Fail> {
+    for line in ROWS.lines() {
+        assert!(rt; line_holds(rt.alloc(), line)?, "{line}");
+    }
+    assert_eq!(rt; ROWS.lines().count(), 115);
+    Ok(())
+}
