@@ -1,10 +1,11 @@
 //! Rows whose answers were worked out by exact arithmetic elsewhere.
 ghost use Rattle.std.specs.Prelude.{◌≡◌};
 
+use crate::fractions::read;
 use func_table::{Element, Found, Func, find};
 use std::test::Fail;
 use value_fn::element;
-use xfrac::{NumFault, XFrac, of};
+use xfrac::{NumFault, XFrac};
 
 /// A call a line: the function, the value, both parameters and the answer. `-` is the sign minus.
 const CALLS: &str = "abs -3/2 nan nan 3/2
@@ -87,26 +88,6 @@ clamp_max nan 2/1 nan nan
 clamp_max 2/1 nan nan nan
 clamp_max inf 2/1 nan 2/1
 clamp_max 2/1 -inf nan -inf";
-
-/// A fraction n/d, an infinity or NaN.
-fn read(text: &str) -> Result<XFrac, Fail> {
-    if text == "inf" {
-        return Ok(XFrac::PosInf);
-    }
-    if text == "-inf" {
-        return Ok(XFrac::NegInf);
-    }
-    if text == "nan" {
-        return Ok(XFrac::NaN);
-    }
-    let (n, d) = text.split_once('/').ok_or("no fraction")?;
-    let n: i128 = n.parse()?;
-    let d: i128 = d.parse()?;
-    if d <= 0 {
-        return Err("no denominator")?;
-    }
-    Ok(of(n, d)?)
-}
 
 fn function(name: &str) -> Result<Element, Fail> {
     if name == "-" {

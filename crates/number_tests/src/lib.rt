@@ -2,6 +2,8 @@
 #![tactic(auto)]
 
 #[cfg(test)]
+mod fractions;
+#[cfg(test)]
 mod functions;
 #[cfg(test)]
 mod holding;

@@ -1,6 +1,7 @@
 //! Rows whose answers were worked out by hand or by exact arithmetic elsewhere.
 ghost use Rattle.std.specs.Prelude.{◌≡◌};
 
+use crate::fractions::read;
 use std::cmp::Ordering;
 use std::test::Fail;
 use xfrac::{
@@ -118,22 +119,6 @@ const OPERATIONS: &str = "+ 1/2 1/3 5/6
 ^ -2/3 -3/1 -27/8
 ^ 2/1 1000000000000000000000000000000/1 overflow
 ^ -2/1 2/1 4/1";
-
-fn read(text: &str) -> Result<XFrac, Fail> {
-    if text == "inf" {
-        return Ok(XFrac::PosInf);
-    }
-    if text == "-inf" {
-        return Ok(XFrac::NegInf);
-    }
-    if text == "nan" {
-        return Ok(XFrac::NaN);
-    }
-    let (n, d) = text.split_once('/').ok_or("no fraction")?;
-    let n: i128 = n.parse()?;
-    let d: i128 = d.parse()?;
-    Ok(value((n, d)))
-}
 
 fn operator(text: &str) -> ArithOp {
     if text == "+" {

@@ -4,12 +4,13 @@ ghost use Rattle.std.specs.List.{All};
 ghost use Rattle.ticks.specs.Walks.{IsTime};
 ghost use Rattle.window_fn.specs.Windows.{IsFrame, IsInFrame};
 
+use crate::fractions::read;
 use func_table::{Found, Func, Window, find};
 use std::alloc::Global;
 use std::test::Fail;
 use ticks::Ms;
 use window_fn::{WindowFault, WindowFrame, over, quantile};
-use xfrac::{XFrac, of};
+use xfrac::XFrac;
 
 /// A call a line: the function; the range, the moment and the instant in milliseconds; the parameter; each sample as
 /// its time and value; behind the arrow the answer.
@@ -230,26 +231,6 @@ quantile_over_time 4000 4000 4000 400000000000000000000000000001/100000000000000
 quantile_over_time 4000 4000 4000 1/11 1000:1/3 2000:1/7 => 37/231
 rate 60000 -60000 -60000 nan -110000:1/1 -90000:4/1 -65000:2/1 => 59/540
 deriv 60000 -60000 -60000 nan -110000:1/1 -90000:4/1 -65000:2/1 => 11/610";
-
-/// A fraction n/d, an infinity or NaN.
-fn read(text: &str) -> Result<XFrac, Fail> {
-    if text == "inf" {
-        return Ok(XFrac::PosInf);
-    }
-    if text == "-inf" {
-        return Ok(XFrac::NegInf);
-    }
-    if text == "nan" {
-        return Ok(XFrac::NaN);
-    }
-    let (n, d) = text.split_once('/').ok_or("no fraction")?;
-    let n: i128 = n.parse()?;
-    let d: i128 = d.parse()?;
-    if d <= 0 {
-        return Err("no denominator")?;
-    }
-    Ok(of(n, d)?)
-}
 
 fn function(name: &str) -> Result<Window, Fail> {
     match find(name) {

@@ -1,10 +1,11 @@
+use crate::written::{mark, names, row, value};
 use func_table::{Aggregate, Element, Found, Func, find};
-use label_set::{Grouping, Items, Labels, METRIC_NAME, Text};
+use label_set::{Grouping, Items};
 use promql_meaning::*;
 use std::alloc::Global;
 use std::test::Fail;
-use step_table::{Mark, Marks, Note, Row, Step, Table};
-use xfrac::{XFrac, of, whole};
+use step_table::{Marks, Note, Step, Table};
+use xfrac::{XFrac, whole};
 
 // Each line is a vector, an aggregation with its parameter and grouping, and the rows and the marks that come, worked by hand. A
 // row is its metric's name and its labels, and a value behind a colon; `#N` is N labels from `l0` on, and `big` is 10^30. A mark
@@ -275,63 +276,6 @@ a:1;b:2 clamp=2,1 - -
 a:1;!Q2 abs :1 Q2
 a:1;b:1;!Q2;!Q3 abs - S;Q2;Q3";
 
-fn value(text: &str) -> Result<XFrac, Fail> {
-    if text == "inf" {
-        return Ok(XFrac::PosInf);
-    }
-    if text == "-inf" {
-        return Ok(XFrac::NegInf);
-    }
-    if text == "nan" {
-        return Ok(XFrac::NaN);
-    }
-    if text == "big" {
-        return Ok(of(1_000_000_000_000_000_000_000_000_000_000, 1)?);
-    }
-    let (n, d) = text.split_once('/').unwrap_or((text, "1"));
-    let n: i128 = n.parse()?;
-    let d: i128 = d.parse()?;
-    if d <= 0 {
-        return Err("no denominator")?;
-    }
-    Ok(of(n, d)?)
-}
-
-fn set_label(alloc: Global, labels: &mut Labels, word: &str) -> Result<(), Fail> {
-    if word == "" {
-        return Ok(());
-    }
-    if let Some(count) = word.strip_prefix('#') {
-        let count: u32 = count.parse()?;
-        for i in 0..count {
-            labels.set(format!(in alloc; "l{i}")?.as_str(), "v")?;
-        }
-        return Ok(());
-    }
-    let (name, value) = word.split_once('=').unwrap_or((METRIC_NAME, word));
-    labels.set(name, value)?;
-    Ok(())
-}
-
-fn labels(alloc: Global, text: &str) -> Result<Labels, Fail> {
-    let mut labels = Labels::empty(alloc);
-    for word in text.split(',') {
-        set_label(alloc, &mut labels, word)?;
-    }
-    Ok(labels)
-}
-
-fn mark(alloc: Global, text: &str) -> Result<Mark, Fail> {
-    let (kind, names) = text.split_once(',').unwrap_or((text, ""));
-    if kind == "O" {
-        return Ok(Mark::Overflow);
-    }
-    if kind == "I" {
-        return Ok(Mark::Irrational);
-    }
-    Ok(Mark::SameLabelset(labels(alloc, names)?))
-}
-
 fn no_step(alloc: Global) -> Step {
     Step {
         table: Table {
@@ -367,10 +311,7 @@ fn add_mark(alloc: Global, step: &mut Step, word: &str) -> Result<(), Fail> {
 }
 
 fn add_row(alloc: Global, step: &mut Step, word: &str) -> Result<(), Fail> {
-    let (names, number) = word.split_once(':').ok_or("a row without a value")?;
-    let value = value(number)?;
-    let labels = labels(alloc, names)?;
-    step.table.rows.push(Row { labels, value })?;
+    step.table.rows.push(row(alloc, word)?)?;
     Ok(())
 }
 
@@ -400,17 +341,6 @@ fn wanted(alloc: Global, rows: &str, marks: &str) -> Result<Step, Fail> {
         add_mark(alloc, &mut step, word)?;
     }
     Ok(step)
-}
-
-fn names(alloc: Global, text: &str) -> Result<Items<Text>, Fail> {
-    let mut names = Items::new(alloc);
-    for word in text.split(',') {
-        if word == "" {
-            continue;
-        }
-        names.push(Text::of(alloc, word)?)?;
-    }
-    Ok(names)
 }
 
 fn grouping(alloc: Global, word: &str) -> Result<Grouping, Fail> {

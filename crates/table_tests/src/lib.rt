@@ -5,3 +5,5 @@
 mod aggregations;
 #[cfg(test)]
 mod tables;
+#[cfg(test)]
+mod written;

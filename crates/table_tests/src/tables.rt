@@ -1,9 +1,10 @@
+use crate::written::{mark, names, row};
 use func_table::SetOp;
-use label_set::{Card, Items, Labels, METRIC_NAME, Pairing, Text};
+use label_set::{Card, Items, Pairing};
 use std::alloc::Global;
 use std::test::Fail;
 use step_table::*;
-use xfrac::{ArithOp, CompareOp, PairOp, XFrac, of};
+use xfrac::{ArithOp, CompareOp, PairOp};
 
 // Each line is a left vector, an operator with its modifiers, a right vector, and the rows and the marks that come,
 // worked by hand. A row is its metric's name and its labels, and a value behind a colon; `#N` is N labels from `l0` on,
@@ -124,72 +125,6 @@ x:1;y:2 and;on=__name__ y:7 y:2 -
 x:1;x:2 or - - S,x
 x,i=1:nan and y,i=1:0 x,i=1:nan -";
 
-fn value(text: &str) -> Result<XFrac, Fail> {
-    if text == "inf" {
-        return Ok(XFrac::PosInf);
-    }
-    if text == "nan" {
-        return Ok(XFrac::NaN);
-    }
-    if text == "big" {
-        return Ok(of(1_000_000_000_000_000_000_000_000_000_000, 1)?);
-    }
-    let (n, d) = text.split_once('/').unwrap_or((text, "1"));
-    let n: i128 = n.parse()?;
-    let d: i128 = d.parse()?;
-    if d <= 0 {
-        return Err("no denominator")?;
-    }
-    Ok(of(n, d)?)
-}
-
-fn set_many(alloc: Global, labels: &mut Labels, count: u32) -> Result<(), Fail> {
-    for i in 0..count {
-        labels.set(format!(in alloc; "l{i}")?.as_str(), "v")?;
-    }
-    Ok(())
-}
-
-fn set_label(alloc: Global, labels: &mut Labels, word: &str) -> Result<(), Fail> {
-    if let Some(count) = word.strip_prefix('#') {
-        return set_many(alloc, labels, count.parse()?);
-    }
-    let (name, value) = word.split_once('=').unwrap_or((METRIC_NAME, word));
-    labels.set(name, value)?;
-    Ok(())
-}
-
-fn labels(alloc: Global, text: &str) -> Result<Labels, Fail> {
-    let mut labels = Labels::empty(alloc);
-    for word in text.split(',') {
-        if word != "" {
-            set_label(alloc, &mut labels, word)?;
-        }
-    }
-    Ok(labels)
-}
-
-fn mark_of(kind: &str, labels: Labels) -> Mark {
-    if kind == "O" {
-        Mark::Overflow
-    } else if kind == "I" {
-        Mark::Irrational
-    } else if kind == "S" {
-        Mark::SameLabelset(labels)
-    } else if kind == "D" {
-        Mark::DuplicateOneSide(labels)
-    } else if kind == "M" {
-        Mark::ImplicitManyToOne(labels)
-    } else {
-        Mark::DuplicateResult(labels)
-    }
-}
-
-fn mark(alloc: Global, text: &str) -> Result<Mark, Fail> {
-    let (kind, names) = text.split_once(',').unwrap_or((text, ""));
-    Ok(mark_of(kind, labels(alloc, names)?))
-}
-
 /// The marks among words, which stand behind a sign.
 fn marks(alloc: Global, text: &str, sign: &str) -> Result<Items<Mark>, Fail> {
     let mut marks = Items::new(alloc);
@@ -201,15 +136,6 @@ fn marks(alloc: Global, text: &str, sign: &str) -> Result<Items<Mark>, Fail> {
         }
     }
     Ok(marks)
-}
-
-fn row(alloc: Global, word: &str) -> Result<Row, Fail> {
-    let (names, number) = word.split_once(':').ok_or("a row without a value")?;
-    let value = value(number)?;
-    Ok(Row {
-        labels: labels(alloc, names)?,
-        value,
-    })
 }
 
 /// The rows among words.
@@ -240,17 +166,6 @@ fn step(alloc: Global, listed: &str, marked: &str, sign: &str) -> Result<Step, F
 fn vector(alloc: Global, text: Option<&str>) -> Result<Step, Fail> {
     let text = text.ok_or("no vector")?;
     step(alloc, text, text, "!")
-}
-
-fn names(alloc: Global, text: &str) -> Result<Items<Text>, Fail> {
-    let mut names = Items::new(alloc);
-    for word in text.split(',') {
-        if word == "" {
-            continue;
-        }
-        names.push(Text::of(alloc, word)?)?;
-    }
-    Ok(names)
 }
 
 fn comparison(word: &str) -> CompareOp {
