@@ -5,7 +5,8 @@ use Rattle.std.specs.Map.{lookup, keys_of, values_of}
 use Rattle.std.specs.Option.{option_map_or}
 use Rattle.func_table.specs.declared.table.Func.{Func}
 use Rattle.func_table.specs.declared.table.Func.TheVariants.{Element, Window, Absent, AbsentOver, HistogramQuantile, LabelJoin, LabelReplace, Scalar, Sort, SortDesc, Time, Timestamp, Vector}
-use Rattle.func_table.specs.declared.table.Element.TheVariants.{Abs, Ceil, Clamp, ClampMax, ClampMin, Floor, Round, Sgn}
+use Rattle.func_table.specs.declared.table.Element.TheVariants.{Abs, Calendar, Ceil, Clamp, ClampMax, ClampMin, Floor, Round, Sgn}
+use Rattle.func_table.specs.declared.table.CalendarPart.TheVariants.{DayOfMonth, DayOfWeek, DayOfYear, DaysInMonth, Hour, Minute, Month, Year}
 use Rattle.func_table.specs.declared.table.Window.TheVariants.{AvgOver, Changes, CountOver, Delta, Deriv, Idelta, Increase, Irate, LastOver, MaxOver, MinOver, PredictLinear, PresentOver, QuantileOver, Rate, Resets, StdvarOver, SumOver}
 use Rattle.func_table.specs.declared.table.Found.{Found}
 use Rattle.func_table.specs.declared.table.Found.TheVariants.{Known, Refused, Unknown}
@@ -23,10 +24,15 @@ functions =
     (codes "clamp_max", Element ClampMax) ∷
     (codes "clamp_min", Element ClampMin) ∷
     (codes "count_over_time", Window CountOver) ∷
+    (codes "day_of_month", Element (Calendar DayOfMonth)) ∷
+    (codes "day_of_week", Element (Calendar DayOfWeek)) ∷
+    (codes "day_of_year", Element (Calendar DayOfYear)) ∷
+    (codes "days_in_month", Element (Calendar DaysInMonth)) ∷
     (codes "delta", Window Delta) ∷
     (codes "deriv", Window Deriv) ∷
     (codes "floor", Element Floor) ∷
     (codes "histogram_quantile", HistogramQuantile) ∷
+    (codes "hour", Element (Calendar Hour)) ∷
     (codes "idelta", Window Idelta) ∷
     (codes "increase", Window Increase) ∷
     (codes "irate", Window Irate) ∷
@@ -35,6 +41,8 @@ functions =
     (codes "last_over_time", Window LastOver) ∷
     (codes "max_over_time", Window MaxOver) ∷
     (codes "min_over_time", Window MinOver) ∷
+    (codes "minute", Element (Calendar Minute)) ∷
+    (codes "month", Element (Calendar Month)) ∷
     (codes "predict_linear", Window PredictLinear) ∷
     (codes "present_over_time", Window PresentOver) ∷
     (codes "quantile_over_time", Window QuantileOver) ∷
@@ -50,9 +58,10 @@ functions =
     (codes "time", Time) ∷
     (codes "timestamp", Timestamp) ∷
     (codes "vector", Vector) ∷
+    (codes "year", Element (Calendar Year)) ∷
     []
 
--- the names of functions that PromQL has and this engine doesn't: irrational results, native histograms, experimental functions and the calendar
+-- the names of functions that PromQL has and this engine doesn't: irrational results, native histograms and experimental functions
 abbrev pub refused_names : List (List ℕ)
 refused_names =
     codes "exp" ∷
@@ -95,14 +104,6 @@ refused_names =
     codes "ts_of_last_over_time" ∷
     codes "ts_of_max_over_time" ∷
     codes "ts_of_min_over_time" ∷
-    codes "day_of_month" ∷
-    codes "day_of_week" ∷
-    codes "day_of_year" ∷
-    codes "days_in_month" ∷
-    codes "hour" ∷
-    codes "minute" ∷
-    codes "month" ∷
-    codes "year" ∷
     []
 
 -- whether a name stands in a list of names, letter by letter

@@ -5,4 +5,4 @@ mod names;
 mod table;
 
 pub use names::{find, listed_names_are_found};
-pub use table::{Aggregate, Element, Found, Func, SetOp, Window};
+pub use table::{Aggregate, CalendarPart, Element, Found, Func, SetOp, Window};

@@ -4,10 +4,10 @@ ghost use Rattle.std.specs.List.{list_any};
 ghost use Rattle.std.specs.Map.{lookup};
 ghost use Rattle.func_table.specs.Names.{found_of, ListedNamesAreFound};
 
-use crate::table::{Element, Found, Func, Window};
+use crate::table::{CalendarPart, Element, Found, Func, Window};
 
 /// Each function's name beside it.
-const FUNCTIONS: [(&str, Func); 37] = [
+const FUNCTIONS: [(&str, Func); 45] = [
     ("abs", Func::Element(Element::Abs)),
     ("absent", Func::Absent),
     ("absent_over_time", Func::AbsentOver),
@@ -18,10 +18,27 @@ const FUNCTIONS: [(&str, Func); 37] = [
     ("clamp_max", Func::Element(Element::ClampMax)),
     ("clamp_min", Func::Element(Element::ClampMin)),
     ("count_over_time", Func::Window(Window::CountOver)),
+    (
+        "day_of_month",
+        Func::Element(Element::Calendar(CalendarPart::DayOfMonth)),
+    ),
+    (
+        "day_of_week",
+        Func::Element(Element::Calendar(CalendarPart::DayOfWeek)),
+    ),
+    (
+        "day_of_year",
+        Func::Element(Element::Calendar(CalendarPart::DayOfYear)),
+    ),
+    (
+        "days_in_month",
+        Func::Element(Element::Calendar(CalendarPart::DaysInMonth)),
+    ),
     ("delta", Func::Window(Window::Delta)),
     ("deriv", Func::Window(Window::Deriv)),
     ("floor", Func::Element(Element::Floor)),
     ("histogram_quantile", Func::HistogramQuantile),
+    ("hour", Func::Element(Element::Calendar(CalendarPart::Hour))),
     ("idelta", Func::Window(Window::Idelta)),
     ("increase", Func::Window(Window::Increase)),
     ("irate", Func::Window(Window::Irate)),
@@ -30,6 +47,14 @@ const FUNCTIONS: [(&str, Func); 37] = [
     ("last_over_time", Func::Window(Window::LastOver)),
     ("max_over_time", Func::Window(Window::MaxOver)),
     ("min_over_time", Func::Window(Window::MinOver)),
+    (
+        "minute",
+        Func::Element(Element::Calendar(CalendarPart::Minute)),
+    ),
+    (
+        "month",
+        Func::Element(Element::Calendar(CalendarPart::Month)),
+    ),
     ("predict_linear", Func::Window(Window::PredictLinear)),
     ("present_over_time", Func::Window(Window::PresentOver)),
     ("quantile_over_time", Func::Window(Window::QuantileOver)),
@@ -45,10 +70,11 @@ const FUNCTIONS: [(&str, Func); 37] = [
     ("time", Func::Time),
     ("timestamp", Func::Timestamp),
     ("vector", Func::Vector),
+    ("year", Func::Element(Element::Calendar(CalendarPart::Year))),
 ];
 
 /// The names of functions that PromQL has and this engine refuses.
-const REFUSED: [&str; 48] = [
+const REFUSED: [&str; 40] = [
     "exp",
     "ln",
     "log2",
@@ -89,14 +115,6 @@ const REFUSED: [&str; 48] = [
     "ts_of_last_over_time",
     "ts_of_max_over_time",
     "ts_of_min_over_time",
-    "day_of_month",
-    "day_of_week",
-    "day_of_year",
-    "days_in_month",
-    "hour",
-    "minute",
-    "month",
-    "year",
 ];
 
 /// What a function's name stands for, in its exact case. It takes no memory.

@@ -8,7 +8,21 @@ pub enum SetOp {
     Or,
 }
 
-/// A function of one value at a time. `Neg` is the sign minus, which has no name.
+/// What a time is on a clock and a calendar of UTC. Days of the week count from 0 for Sunday, days of a year from 1.
+#[derive(Clone, Copy, Debug, PartialEq, Eq)]
+pub enum CalendarPart {
+    DayOfMonth,
+    DayOfWeek,
+    DayOfYear,
+    DaysInMonth,
+    Hour,
+    Minute,
+    Month,
+    Year,
+}
+
+/// A function of one value at a time. `Neg` is the sign minus, which has no name; `Calendar` takes its value as seconds
+/// since 1970.
 #[derive(Clone, Copy, Debug, PartialEq, Eq)]
 pub enum Element {
     Abs,
@@ -20,6 +34,7 @@ pub enum Element {
     Clamp,
     ClampMin,
     ClampMax,
+    Calendar(CalendarPart),
 }
 
 /// A function of the samples in a window.

@@ -13,7 +13,7 @@ use Rattle.xfrac.specs.Order.{rank}
 use Rattle.xfrac.specs.declared.value.XFrac.{XFrac}
 use Rattle.xfrac.specs.declared.value.XFrac.TheVariants.{Fin, PosInf, NegInf, NaN}
 use Rattle.step_table.specs.declared.marks.Mark.{Mark}
-use Rattle.step_table.specs.declared.marks.Mark.TheVariants.{Overflow, Irrational, SameLabelset, DuplicateOneSide, ImplicitManyToOne, DuplicateResult}
+use Rattle.step_table.specs.declared.marks.Mark.TheVariants.{Overflow, Irrational, SameLabelset, DuplicateOneSide, ImplicitManyToOne, DuplicateResult, OutOfCalendar}
 use Rattle.step_table.specs.declared.marks.Note.{Note}
 use Rattle.step_table.specs.declared.marks.Note.TheVariants.{QuantileRange, BadBucket, NotCounter, FixedBuckets}
 use Rattle.step_table.specs.Orders.{mark_rank, mark_cmp, number_cmp, parts_cmp, note_rank, note_cmp}
@@ -36,6 +36,7 @@ mark_labels (SameLabelset labels) = labels
 mark_labels (DuplicateOneSide labels) = labels
 mark_labels (ImplicitManyToOne labels) = labels
 mark_labels (DuplicateResult labels) = labels
+mark_labels OutOfCalendar = []
 
 abbrev mark_keys : Mark → Mark → Ordering
 mark_keys = then_cmp (on mark_rank nat_cmp) (on mark_labels labels_cmp)
@@ -47,6 +48,7 @@ mark_same (SameLabelset x) (SameLabelset y) = refl
 mark_same (DuplicateOneSide x) (DuplicateOneSide y) = refl
 mark_same (ImplicitManyToOne x) (ImplicitManyToOne y) = refl
 mark_same (DuplicateResult x) (DuplicateResult y) = refl
+mark_same OutOfCalendar OutOfCalendar = refl
 mark_same _ _ = refl
 
 pub mark_cmp_total : IsTotalOrder mark_cmp
@@ -59,6 +61,7 @@ mark_cmp_ties (SameLabelset x) (SameLabelset y) e = ap SameLabelset (labels_cmp_
 mark_cmp_ties (DuplicateOneSide x) (DuplicateOneSide y) e = ap DuplicateOneSide (labels_cmp_ties x y e)
 mark_cmp_ties (ImplicitManyToOne x) (ImplicitManyToOne y) e = ap ImplicitManyToOne (labels_cmp_ties x y e)
 mark_cmp_ties (DuplicateResult x) (DuplicateResult y) e = ap DuplicateResult (labels_cmp_ties x y e)
+mark_cmp_ties OutOfCalendar OutOfCalendar e = refl
 mark_cmp_ties _ _ e = absurd (cc)
 
 -- ---- numbers, by their kinds and then by their parts

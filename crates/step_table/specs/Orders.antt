@@ -8,7 +8,7 @@ use Rattle.xfrac.specs.Order.{rank}
 use Rattle.xfrac.specs.declared.value.XFrac.{XFrac}
 use Rattle.xfrac.specs.declared.value.XFrac.TheVariants.{Fin}
 use Rattle.step_table.specs.declared.marks.Mark.{Mark}
-use Rattle.step_table.specs.declared.marks.Mark.TheVariants.{Overflow, Irrational, SameLabelset, DuplicateOneSide, ImplicitManyToOne, DuplicateResult}
+use Rattle.step_table.specs.declared.marks.Mark.TheVariants.{Overflow, Irrational, SameLabelset, DuplicateOneSide, ImplicitManyToOne, DuplicateResult, OutOfCalendar}
 use Rattle.step_table.specs.declared.marks.Note.{Note}
 use Rattle.step_table.specs.declared.marks.Note.TheVariants.{QuantileRange, BadBucket, NotCounter, FixedBuckets}
 
@@ -20,6 +20,7 @@ mark_rank (SameLabelset labels) = 2
 mark_rank (DuplicateOneSide labels) = 3
 mark_rank (ImplicitManyToOne labels) = 4
 mark_rank (DuplicateResult labels) = 5
+mark_rank OutOfCalendar = 6
 
 -- marks by their kinds, and those of one kind by their labels
 abbrev pub mark_cmp : Mark → Mark → Ordering

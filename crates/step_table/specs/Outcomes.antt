@@ -7,7 +7,7 @@ use Rattle.xfrac.specs.declared.value.XFrac.{XFrac}
 use Rattle.step_table.specs.Groups.{Names, lone_items, shared_names}
 use Rattle.step_table.specs.Unions.{with_fatal}
 use Rattle.step_table.specs.declared.marks.Mark.{Mark}
-use Rattle.step_table.specs.declared.marks.Mark.TheVariants.{Overflow, Irrational, SameLabelset}
+use Rattle.step_table.specs.declared.marks.Mark.TheVariants.{Overflow, Irrational, SameLabelset, OutOfCalendar}
 use Rattle.step_table.specs.declared.marks.Marks.{Marks}
 use Rattle.step_table.specs.declared.outcomes.Outcome.{Outcome}
 use Rattle.step_table.specs.declared.step.Row.{Row}
@@ -25,6 +25,7 @@ row_of outcome = valued outcome.value
 abbrev pub fault_mark : NumFault → Mark
 fault_mark fault.Overflow = Overflow
 fault_mark fault.Irrational = Irrational
+fault_mark fault.OutOfCalendar = OutOfCalendar
 
 -- the mark of a fault
 abbrev pub mark_of : Outcome → Option Mark

@@ -19,6 +19,8 @@ pub enum Mark {
     ImplicitManyToOne(Labels),
     /// Pairs of an operator with a group word came to share these labels.
     DuplicateResult(Labels),
+    /// A calendar function got an infinity, NaN or a time outside the years 1 to 9999.
+    OutOfCalendar,
 }
 
 impl Mark {
@@ -40,6 +42,7 @@ impl Mark {
             Mark::DuplicateOneSide(labels) => Ok(Mark::DuplicateOneSide(labels.copy()?)),
             Mark::ImplicitManyToOne(labels) => Ok(Mark::ImplicitManyToOne(labels.copy()?)),
             Mark::DuplicateResult(labels) => Ok(Mark::DuplicateResult(labels.copy()?)),
+            Mark::OutOfCalendar => Ok(Mark::OutOfCalendar),
         }
     }
 }

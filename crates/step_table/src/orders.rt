@@ -16,6 +16,7 @@ fn mark_rank(mark: &Mark) -> u8
         Mark::DuplicateOneSide(_) => 3,
         Mark::ImplicitManyToOne(_) => 4,
         Mark::DuplicateResult(_) => 5,
+        Mark::OutOfCalendar => 6,
     }
 }
 

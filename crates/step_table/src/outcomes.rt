@@ -47,6 +47,7 @@ pub(crate) fn fault_mark(fault: NumFault) -> Mark
     match fault {
         NumFault::Overflow => Mark::Overflow,
         NumFault::Irrational => Mark::Irrational,
+        NumFault::OutOfCalendar => Mark::OutOfCalendar,
     }
 }
 

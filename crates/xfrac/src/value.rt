@@ -205,6 +205,9 @@ pub enum NumFault {
     /// The power is no fraction: its exponent isn't whole.
     #[error("irrational result")]
     Irrational = 2,
+    /// The time has no date in the years 1 to 9999. No operation on numbers answers it.
+    #[error("time outside the calendar")]
+    OutOfCalendar = 3,
 }
 
 /// The sum is outside the limits.
