@@ -13,7 +13,8 @@ use Rattle.xfrac.specs.declared.value.XFrac.{XFrac}
 use Rattle.promql_meaning.specs.declared.given.Given.{Given}
 use Rattle.promql_meaning.specs.Meaning.{given_at, meaning}
 use Rattle.promql_meaning.specs.Selecting.{Asked}
-use Rattle.promql_meaning.specs.Subqueries.{marks_over, rows_over, timed}
+use Rattle.promql_meaning.specs.Subqueries.{marks_over, rows_over}
+use Rattle.step_table.specs.Timed.{timed}
 
 module _ {X : Type 0} where
   pub drop_at : (xs : List X) (i : ℕ) (d : X) → i < length xs → drop i xs ≡ get_or xs i d ∷ drop (i + 1) xs

@@ -21,7 +21,8 @@ use Rattle.promql_meaning.specs.declared.answer.Outcome.TheVariants.{TooManyRows
 use Rattle.promql_meaning.specs.declared.answer.Point.{Point}
 use Rattle.promql_meaning.specs.Conditions.{AreMet, IsMet, needs_of, needs_over}
 use Rattle.promql_meaning.specs.Selecting.{Asked}
-use Rattle.promql_meaning.specs.Results.{StepAt, all_marks, all_points, first_stop, points_at, steps_over, stop_at}
+use Rattle.promql_meaning.specs.Results.{all_marks, all_points, first_stop, points_at, stop_at}
+use Rattle.step_table.specs.Timed.{StepAt, steps_over}
 use Rattle.plain_eval.proofs.Children.{all_back, all_front}
 use Rattle.plain_eval.proofs.Rests.{drop_at}
 

@@ -1,5 +1,6 @@
 //! Instants a step apart, and the points of subqueries.
-ghost use Rattle.promql_meaning.specs.Subqueries.{as_times, gathered_windows, instants, instants_up_to, multiple_after, multiples, timed};
+ghost use Rattle.promql_meaning.specs.Subqueries.{as_times, gathered_windows, instants, instants_up_to, multiple_after, multiples};
+ghost use Rattle.step_table.specs.Timed.{timed};
 ghost use Rattle.std.specs.List.{AllByRecursion};
 ghost use Rattle.std.specs.Option.{option_to_list};
 ghost use Rattle.std.specs.Prelude.{◌≡◌, [], ◌++◌, ◌+◌, ◌<ℤ◌, ◌-ℤ◌, ◌+ℤ◌, pos, IfOk, OnOk};

@@ -7,6 +7,8 @@ pub mod Ranked
 pub mod Reached
 pub mod Replaced
 pub mod Spelled
+pub mod Steady
 pub mod Summed
 pub mod Twice
 pub mod Weak
+pub mod WellMeant

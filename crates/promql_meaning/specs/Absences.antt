@@ -49,7 +49,11 @@ absent_pairs rules = without (metric_name ∷ []) (filter_map (absent_pair rules
 abbrev pub absent_labels : List Rule → Option Names
 absent_labels rules = all_put [] (absent_pairs rules)
 
+-- one row 1 where there are no rows, under labels that are given; there are none where they would pass the limits
+abbrev pub absence_under : {A : Type 0} → Option Names → List A → Marks → Step
+absence_under labels [] marks = taken marks (labelled labels (whole_number 1) ∷ [])
+absence_under labels (row ∷ rows) marks = barren marks
+
 -- one row 1 where there are no rows, under the labels that the rules of a selector tell; without a selector there are no rules
 abbrev pub absence : {A : Type 0} → List Rule → List A → Marks → Step
-absence rules [] marks = taken marks (labelled (absent_labels rules) (whole_number 1) ∷ [])
-absence rules (row ∷ rows) marks = barren marks
+absence rules rows marks = absence_under (absent_labels rules) rows marks

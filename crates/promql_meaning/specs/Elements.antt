@@ -1,6 +1,6 @@
 -- Functions and operators row by row. (Prometheus querying, "Functions", and "Operators" between a vector and a scalar: the
 -- metric's name is dropped, but by a filter. That rows which then share labels are all left out is this project's own.)
-use Rattle.std.specs.Prelude.{Bool, true, false, [], ◌∷◌, map, Option, Some, None, Result, Ok, if◌then◌else◌, ℤ}
+use Rattle.std.specs.Prelude.{Bool, true, false, List, [], ◌∷◌, map, Option, Some, None, Result, Ok, if◌then◌else◌, ℤ}
 use Rattle.func_table.specs.declared.table.Element.{Element}
 use Rattle.label_set.specs.Labels.{metric_name, without}
 use Rattle.value_fn.specs.Elements.{element_of}
@@ -70,7 +70,15 @@ stamp_outcome row = record { labels = nameless row.labels; value = seconds_of ro
 abbrev pub instant_outcome : ℤ → Row → Outcome
 instant_outcome t row = record { labels = nameless row.labels; value = seconds_of t }
 
+-- the time of each sample in seconds
+abbrev pub stamps : List Stamped → Step
+stamps rows = settled (taken no_marks (map stamp_outcome rows))
+
+-- the instant in the place of each value
+abbrev pub at_instant : ℤ → Step → Step
+at_instant t step = row_by_row (instant_outcome t) step
+
 -- of a selector the time of each sample in seconds, of any other vector the instant
 abbrev pub timestamps : Given → ℤ → Step
-timestamps (Selected selection) t = settled (taken no_marks (map stamp_outcome selection.rows))
-timestamps g t = row_by_row (instant_outcome t) (step_of g)
+timestamps (Selected selection) t = stamps selection.rows
+timestamps g t = at_instant t (step_of g)

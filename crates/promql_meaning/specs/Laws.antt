@@ -12,13 +12,13 @@ use Rattle.ticks.specs.Steps.{IsMultiple}
 use Rattle.window_fn.specs.Aggregates.{total}
 use Rattle.xfrac.specs.Laws.{IsNumber}
 use Rattle.xfrac.specs.declared.value.XFrac.{XFrac}
-use Rattle.step_table.specs.WellFormed.{IsTable}
+use Rattle.step_table.specs.WellFormed.{IsTable, IsWellFormed}
 use Rattle.step_table.specs.declared.step.Row.{Row}
 use Rattle.step_table.specs.declared.step.Step.{Step}
 use Rattle.promql_meaning.specs.Aggregations.{aggregated}
 use Rattle.promql_meaning.specs.Elements.{mapped, nameless}
 use Rattle.promql_meaning.specs.Givens.{step_of_rows}
-use Rattle.promql_meaning.specs.Meaning.{meaning, zero_number}
+use Rattle.promql_meaning.specs.Meaning.{meaning, meaning_step, zero_number}
 use Rattle.promql_meaning.specs.Orders.{ungrouped}
 use Rattle.promql_meaning.specs.Ranks.{kept_labels, ranked}
 use Rattle.promql_meaning.specs.Selecting.{Asked}
@@ -83,3 +83,7 @@ pub record IsMultipleIn (edge m step u : ℤ) : Type 0 where
 -- a subquery asks what its inner expression means at these, and at no others
 abbrev pub MultiplesAreAll : Type 0
 MultiplesAreAll = (m range step u : ℤ) → pos 0 <ℤ step → Contains (multiples m range step) u ↔ IsMultipleIn (m -ℤ range) m step u
+
+-- each step of a meaning is a table in the order of its labels, with notes and marks as sets
+abbrev pub MeaningIsWellFormed : Type 0
+MeaningIsWellFormed = (asked : Asked) (e : Expr) (t : ℤ) → IsWellFormed (meaning_step asked e t)

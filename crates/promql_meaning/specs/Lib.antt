@@ -17,5 +17,6 @@ pub mod Reaches
 pub mod Relabels
 pub mod Results
 pub mod Selecting
+pub mod Steadiness
 pub mod Subqueries
 pub mod Templates

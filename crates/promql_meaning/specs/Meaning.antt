@@ -25,6 +25,7 @@ use Rattle.step_table.specs.declared.step.Row.{Row}
 use Rattle.step_table.specs.declared.step.Step.{Step}
 use Rattle.promql_meaning.specs.declared.given.Given.{Given}
 use Rattle.promql_meaning.specs.declared.given.Given.TheVariants as given
+use Rattle.promql_meaning.specs.declared.given.Windows.{Windows}
 use Rattle.promql_meaning.specs.Absences.{absence}
 use Rattle.promql_meaning.specs.Aggregations.{aggregated}
 use Rattle.promql_meaning.specs.Buckets.{bucket_quantiles}
@@ -62,12 +63,29 @@ abbrev pub rounding : List Given → Step
 rounding arguments = step_of (slice_index_or arguments 1 (given.Scalar (scalar_step (whole_number 1))))
 
 -- an element function of a vector, and of the scalars that it takes
+abbrev pub applied_to : Element → Step → Step → Step → Step
+applied_to Round first second step = with_scalar (λ to. mapped Round to zero_number) first step
+applied_to Clamp first second step = with_scalars (mapped Clamp) first second step
+applied_to ClampMin first second step = with_scalar (λ low. mapped ClampMin low zero_number) first step
+applied_to ClampMax first second step = with_scalar (λ high. mapped ClampMax high zero_number) first step
+applied_to f first second step = mapped f zero_number zero_number step
+
+-- the same of the arguments of a call
 abbrev pub applied : Element → List Given → Step
-applied Round arguments = with_scalar (λ to. mapped Round to zero_number) (rounding arguments) (step_at arguments 0)
-applied Clamp arguments = with_scalars (mapped Clamp) (step_at arguments 1) (step_at arguments 2) (step_at arguments 0)
-applied ClampMin arguments = with_scalar (λ low. mapped ClampMin low zero_number) (step_at arguments 1) (step_at arguments 0)
-applied ClampMax arguments = with_scalar (λ high. mapped ClampMax high zero_number) (step_at arguments 1) (step_at arguments 0)
-applied f arguments = mapped f zero_number zero_number (step_at arguments 0)
+applied Round arguments = applied_to Round (rounding arguments) (rounding arguments) (step_at arguments 0)
+applied f arguments = applied_to f (step_at arguments 1) (step_at arguments 2) (step_at arguments 0)
+
+-- a function of windows and of a scalar, with the marks of both
+abbrev pub windowed_with : WindowFunction → ℤ → Step → Windows → Step
+windowed_with f t scalar windows =
+    let marks = united windows.marks scalar.marks in
+    by_value (value_in scalar) marks (λ arg. windowed f t arg (record windows { marks = marks }))
+
+-- a function of windows, and of the scalar that it takes
+abbrev pub windowed_by : WindowFunction → ℤ → Step → Windows → Step
+windowed_by PredictLinear t scalar windows = windowed_with PredictLinear t scalar windows
+windowed_by QuantileOver t scalar windows = windowed_with QuantileOver t scalar windows
+windowed_by f t scalar windows = windowed f t zero_number windows
 
 -- a function of windows
 abbrev pub over_windows : WindowFunction → ℤ → Given → Step
@@ -76,9 +94,7 @@ over_windows f t g = barren no_marks
 
 -- a function of windows and of a scalar, with the marks of both
 abbrev pub over_windows_with : WindowFunction → ℤ → Step → Given → Step
-over_windows_with f t scalar (given.Windows windows) =
-    let marks = united windows.marks scalar.marks in
-    by_value (value_in scalar) marks (λ arg. windowed f t arg (record windows { marks = marks }))
+over_windows_with f t scalar (given.Windows windows) = windowed_with f t scalar windows
 over_windows_with f t scalar g = barren no_marks
 
 abbrev pub ranged : WindowFunction → ℤ → List Given → Step
@@ -118,13 +134,21 @@ called func.Time arguments t = given.Scalar (time_step t)
 called func.Timestamp arguments t = given.Vector (timestamps (argument arguments 0) t)
 called func.Vector arguments t = given.Vector (step_at arguments 0)
 
--- an aggregation, of its parameter and the vector
+-- an aggregation of a vector, with its parameter or its label
+abbrev pub aggregated_with : Aggregate → Grouping → List ℕ → Step → Step → Step
+aggregated_with TopK by label parameter step = with_scalar (λ k. aggregated TopK by k []) parameter step
+aggregated_with BottomK by label parameter step = with_scalar (λ k. aggregated BottomK by k []) parameter step
+aggregated_with Quantile by label parameter step = with_scalar (λ q. aggregated Quantile by q []) parameter step
+aggregated_with CountValues by label parameter step = aggregated CountValues by zero_number label step
+aggregated_with f by label parameter step = aggregated f by zero_number [] step
+
+-- the same of the arguments of an expression
 abbrev pub aggregation : Aggregate → Grouping → List Given → Step
-aggregation TopK by arguments = with_scalar (λ k. aggregated TopK by k []) (step_at arguments 0) (step_at arguments 1)
-aggregation BottomK by arguments = with_scalar (λ k. aggregated BottomK by k []) (step_at arguments 0) (step_at arguments 1)
-aggregation Quantile by arguments = with_scalar (λ q. aggregated Quantile by q []) (step_at arguments 0) (step_at arguments 1)
-aggregation CountValues by arguments = aggregated CountValues by zero_number (words_at arguments 0) (step_at arguments 1)
-aggregation f by arguments = aggregated f by zero_number [] (step_at arguments 0)
+aggregation TopK by arguments = aggregated_with TopK by [] (step_at arguments 0) (step_at arguments 1)
+aggregation BottomK by arguments = aggregated_with BottomK by [] (step_at arguments 0) (step_at arguments 1)
+aggregation Quantile by arguments = aggregated_with Quantile by [] (step_at arguments 0) (step_at arguments 1)
+aggregation CountValues by arguments = aggregated_with CountValues by (words_at arguments 0) (step_at arguments 0) (step_at arguments 1)
+aggregation f by arguments = aggregated_with f by [] (step_at arguments 0) (step_at arguments 0)
 
 -- ---- operators
 

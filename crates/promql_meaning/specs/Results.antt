@@ -25,21 +25,13 @@ use Rattle.promql_meaning.specs.Meaning.{meaning_step}
 use Rattle.promql_meaning.specs.Orders.{ByValue, in_order, root_order}
 use Rattle.promql_meaning.specs.Selecting.{Asked}
 use Rattle.promql_meaning.specs.Subqueries.{as_times, instants_up_to}
+use Rattle.step_table.specs.Timed.{StepAt, steps_over}
 
 -- ---- the steps of a grid
-
--- an instant and the step there
-pub record StepAt : Type 0 where
-  pub at : Ms
-  pub step : Step
 
 -- the instants of a grid, rising
 abbrev pub grid_times : Grid → List Ms
 grid_times grid = as_times (instants_up_to grid.start.0 grid.end.0 grid.step.0)
-
--- the step of an expression at each instant
-abbrev pub steps_over : (ℤ → Step) → List Ms → List StepAt
-steps_over meaning times = map (λ (t : Ms). record { at = t; step = meaning t.0 }) times
 
 -- ---- why an evaluation ends early
 

@@ -91,9 +91,13 @@ passing samples kept rules = filter (λ (s : Names × Samples). labels_pass kept
 abbrev pub newest_row : ℤ → Names × Samples → Option Stamped
 newest_row m series = option_map (λ (s : Ms × XFrac). record { labels = series.0; at = s.0; value = s.1 }) (newest m series.1)
 
+-- the newest samples of some series at a moment
+abbrev pub newest_rows : ℤ → AllSeries → List Stamped
+newest_rows m series = filter_map (newest_row m) series
+
 -- an instant selector: the newest sample of each series that passes and has one
 abbrev pub selected : Asked → Selector → ℤ → List Stamped
-selected asked selector t = filter_map (newest_row (moment_of asked selector.moment t)) (passing asked.samples asked.kept selector.rules)
+selected asked selector t = newest_rows (moment_of asked selector.moment t) (passing asked.samples asked.kept selector.rules)
 
 -- samples under their labels; there is no window of no samples
 abbrev pub window_row : Names → List (Ms × XFrac) → Option WindowRow
@@ -103,7 +107,10 @@ window_row names (sample ∷ samples) = Some (record { labels = names; samples =
 abbrev pub series_window : ℤ → ℤ → Names × Samples → Option WindowRow
 series_window m range series = window_row series.0 (window m range series.1)
 
+-- the windows of some series at a moment
+abbrev pub window_rows : ℤ → ℤ → AllSeries → List WindowRow
+window_rows m range series = filter_map (series_window m range) series
+
 -- a range selector: the window of each series that passes and has a sample in it
 abbrev pub selected_windows : Asked → Selector → ℤ → ℤ → List WindowRow
-selected_windows asked selector range t =
-    filter_map (series_window (moment_of asked selector.moment t) range) (passing asked.samples asked.kept selector.rules)
+selected_windows asked selector range t = window_rows (moment_of asked selector.moment t) range (passing asked.samples asked.kept selector.rules)

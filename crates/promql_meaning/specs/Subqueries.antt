@@ -5,9 +5,9 @@ use Rattle.std.specs.List.{filter_map}
 use Rattle.ticks.specs.Grids.{step_count}
 use Rattle.ticks.specs.declared.moment.Ms.{Ms}
 use Rattle.step_table.specs.Groups.{Names, gathered}
+use Rattle.step_table.specs.Timed.{StepAt, marks_of_steps, rows_of_steps, timed}
 use Rattle.step_table.specs.Unions.{united}
 use Rattle.step_table.specs.declared.marks.Marks.{Marks}
-use Rattle.step_table.specs.declared.step.Row.{Row}
 use Rattle.step_table.specs.declared.step.Step.{Step}
 use Rattle.xfrac.specs.declared.value.XFrac.{XFrac}
 use Rattle.promql_meaning.specs.declared.given.WindowRow.{WindowRow}
@@ -39,10 +39,6 @@ as_times us = map (λ (u : ℤ). record { 0 = u }) us
 
 -- ---- a meaning at some instants
 
--- each row of a step beside the instant that it is of
-abbrev pub timed : Ms → Step → List (Names × (Ms × XFrac))
-timed u step = map (λ (row : Row). (row.labels, (u, row.value))) step.table.rows
-
 -- the rows of all instants, each beside its instant
 abbrev pub rows_over : (ℤ → Step) → List Ms → List (Names × (Ms × XFrac))
 rows_over meaning [] = []
@@ -59,6 +55,11 @@ group_window group = window_row group.0 group.1
 -- for all labels of rows, the times and values of the rows that have them
 abbrev pub gathered_windows : List (Names × (Ms × XFrac)) → List WindowRow
 gathered_windows rows = filter_map group_window (gathered rows)
+
+-- the windows of steps in a range that ends at a moment
+abbrev pub points_of_steps : Ms → ℤ → List StepAt → Windows
+points_of_steps range m steps =
+    record { moment = record { 0 = m }; range = range; rules = []; rows = gathered_windows (rows_of_steps steps); marks = marks_of_steps no_marks steps }
 
 -- the windows of a subquery at a moment: at the multiples of its step in the range up to it, what the inner expression means
 abbrev pub points_of : (ℤ → Step) → Ms → Ms → ℤ → Windows

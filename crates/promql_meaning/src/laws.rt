@@ -1,7 +1,9 @@
 //! Laws of meanings that users rely on. The functions do nothing: each stands for what its contract says.
-ghost use Rattle.promql_meaning.specs.Laws.{FixedSelectorStays, MinusTwice, MultiplesAreAll, OffsetIsEarlier, RanksArePart, SumOfEachRow, SumsOfSums};
+ghost use Rattle.promql_meaning.specs.Laws.{FixedSelectorStays, MeaningIsWellFormed, MinusTwice, MultiplesAreAll, OffsetIsEarlier, RanksArePart, SumOfEachRow, SumsOfSums};
+ghost use Rattle.promql_meaning.specs.Steadiness.{MeaningStays};
 ghost use Rattle.promql_meaning.specs.Reaches.{NeedsAreMet};
 
+use step_table::laws::{steps_are_well_formed, unions_are_sets};
 use xfrac::laws::{
     joined_sums_stand_for_both, lcm_is_least, part_overflows_whole, sum_ignores_order,
 };
@@ -51,4 +53,17 @@ pub fn multiples_are_all()
 /// The evaluation of a tree whose lengths, offsets and fixed times lie within limits leads to times alone.
 pub fn needs_are_met()
     ensures { NeedsAreMet }
+{}
+
+/// Each step of a meaning is well formed: rows by their labels, no two with equal labels, and notes and marks as sets.
+pub fn meanings_are_well_formed()
+    ensures { MeaningIsWellFormed }
+{
+    steps_are_well_formed();
+    unions_are_sets();
+}
+
+/// An expression whose selectors and subqueries have fixed times means the same at each instant.
+pub fn fixed_meanings_stay()
+    ensures { MeaningStays }
 {}

@@ -4,7 +4,8 @@ use Rattle.std.specs.Prelude.{nat_lt, Result, Ok, Err, IfOk, if◌then◌else◌
 use Rattle.std.specs.Option.{option_or, unwrap_or}
 use Rattle.promql_ast.specs.declared.tree.Expr.{Expr}
 use Rattle.promql_meaning.specs.Meaning.{meaning_step}
-use Rattle.promql_meaning.specs.Results.{StepAt, first_stop, grid_times, judged, most_rows, result_of, steps_over, stop_at}
+use Rattle.promql_meaning.specs.Results.{first_stop, grid_times, judged, most_rows, result_of, stop_at}
+use Rattle.step_table.specs.Timed.{StepAt, steps_over}
 use Rattle.promql_meaning.specs.Selecting.{AllSeries, Asked, asked_over}
 use Rattle.promql_meaning.specs.declared.answer.Answer.{Answer}
 use Rattle.promql_meaning.specs.declared.answer.Outcome.{Outcome}

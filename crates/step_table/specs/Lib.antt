@@ -9,5 +9,6 @@ pub mod OrderLaws
 pub mod Orders
 pub mod Outcomes
 pub mod Sets
+pub mod Timed
 pub mod Unions
 pub mod WellFormed

@@ -5,7 +5,8 @@ use Rattle.ticks.specs.declared.moment.Ms.{Ms}
 use Rattle.promql_type.specs.TypedTrees.{tree_of}
 use Rattle.promql_meaning.specs.Conditions.{AreMet, needs_of, needs_over}
 use Rattle.promql_meaning.specs.Meaning.{meaning_step}
-use Rattle.promql_meaning.specs.Results.{all_marks, first_stop, grid_times, steps_over, stop_at}
+use Rattle.promql_meaning.specs.Results.{all_marks, first_stop, grid_times, stop_at}
+use Rattle.step_table.specs.Timed.{steps_over}
 use Rattle.promql_meaning.specs.Selecting.{asked_over}
 use Rattle.plain_eval.proofs.Instants.{grid_instants}
 use Rattle.plain_eval.proofs.Walking.{at_instant, few, goes_on, marks_more, met_here, none_yet, points_more, stops_here}

@@ -3,7 +3,8 @@ use Rattle.promql_type.specs.TypedTrees.{tree_of}
 use Rattle.promql_meaning.specs.Conditions.{AreMet, needs_of, needs_over}
 use Rattle.promql_meaning.specs.Givens.{no_marks}
 use Rattle.promql_meaning.specs.Meaning.{meaning_step}
-use Rattle.promql_meaning.specs.Results.{all_marks, all_points, first_stop, steps_over}
+use Rattle.promql_meaning.specs.Results.{all_marks, all_points, first_stop}
+use Rattle.step_table.specs.Timed.{steps_over}
 use Rattle.promql_meaning.specs.Selecting.{asked_over}
 use Rattle.plain_eval.proofs.Walking.{Gathers}
 use Rattle.plain_eval.proofs.results.walk.Given as goal
