@@ -2,7 +2,7 @@
 use Rattle.std.specs.Prelude.{◌≡◌, ℕ, ◌+◌, ◌-◌, ◌<◌, ◌≤◌, Bool, true, false, ◌++◌, ◌==◌, ◌&&◌, ◌||◌, if◌then◌else◌, List, [], ◌∷◌, length, take, drop, None, Some, IsTrue}
 use Rattle.promql_lex.specs.Gaps.{begins_comment, is_blank, is_comment_byte}
 use Rattle.promql_lex.specs.Names.{continues_name, name_kind, starts_name}
-use Rattle.promql_lex.specs.Numbers.{begins_number, run_len}
+use Rattle.promql_lex.specs.Numbers.{begins_number, begins_unit, ends_count, run_len}
 use Rattle.promql_lex.specs.Pieces.{decoded_kind, run_kind, text_kind}
 use Rattle.promql_lex.specs.Quoted.{body_len, decoded, raw_len}
 use Rattle.promql_lex.specs.Signs.{begins_double, is_continuation, is_double, is_single}
@@ -70,3 +70,8 @@ pub data IsSpelling (at : ℕ) : List ℕ → TokenKind → Type 0 where
   signed : (s : List ℕ) → IsTrue (is_sign s) → IsSpelling at s Sign
   -- a character that begins nothing
   refused : (byte : ℕ) (bytes s : List ℕ) → begins_piece byte bytes ≡ false → IsTrue (list_all is_continuation bytes) → s ≡ byte ∷ bytes → IsSpelling at s (Bad (BadToken at))
+
+-- somewhere in a run a unit's letter stands right behind what a count ends with
+pub data HasUnit (hexadecimal : Bool) (run : List ℕ) : Type 0 where
+  side_by_side : (front : List ℕ) (count unit : ℕ) (back : List ℕ) → run ≡ front ++ count ∷ (unit ∷ back) → IsTrue (ends_count hexadecimal count)
+      → IsTrue (begins_unit hexadecimal unit) → HasUnit hexadecimal run

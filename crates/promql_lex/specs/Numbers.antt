@@ -63,6 +63,11 @@ signed_len text = mantissa_len text + exponent_len (take (mantissa_len text) tex
 abbrev pub run_len : List ℕ → ℕ
 run_len text = signed_len text + prefix_len is_word_byte (drop (signed_len text) text)
 
+-- a run is in hexadecimal digits where one stands right behind `0x` or `0X`
+abbrev pub counts_in_hexadecimal : List ℕ → Bool
+counts_in_hexadecimal (first ∷ (second ∷ (digit ∷ rest))) = is_hexadecimal (first ∷ (second ∷ [])) && is_ascii_hexdigit digit
+counts_in_hexadecimal _ = false
+
 -- a unit's letter, which in a hexadecimal run is no digit, and what a count ends with
 abbrev pub begins_unit : Bool → ℕ → Bool
 begins_unit hexadecimal byte = byte == 121 || (byte == 119 || (byte == 104 || (byte == 109 || (byte == 115 || (byte == 100 && not hexadecimal)))))
@@ -76,7 +81,7 @@ has_unit hexadecimal behind [] = false
 has_unit hexadecimal behind (byte ∷ bytes) = (behind && begins_unit hexadecimal byte) || has_unit hexadecimal (ends_count hexadecimal byte) bytes
 
 abbrev pub has_units : List ℕ → Bool
-has_units run = has_unit (is_hexadecimal run) false run
+has_units run = has_unit (counts_in_hexadecimal run) false run
 
 -- a run that is neither a number nor a duration
 abbrev pub bad_kind : ℕ → List ℕ → TokenKind

@@ -14,6 +14,8 @@ mod token;
 
 pub use cut::tokens;
 pub use fault::LexFault;
-pub use laws::{kinds_are_of_spellings, refused_spellings_are_last, spans_lie_in_order};
+pub use laws::{
+    bad_durations_have_units, kinds_are_of_spellings, refused_spellings_are_last, spans_lie_in_order,
+};
 pub use std::alloc::AllocError as Memory;
 pub use token::{Token, TokenKind};

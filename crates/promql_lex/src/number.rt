@@ -1,8 +1,7 @@
 //! Numbers and durations.
 ghost use Rattle.frac_text.specs.Decimals.{fraction_of, is_optional_run};
 ghost use Rattle.frac_text.specs.Digits.{is_part, is_run};
-ghost use Rattle.frac_text.specs.Hexadecimals.{is_hexadecimal};
-ghost use Rattle.promql_lex.specs.Numbers.{bad_kind, begins_exponent, begins_number, begins_unit, begins_with_digit, duration_kind, ends_count, exponent_len, fraction_len, has_unit, has_units, is_mantissa, is_word_byte, mantissa_len, number_kind, point_len, read_kind, run_len, signed_len};
+ghost use Rattle.promql_lex.specs.Numbers.{bad_kind, begins_exponent, begins_number, begins_unit, begins_with_digit, counts_in_hexadecimal, duration_kind, ends_count, exponent_len, fraction_len, has_unit, has_units, is_mantissa, is_word_byte, mantissa_len, number_kind, point_len, read_kind, run_len, signed_len};
 ghost use Rattle.std.specs.List.{prefix_len};
 ghost use Rattle.std.specs.Prelude.{◌≡◌, ◌≤◌, length, true, false, IsTrue};
 
@@ -185,11 +184,14 @@ pub fn run_len(text: &[u8]) -> usize
     size + word_len(text.split_at(size).1)
 }
 
-fn is_hexadecimal(text: &[u8]) -> bool
-    ensures { result ≡ is_hexadecimal text.now }
+/// Whether hexadecimal digits stand right behind `0x` or `0X`.
+fn counts_in_hexadecimal(run: &[u8]) -> bool
+    ensures { result ≡ counts_in_hexadecimal run.now }
 {
-    match text {
-        [first, second, ..] => *first == b'0' && (*second == b'x' || *second == b'X'),
+    match run {
+        [first, second, digit, ..] => {
+            *first == b'0' && (*second == b'x' || *second == b'X') && digit.is_ascii_hexdigit()
+        }
         _ => false,
     }
 }
@@ -231,7 +233,7 @@ fn has_unit(hexadecimal: bool, run: &[u8]) -> bool
 fn has_units(run: &[u8]) -> bool
     ensures { result ≡ has_units run.now }
 {
-    has_unit(is_hexadecimal(run), run)
+    has_unit(counts_in_hexadecimal(run), run)
 }
 
 fn bad_kind(at: u32, run: &str) -> TokenKind
