@@ -10,7 +10,7 @@ use Rattle.promql_meaning.specs.declared.answer.Outcome.{Outcome}
 use Rattle.promql_meaning.specs.declared.answer.Outcome.TheVariants as outcome
 use Rattle.ticks.specs.declared.grid.Grid.{Grid}
 use Rattle.tool_words.specs.Asked.{Wish, asked, query, test, workload}
-use Rattle.tool_words.specs.Views.{moments_in}
+use Rattle.ticks.specs.Moments.{moments_in}
 use Rattle.promql_tool.specs.Ends.{IfFirst, IfMade, IsGone, IsOneOf, IsRefused, IsUnrun, Reports, makes, refuses}
 use Rattle.promql_tool.specs.Files.{All, Gone, IsJudged, JudgedFile, Last, Refused, Sees, all, all_failed, gone, judged, last_status, refused, report_of}
 use Rattle.promql_tool.specs.Found.{Have, IsFound, Just}

@@ -5,7 +5,7 @@ use Rattle.edge_io.specs.Written.{appended, WroteFront}
 use Rattle.edge_io.specs.declared.sink.SinkFail.{SinkFail}
 use Rattle.ticks.specs.declared.grid.Grid.{Grid}
 use Rattle.tool_words.specs.Asked.{asked, query, test, workload}
-use Rattle.tool_words.specs.Views.{moments_in}
+use Rattle.ticks.specs.Moments.{moments_in}
 use Rattle.promql_tool.specs.Ends.{IsCut, judging, reporting, unwritten, working}
 use Rattle.promql_tool.specs.Files.{report_of}
 use Rattle.promql_tool.specs.Query.{Queried}

@@ -2,7 +2,7 @@
 use Rattle.std.specs.Prelude.{◌≡◌, ℕ, Bool, List, [], ◌∷◌, ◌++◌, Option, None, Some}
 use Rattle.ticks.specs.declared.grid.Grid.{Grid}
 use Rattle.tool_words.specs.Asked.{Wish, asked, query, test, workload}
-use Rattle.tool_words.specs.Views.{moments_in}
+use Rattle.ticks.specs.Moments.{moments_in}
 use Rattle.promql_tool.specs.Files.{JudgedFile, Last, Sees, report_of}
 use Rattle.promql_tool.specs.Found.{Just}
 use Rattle.promql_tool.specs.Query.{Queried}

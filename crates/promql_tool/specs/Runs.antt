@@ -18,7 +18,7 @@ use Rattle.test_runner.specs.declared.fault.RunnerFault.TheVariants as runner
 use Rattle.test_runner.specs.declared.totals.Totals.{Totals}
 use Rattle.ticks.specs.declared.grid.Grid.{Grid}
 use Rattle.tool_words.specs.Asked.{asked, query, test, workload}
-use Rattle.tool_words.specs.Views.{moments_in}
+use Rattle.ticks.specs.Moments.{moments_in}
 use Rattle.promql_tool.specs.Ends.{IsOneOf, Reports}
 use Rattle.promql_tool.specs.Files.{Begins, Gone as GoneAt, IsJudged, IsRunning, JudgedFile, Last, Refused as RefusedAt, Sees, report_of}
 use Rattle.promql_tool.specs.Found.{Just}

@@ -7,7 +7,7 @@ use Rattle.match_rule.specs.Patterns.{is_kept, number_of}
 use Rattle.script_read.specs.Commands.{Order, Clearing, Loading, Evaluating, heading_of}
 use Rattle.script_read.specs.Expects.{Expectation, InOrder, Failing, Warning, Informing, WithoutWarnings, WithoutInfos, Tested, Anything, Message, Search, expectation_added, expectation_of, fits, if_fits, is_expectation, mode_wants, wanted_for, with_asked}
 use Rattle.script_read.specs.Lines.{Numbered, blocks_of, broken_line, is_empty}
-use Rattle.script_read.specs.Moments.{Moments}
+use Rattle.ticks.specs.Moments.{Moments}
 use Rattle.script_read.specs.Outcomes.{GivesWith, in_front, joined, then_give, then_try}
 use Rattle.script_read.specs.Reading.{Deed, Loads, Evaluates, Instruction, body_line, command_headed, command_of, commands_in, commands_of, expected_after, followed, is_clear, reading, series_lines, text_read}
 use Rattle.script_read.specs.Refusals.{at_line, limit}

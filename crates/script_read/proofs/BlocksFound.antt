@@ -10,7 +10,7 @@ use Rattle.script_read.specs.Commands.{Order, Clearing, Loading, Evaluating, hea
 use Rattle.script_read.specs.Expects.{expectation_added, expectation_of, fits, is_expectation, mode_wants, with_asked}
 use Rattle.script_read.specs.Items.{item_spelled}
 use Rattle.script_read.specs.Lines.{Numbered, blocks_of, broken_line, is_blank, is_empty, words_behind, words_of}
-use Rattle.script_read.specs.Moments.{Moments, places}
+use Rattle.ticks.specs.Moments.{Moments, places}
 use Rattle.script_read.specs.Outcomes.{PatternList, each_of, in_front, joined, onto, then_give, then_try}
 use Rattle.script_read.specs.Quotes.{has_histogram, without_comment}
 use Rattle.script_read.specs.Reading.{Clears, Evaluates, Instruction, Loads, body_line, command_headed, command_of, commands_in, commands_of, expected_after, followed, items_spelled, line_with, reading, series_lines, series_of, series_worded, text_read}

@@ -4,7 +4,7 @@ use Rattle.std.specs.List.{slice_split}
 use Rattle.std.proofs.lemmas.List.{get_or-map, length-map, map-append, take_rest}
 use Rattle.script_read.specs.Expects.{RefusesOnLine, RefusesPattern, search_on}
 use Rattle.script_read.specs.Lines.{Numbered, has_no_text}
-use Rattle.script_read.specs.Moments.{Moments}
+use Rattle.ticks.specs.Moments.{Moments}
 use Rattle.script_read.specs.Outcomes.{MakesWith, PatternList, Refuses, Says, each_of, in_front, onto, then_try}
 use Rattle.script_read.specs.Reading.{body_line, command_of, commands_in, commands_of, expected_after, followed, is_clear, series_of}
 use Rattle.script_read.specs.Refusals.{at_line, fault_at}

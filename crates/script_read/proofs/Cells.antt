@@ -3,7 +3,8 @@ use Rattle.std.proofs.Common.{◌≡◌, ◌≤◌, ◌<◌, ℕ, suc, ◌+◌, 
 use Rattle.xfrac.specs.declared.value.XFrac.{XFrac}
 use Rattle.promql_meaning.specs.declared.answer.Point.{Point}
 use Rattle.script_read.specs.Items.{item_spelled}
-use Rattle.script_read.specs.Moments.{Moments, point_at}
+use Rattle.script_read.specs.Moments.{point_at}
+use Rattle.ticks.specs.Moments.{Moments}
 use Rattle.script_read.specs.Outcomes.{in_front, joined, then_give, then_try}
 use Rattle.script_read.specs.Results.{cell_spelled, cells_from, cells_spelled, next_value, room_after, run_points, total_places, places_of}
 use Rattle.script_read.specs.declared.fault.LineFault.{LineFault}

@@ -6,7 +6,7 @@ use Rattle.script_read.specs.CommandForms.{IsCommand, clear_line, load_line, eva
 use Rattle.script_read.specs.Commands.{Order, Clearing, Loading, Evaluating, after_word, duration_after, eval_heading, eval_mode, evaluated, heading_of, heading_worded, if_alone, instant_heading, moment_at, moments_from, range_heading, range_of, time_after}
 use Rattle.script_read.specs.Expects.{filled}
 use Rattle.script_read.specs.Lines.{behind_word, first_word}
-use Rattle.script_read.specs.Moments.{Moments, is_grid}
+use Rattle.ticks.specs.Moments.{Moments, is_grid}
 use Rattle.script_read.specs.Outcomes.{then_give, then_try}
 use Rattle.script_read.specs.Parted.{IsFilled, Parted}
 use Rattle.script_read.specs.Words.{interval_spelled, time_spelled}

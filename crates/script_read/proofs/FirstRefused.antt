@@ -6,7 +6,7 @@ use Rattle.script_read.specs.Commands.{Order, Clearing, Loading, Evaluating, hea
 use Rattle.script_read.specs.Expects.{mode_wants}
 use Rattle.script_read.specs.Laws.{IsFirstRefused, lines_read}
 use Rattle.script_read.specs.Lines.{Numbered, has_no_text}
-use Rattle.script_read.specs.Moments.{Moments}
+use Rattle.ticks.specs.Moments.{Moments}
 use Rattle.script_read.specs.Outcomes.{PatternList, in_front, joined, onto, then_give, then_try}
 use Rattle.script_read.specs.Reading.{Clears, Evaluates, Instruction, Loads, body_line, command_headed, commands_in, commands_of, expected_after, followed, series_lines, series_of, series_worded}
 use Rattle.script_read.specs.Refusals.{at_line, fault_at}

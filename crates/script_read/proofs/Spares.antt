@@ -28,7 +28,8 @@ use Rattle.script_read.specs.declared.fault.ReadFault.{ReadFault}
 use Rattle.script_read.specs.declared.fault.ReadFault.TheVariants as files
 use Rattle.script_read.specs.declared.script.ScriptRefusal.TheVariants as refusals
 use Rattle.script_read.specs.Items.{count_spelled, gap_spelled, item_spelled, item_unmarked, run_spelled, run_values, step_place, step_signed, values_spelled}
-use Rattle.script_read.specs.Moments.{Moments, is_grid, places, point_at}
+use Rattle.script_read.specs.Moments.{point_at}
+use Rattle.ticks.specs.Moments.{Moments, is_grid, places}
 use Rattle.script_read.specs.Outcomes.{Gives, Makes, PatternList, Refuses, each_of, onto, then_give}
 use Rattle.script_read.specs.Results.{cells_from, cells_spelled, if_number, instant_points, number_alone, begins_series, labels_in, stands_in, points_behind, points_from, range_points, result_added, room_after, row_added, row_beside, run_points, scalar_added}
 use Rattle.script_read.specs.Series.{LabelList, Series, closed_at, if_last, behind_name, name_front, opened, is_comma, without_empty_end, is_sign, label_named, labels_inside, labels_named, labels_put, labels_with, pair_put, part_put, put_unless, series_at, series_bare, series_named, value_quoted}

@@ -9,13 +9,12 @@ use Rattle.script_read.specs.Commands.{Clearing, Loading, Evaluating}
 use Rattle.script_read.specs.ExpectationForms.{IsExpectation}
 use Rattle.script_read.specs.Expects.{Expectation, fits, is_expectation, mode_wants, with_asked}
 use Rattle.script_read.specs.Lines.{Numbered, blocks_of, broken_line, words_of}
-use Rattle.script_read.specs.Moments.{Moments}
+use Rattle.ticks.specs.Moments.{Moments, places}
 use Rattle.script_read.specs.Outcomes.{PatternList}
 use Rattle.script_read.specs.Quotes.{has_histogram, without_comment}
 use Rattle.script_read.specs.Reading.{Clears, Loads, Evaluates, Instruction}
 use Rattle.script_read.specs.Refusals.{limit}
 use Rattle.script_read.specs.Results.{begins_series, labels_in, points_of, stands_in, total_places}
-use Rattle.script_read.specs.Moments.{places}
 use Rattle.script_read.specs.Series.{LabelList}
 use Rattle.script_read.specs.SeriesForms.{IsItem, IsWorded}
 use Rattle.script_read.specs.Words.{number_spelled}

@@ -2,7 +2,7 @@
 use Rattle.std.specs.Prelude.{◌≡◌, ◌≢◌, ℕ, List, [], ◌∷◌, codes, Some, Ok, IsTrue}
 use Rattle.ticks.specs.declared.moment.Ms.{Ms}
 use Rattle.script_read.specs.Commands.{Order, Clearing, Loading, Evaluating, eval_mode, moment_at, moments_from}
-use Rattle.script_read.specs.Moments.{is_grid}
+use Rattle.ticks.specs.Moments.{is_grid}
 use Rattle.script_read.specs.Parted.{Parted, IsFilled}
 use Rattle.script_read.specs.Words.{interval_spelled, time_spelled}
 use Rattle.script_read.specs.declared.expectation.Mode.{Mode}

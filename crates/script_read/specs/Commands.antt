@@ -5,7 +5,8 @@ use Rattle.std.specs.Prelude.{ℕ, true, false, if◌then◌else◌, List, [], �
 use Rattle.ticks.specs.declared.moment.Ms.{Ms}
 use Rattle.script_read.specs.Expects.{filled}
 use Rattle.script_read.specs.Lines.{behind_word, first_word}
-use Rattle.script_read.specs.Moments.{Moments, grid_taken}
+use Rattle.script_read.specs.Moments.{grid_taken}
+use Rattle.ticks.specs.Moments.{Moments}
 use Rattle.script_read.specs.Outcomes.{then_give, then_try}
 use Rattle.script_read.specs.Words.{interval_spelled, time_spelled}
 use Rattle.script_read.specs.declared.expectation.Mode.{Mode}

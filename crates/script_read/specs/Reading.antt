@@ -9,7 +9,7 @@ use Rattle.script_read.specs.Commands.{Order, Clearing, Loading, Evaluating, hea
 use Rattle.script_read.specs.Expects.{expectation_added, is_expectation, mode_wants}
 use Rattle.script_read.specs.Items.{item_spelled}
 use Rattle.script_read.specs.Lines.{Numbered, blocks_of, broken_line, words_behind}
-use Rattle.script_read.specs.Moments.{Moments}
+use Rattle.ticks.specs.Moments.{Moments}
 use Rattle.script_read.specs.Outcomes.{PatternList, each_of, in_front, joined, then_give, then_try}
 use Rattle.script_read.specs.Quotes.{has_histogram, without_comment}
 use Rattle.script_read.specs.Refusals.{at_line, limit}

@@ -11,7 +11,8 @@ use Rattle.promql_meaning.specs.declared.answer.Point.{Point}
 use Rattle.promql_meaning.specs.declared.answer.ResultSeries.{ResultSeries}
 use Rattle.script_read.specs.Items.{item_spelled}
 use Rattle.script_read.specs.Lines.{is_empty, words_behind, words_of}
-use Rattle.script_read.specs.Moments.{Moments, places, point_at}
+use Rattle.script_read.specs.Moments.{point_at}
+use Rattle.ticks.specs.Moments.{Moments, places}
 use Rattle.script_read.specs.Outcomes.{Fails, in_front, joined, then_give, then_try}
 use Rattle.script_read.specs.Series.{LabelList, Series, name_front, series_at}
 use Rattle.script_read.specs.Words.{is_word, number_spelled, starts_name}

@@ -1,11 +1,10 @@
 -- What the reader's values stand for.
-use Rattle.std.specs.Prelude.{◌≡◌, ◌++◌, Bool, List, map, Result, Ok, Err}
+use Rattle.std.specs.Prelude.{◌≡◌, ◌++◌, List, map, Result, Ok, Err}
 use Rattle.std.specs.Borrow.{Bor}
-use Rattle.ticks.specs.declared.grid.Grid.{Grid}
 use Rattle.script_read.specs.Commands.{Order, Clearing, Loading, Evaluating}
 use Rattle.script_read.specs.Expects.{Expectation, Tested, Anything, Message, Search, InOrder, Failing, Warning, Informing, WithoutWarnings, WithoutInfos}
 use Rattle.script_read.specs.Lines.{Numbered}
-use Rattle.script_read.specs.Moments.{Moments}
+use Rattle.ticks.specs.Moments.{Moments, moments_in}
 use Rattle.script_read.specs.Outcomes.{PatternList, Refuses, in_front}
 use Rattle.script_read.specs.Reading.{Deed, Clears, Loads, Evaluates, Instruction}
 use Rattle.script_read.specs.Series.{Series}
@@ -34,9 +33,6 @@ block_of block = map numbered block.now
 -- the labels of a series, and what stands behind it
 abbrev pub series_read : SeriesRead → Series
 series_read series = (series.labels, series.behind.now)
-
-abbrev pub moments_in : Grid → Bool → Moments
-moments_in grid instant = record { start = grid.start; end = grid.end; step = grid.step; instant = instant }
 
 abbrev pub test_seen : Test → Tested
 test_seen tests.Any = Anything

@@ -3,7 +3,8 @@ ghost use Rattle.script_read.specs.Commands.{Clearing, after_word, eval_heading,
 ghost use Rattle.script_read.specs.Expects.{filled};
 ghost use Rattle.script_read.specs.Moments.{grid_taken};
 ghost use Rattle.script_read.specs.Outcomes.{then_give};
-ghost use Rattle.script_read.specs.Views.{evaluation_seen, heading_seen, moments_in};
+ghost use Rattle.script_read.specs.Views.{evaluation_seen, heading_seen};
+ghost use Rattle.ticks.specs.Moments.{moments_in};
 ghost use Rattle.std.specs.Prelude.{◌≡◌, false};
 
 use crate::expectation::Mode;

@@ -1,8 +1,8 @@
 //! The lines of a result: a scalar, or a series with one number or with its items.
 ghost use Rattle.script_read.specs.Outcomes.{Appends, Says};
-ghost use Rattle.script_read.specs.Moments.{FitsGrid, places, point_at};
+ghost use Rattle.script_read.specs.Moments.{FitsGrid, point_at};
+ghost use Rattle.ticks.specs.Moments.{moments_in, places};
 ghost use Rattle.script_read.specs.Results.{AddsPoints, TakesPlaces, begins_series, cell_spelled, cells_spelled, instant_points, next_value, number_alone, places_of, points_from, points_of, range_points, run_points, total_places};
-ghost use Rattle.script_read.specs.Views.{moments_in};
 ghost use Rattle.std.specs.Prelude.{◌≡◌, ◌<◌, ◌≤◌, ◌+◌, ◌^◌, IfOk, false, true, map};
 
 use crate::fault::LineFault;

@@ -1,5 +1,6 @@
 pub mod Durations
 pub mod Grids
+pub mod Moments
 pub mod Pairs
 pub mod Runs
 pub mod Spellings

@@ -5,7 +5,8 @@ use Rattle.std.specs.Str.{bytes_eq}
 use Rattle.std.proofs.lemmas.Slice.Eq.{bytes_eq-Decides}
 use Rattle.std.proofs.lemmas.Result.{IfOk-weaker}
 use Rattle.clap.specs.declared.parser.matches.ArgMatches.{ArgMatches}
-use Rattle.tool_words.specs.Asked.{Moments, Wish, asked, if_grid, is_grid, moments_of, query, query_at, query_of, query_worded, number_of, test, test_worded, time_of, moment_at, range_of, workload, workload_of, workload_worded}
+use Rattle.tool_words.specs.Asked.{Wish, asked, if_grid, moments_of, query, query_at, query_of, query_worded, number_of, test, test_worded, time_of, moment_at, range_of, workload, workload_of, workload_worded}
+use Rattle.ticks.specs.Moments.{Moments, is_grid}
 use Rattle.tool_words.specs.Said.{Item, Text, places_of, said, value_of}
 use Rattle.tool_words.specs.Tells.{Holds, Tells}
 use Rattle.tool_words.specs.Views.{HasSeries, IsOneInstant, wish_of}

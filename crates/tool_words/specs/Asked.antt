@@ -1,22 +1,15 @@
 -- What the words of the program ask for. (A command, its options and its files, as the words of Prometheus' promtool; the
 -- commands, their options and the limits are this project's own.)
-use Rattle.std.specs.Prelude.{◌==◌, ◌&&◌, ℕ, not, pos, Bool, true, false, List, [], ◌∷◌, Option, Some, None, codes, if◌then◌else◌, int_le, nat_le, neg_ℤ, option_and_then, option_map, ◌^◌}
+use Rattle.std.specs.Prelude.{◌==◌, ◌&&◌, ℕ, not, pos, Bool, true, false, List, [], ◌∷◌, Option, Some, None, codes, if◌then◌else◌, nat_le, option_and_then, option_map}
 use Rattle.std.specs.Char.{is_ascii_digit}
 use Rattle.std.specs.List.{list_all}
 use Rattle.std.specs.Result.{result_ok}
 use Rattle.std.specs.Str.{bytes_eq}
 use Rattle.std.specs.Str.Parse.{digits_value}
-use Rattle.ticks.specs.Grids.{step_count}
+use Rattle.ticks.specs.Moments.{Moments, is_grid}
 use Rattle.ticks.specs.declared.moment.Ms.{Ms}
 use Rattle.frac_text.specs.Times.{time_answer}
 use Rattle.tool_words.specs.Said.{Item, Text, places_of, said, value_of}
-
--- a start, an end and a step, or one instant
-pub record Moments : Type 0 where
-  pub start : Ms
-  pub end : Ms
-  pub step : Ms
-  pub instant : Bool
 
 -- what a command asks for: to judge files, to answer an expression over a file's samples, or to judge a script that is made of
 -- so many series
@@ -32,13 +25,7 @@ test_options = []
 abbrev pub query_options : List Text
 query_options = codes "at" ∷ codes "from" ∷ codes "to" ∷ codes "step" ∷ []
 
--- the start is not after the end, neither is further from 0 than 10^14 ms, the step is at least a millisecond, and there are
--- at most 11,000 instants
-abbrev pub is_grid : Moments → Bool
-is_grid m =
-    int_le (neg_ℤ (pos (10 ^ 14))) m.start.0 && (int_le m.start.0 m.end.0 && (int_le m.end.0 (pos (10 ^ 14)) && (int_le (pos 1) m.step.0
-    && nat_le (step_count m.start.0 m.end.0 m.step.0) 11000)))
-
+-- instants that are a grid
 abbrev pub if_grid : Moments → Option Moments
 if_grid m = if is_grid m then Some m else None
 

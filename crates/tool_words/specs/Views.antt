@@ -1,13 +1,10 @@
 -- What the program's wishes stand for. (This project's own.)
-use Rattle.std.specs.Prelude.{◌≡◌, ◌<◌, ◌≤◌, Bool, IsTrue, length, ⊤}
-use Rattle.ticks.specs.declared.grid.Grid.{Grid}
-use Rattle.tool_words.specs.Asked.{Moments, Wish, query, test, workload}
+use Rattle.std.specs.Prelude.{◌≡◌, ◌<◌, ◌≤◌, IsTrue, length, ⊤}
+use Rattle.tool_words.specs.Asked.{Wish, query, test, workload}
+use Rattle.ticks.specs.Moments.{Moments, moments_in}
 use Rattle.tool_words.specs.declared.asked.Asked.{Asked}
 use Rattle.tool_words.specs.declared.asked.Asked.TheVariants as wanted
 use Rattle.tool_words.specs.declared.instants.Instants.{Instants}
-
-abbrev pub moments_in : Grid → Bool → Moments
-moments_in grid instant = record { start = grid.start; end = grid.end; step = grid.step; instant = instant }
 
 abbrev pub moments_seen : Instants → Moments
 moments_seen instants = moments_in instants.grid instants.instant

@@ -1,6 +1,6 @@
 use Rattle.std.proofs.Common.{◌≡◌, ◌∙◌, List, ℕ, Some, map, string_bytes, refl, sym, ap}
 use Rattle.tool_words.specs.Asked.{asked, query, test, workload}
-use Rattle.tool_words.specs.Views.{moments_in}
+use Rattle.ticks.specs.Moments.{moments_in}
 use Rattle.promql_tool.specs.Found.{IsFound}
 use Rattle.promql_tool.specs.Report.{files_asked}
 use Rattle.promql_tool.proofs.WordsRun.{files_end, misuse_ends, one_fetched, query_end, workload_end}

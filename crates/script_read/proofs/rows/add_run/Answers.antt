@@ -1,7 +1,7 @@
 use Rattle.std.proofs.Common.{◌≡◌, ◌+◌, ◌-◌, suc, false, arith, sym, ◌∙◌}
 use Rattle.std.proofs.lemmas.Result.{err_from_is_err_and}
 use Rattle.script_read.specs.Results.{run_points}
-use Rattle.script_read.specs.Views.{moments_in}
+use Rattle.ticks.specs.Moments.{moments_in}
 use Rattle.script_read.proofs.Cells.{run_more, run_past}
 use Rattle.script_read.proofs.Steps.{fails_when, front_refused}
 use Rattle.script_read.proofs.rows.add_run.Goals as goal

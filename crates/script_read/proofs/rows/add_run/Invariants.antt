@@ -1,7 +1,7 @@
 use Rattle.std.proofs.Common.{◌≡◌, ◌+◌, ◌-◌, false}
 use Rattle.script_read.specs.Outcomes.{in_front}
 use Rattle.script_read.specs.Results.{run_points}
-use Rattle.script_read.specs.Views.{moments_in}
+use Rattle.ticks.specs.Moments.{moments_in}
 use Rattle.script_read.proofs.rows.add_run.Given as goal
 
 abbrev pub invariant-loop-done : goal.invariant-loop-done

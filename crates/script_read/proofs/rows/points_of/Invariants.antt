@@ -1,8 +1,7 @@
 use Rattle.std.proofs.Common.{◌≡◌, ◌≤◌, ◌+◌, false, drop}
-use Rattle.script_read.specs.Moments.{places}
+use Rattle.ticks.specs.Moments.{moments_in, places}
 use Rattle.script_read.specs.Outcomes.{in_front}
 use Rattle.script_read.specs.Results.{points_from, points_of, total_places}
-use Rattle.script_read.specs.Views.{moments_in}
 use Rattle.script_read.proofs.rows.points_of.Given as goal
 
 abbrev pub invariant-loop-cell : goal.invariant-loop-cell
