@@ -1,11 +1,11 @@
 ghost use Rattle.label_set.specs.LabelText.{braced, comma_list, escaped_byte, is_name, is_name_byte, label_text, quoted, series_text};
 ghost use Rattle.label_set.specs.Labels.{metric_name, without};
 ghost use Rattle.std.specs.List.{list_all};
-ghost use Rattle.std.specs.Prelude.{◌≡◌, ◌+◌, false, Some, [], ◌∷◌, ◌++◌, length, map, if◌then◌else◌, OnOk};
+ghost use Rattle.std.specs.Prelude.{◌≡◌, ◌+◌, false, Some, [], ◌∷◌, ◌++◌, length, map, if◌then◌else◌, IfOk, OnErr, OnOk};
 
 use crate::labels::is_metric;
 use crate::pairs::Pairs;
-use std::alloc::AllocError;
+use std::alloc::{AllocError, Global};
 
 /// Appends the name of a metric and its labels, as a series is printed. `pairs` are all its labels, with the name.
 pub fn push_named(out: &mut Vec<u8>, name: &str, pairs: &Pairs) -> Result<(), AllocError>
@@ -28,7 +28,7 @@ fn push_braced_name(out: &mut Vec<u8>, name: &str, pairs: &Pairs) -> Result<(), 
     ensures { OnOk result (out.new.items ≡ out.old.items ++ braced (quoted name.now ∷ map label_text (without (metric_name ∷ []) pairs.now))) }
 {
     out.push(b'{')?;
-    append_quoted(name, out)?;
+    push_quoted(out, name)?;
     push_labels(out, true, pairs)?;
     out.push(b'}')?;
     Ok(())
@@ -69,7 +69,7 @@ fn push_label(out: &mut Vec<u8>, started: bool, name: &str, value: &str) -> Resu
     }
     push_label_name(out, name)?;
     out.push(b'=')?;
-    append_quoted(value, out)
+    push_quoted(out, value)
 }
 
 /// Appends a label's name, in quotes where it needs them.
@@ -79,20 +79,37 @@ fn push_label_name(out: &mut Vec<u8>, name: &str) -> Result<(), AllocError>
     if is_name(false, name) {
         out.extend_from_slice(name.as_bytes())
     } else {
-        append_quoted(name, out)
+        push_quoted(out, name)
     }
 }
 
 /// Appends a text in quotes, as a label's value is printed: a backslash, a quote and a line feed are written `\\`, `\"` and `\n`.
-/// The only error is want of memory; then a part of the text may stand at the end.
+/// The only error is want of memory; then nothing is appended.
 pub fn append_quoted(text: &str, into: &mut Vec<u8>) -> Result<(), AllocError>
-    ensures { OnOk result (into.new.items ≡ into.old.items ++ quoted text.now) }
+    ensures ok { OnOk result (into.new.items ≡ into.old.items ++ quoted text.now) }
+    ensures err { OnErr result (into.new.items ≡ into.old.items) }
 {
-    into.push(b'"')?;
+    let quoted = quoted(*into.allocator(), text)?;
+    into.extend_from_slice(quoted.as_slice())
+}
+
+/// A text in quotes.
+fn quoted(alloc: Global, text: &str) -> Result<Vec<u8>, AllocError>
+    ensures { IfOk result (λ v. v.items ≡ quoted text.now) }
+{
+    let mut quoted = Vec::new(alloc);
+    push_quoted(&mut quoted, text)?;
+    Ok(quoted)
+}
+
+fn push_quoted(out: &mut Vec<u8>, text: &str) -> Result<(), AllocError>
+    ensures { OnOk result (out.new.items ≡ out.old.items ++ quoted text.now) }
+{
+    out.push(b'"')?;
     for byte in text.as_bytes() {
-        push_escaped(into, *byte)?;
+        push_escaped(out, *byte)?;
     }
-    into.push(b'"')?;
+    out.push(b'"')?;
     Ok(())
 }
 

@@ -1,5 +1,6 @@
--- The refusals of a query: which comes first of two, and where each stands. The order of the kinds is this project's own.
-use Rattle.std.specs.Prelude.{ℕ}
+-- The refusals of a query: which comes first of two, where each stands, and the name of its kind. The order of the kinds and
+-- their names are this project's own.
+use Rattle.std.specs.Prelude.{ℕ, List, codes}
 use Rattle.promql_ast.specs.declared.refusal.QueryRefusal.{QueryRefusal}
 use Rattle.promql_ast.specs.declared.refusal.QueryRefusal.TheVariants.{TooLong, BadToken, Unterminated, BadEscape, BadNumber, NumberRange, LeadingZero, BadDuration, DurationRange, Expected, TooDeep, UnknownFunction, RefusedFunction, EmptySelector, BadPattern, TooManyPatterns, LabelTwice, NameTwice, BadTemplate, BadLabelName, WrongType, WrongArity, NeedsBool, SetOnScalar, RangeResult, StringResult, TooManyPoints}
 
@@ -62,3 +63,33 @@ number_of (SetOnScalar at) = 24
 number_of (RangeResult at) = 25
 number_of (StringResult at) = 26
 number_of (TooManyPoints at) = 27
+
+-- the name of its kind
+abbrev pub name_of : QueryRefusal → List ℕ
+name_of (TooLong at) = codes "TooLong"
+name_of (BadToken at) = codes "BadToken"
+name_of (Unterminated at) = codes "Unterminated"
+name_of (BadEscape at) = codes "BadEscape"
+name_of (BadNumber at) = codes "BadNumber"
+name_of (NumberRange at) = codes "NumberRange"
+name_of (LeadingZero at) = codes "LeadingZero"
+name_of (BadDuration at) = codes "BadDuration"
+name_of (DurationRange at) = codes "DurationRange"
+name_of (Expected at) = codes "Expected"
+name_of (TooDeep at) = codes "TooDeep"
+name_of (UnknownFunction at function) = codes "UnknownFunction"
+name_of (RefusedFunction at function) = codes "RefusedFunction"
+name_of (EmptySelector at) = codes "EmptySelector"
+name_of (BadPattern at) = codes "BadPattern"
+name_of (TooManyPatterns at) = codes "TooManyPatterns"
+name_of (LabelTwice at) = codes "LabelTwice"
+name_of (NameTwice at) = codes "NameTwice"
+name_of (BadTemplate at) = codes "BadTemplate"
+name_of (BadLabelName at) = codes "BadLabelName"
+name_of (WrongType at) = codes "WrongType"
+name_of (WrongArity at) = codes "WrongArity"
+name_of (NeedsBool at) = codes "NeedsBool"
+name_of (SetOnScalar at) = codes "SetOnScalar"
+name_of (RangeResult at) = codes "RangeResult"
+name_of (StringResult at) = codes "StringResult"
+name_of (TooManyPoints at) = codes "TooManyPoints"

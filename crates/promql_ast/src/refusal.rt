@@ -1,4 +1,4 @@
-ghost use Rattle.promql_ast.specs.Refusals.{number_of, place_of};
+ghost use Rattle.promql_ast.specs.Refusals.{name_of, number_of, place_of};
 ghost use Rattle.std.specs.Prelude.{◌≡◌, IfOk};
 
 use holders::Text;
@@ -161,6 +161,41 @@ impl QueryRefusal {
             QueryRefusal::RangeResult(_) => 25,
             QueryRefusal::StringResult(_) => 26,
             QueryRefusal::TooManyPoints(_) => 27,
+        }
+    }
+
+    /// The name of the kind. It takes no memory.
+    pub fn name(&self) -> &'static str
+        ensures { result.now ≡ name_of self.now }
+    {
+        match self {
+            QueryRefusal::TooLong(_) => "TooLong",
+            QueryRefusal::BadToken(_) => "BadToken",
+            QueryRefusal::Unterminated(_) => "Unterminated",
+            QueryRefusal::BadEscape(_) => "BadEscape",
+            QueryRefusal::BadNumber(_) => "BadNumber",
+            QueryRefusal::NumberRange(_) => "NumberRange",
+            QueryRefusal::LeadingZero(_) => "LeadingZero",
+            QueryRefusal::BadDuration(_) => "BadDuration",
+            QueryRefusal::DurationRange(_) => "DurationRange",
+            QueryRefusal::Expected(_) => "Expected",
+            QueryRefusal::TooDeep(_) => "TooDeep",
+            QueryRefusal::UnknownFunction(_, _) => "UnknownFunction",
+            QueryRefusal::RefusedFunction(_, _) => "RefusedFunction",
+            QueryRefusal::EmptySelector(_) => "EmptySelector",
+            QueryRefusal::BadPattern(_) => "BadPattern",
+            QueryRefusal::TooManyPatterns(_) => "TooManyPatterns",
+            QueryRefusal::LabelTwice(_) => "LabelTwice",
+            QueryRefusal::NameTwice(_) => "NameTwice",
+            QueryRefusal::BadTemplate(_) => "BadTemplate",
+            QueryRefusal::BadLabelName(_) => "BadLabelName",
+            QueryRefusal::WrongType(_) => "WrongType",
+            QueryRefusal::WrongArity(_) => "WrongArity",
+            QueryRefusal::NeedsBool(_) => "NeedsBool",
+            QueryRefusal::SetOnScalar(_) => "SetOnScalar",
+            QueryRefusal::RangeResult(_) => "RangeResult",
+            QueryRefusal::StringResult(_) => "StringResult",
+            QueryRefusal::TooManyPoints(_) => "TooManyPoints",
         }
     }
 

@@ -1,7 +1,6 @@
 -- The last lines of a report, and the status of the program. (This project's own.)
 use Rattle.std.specs.Prelude.{ℕ, List, ◌++◌, codes, decimal}
-use Rattle.script_read.specs.declared.script.ScriptRefusal.{ScriptRefusal}
-use Rattle.script_read.specs.declared.script.ScriptRefusal.TheVariants.{Malformed, NativeHistogram, NotUtf8, TooLarge, NumberRange, BadPattern, BadLabels}
+use Rattle.script_read.specs.Refusals.{line_of, name_of}
 use Rattle.test_runner.specs.Lines.{placed}
 use Rattle.test_runner.specs.declared.fault.LoadRefusal.{LoadRefusal}
 use Rattle.test_runner.specs.declared.fault.LoadRefusal.TheVariants.{Conflict, TooManySamples, TooManySeries}
@@ -30,43 +29,25 @@ fault_text path = codes "FAULT read " ++ (path ++ codes "\n")
 abbrev pub fault_report : List ℕ → Report
 fault_report path = record { text = fault_text path; status = 3 }
 
--- the line of a refusal, 0 where it is the whole file
-abbrev pub script_line : ScriptRefusal → ℕ
-script_line TooLarge = 0
-script_line (Malformed line) = line
-script_line (NativeHistogram line) = line
-script_line (NotUtf8 line) = line
-script_line (NumberRange line) = line
-script_line (BadPattern line) = line
-script_line (BadLabels line) = line
-
+-- the line of a refusal
 abbrev pub load_line : LoadRefusal → ℕ
 load_line (Conflict line kept given) = line
 load_line (TooManySamples line) = line
 load_line (TooManySeries line) = line
 
 abbrev pub refused_line : Refusal → ℕ
-refused_line (Script refused) = script_line refused
+refused_line (Script refused) = line_of refused
 refused_line (Range line) = line
 refused_line (Load refused) = load_line refused
 
 -- the name of a refusal
-abbrev pub script_name : ScriptRefusal → List ℕ
-script_name TooLarge = codes "TooLarge"
-script_name (Malformed line) = codes "Malformed"
-script_name (NativeHistogram line) = codes "NativeHistogram"
-script_name (NotUtf8 line) = codes "NotUtf8"
-script_name (NumberRange line) = codes "NumberRange"
-script_name (BadPattern line) = codes "BadPattern"
-script_name (BadLabels line) = codes "BadLabels"
-
 abbrev pub load_name : LoadRefusal → List ℕ
 load_name (Conflict line kept given) = codes "Conflict"
 load_name (TooManySamples line) = codes "TooManySamples"
 load_name (TooManySeries line) = codes "TooManySeries"
 
 abbrev pub refusal_name : Refusal → List ℕ
-refusal_name (Script refused) = script_name refused
+refusal_name (Script refused) = name_of refused
 refusal_name (Range line) = codes "NumberRange"
 refusal_name (Load refused) = load_name refused
 

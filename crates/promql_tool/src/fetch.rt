@@ -13,11 +13,8 @@ use edge_io::{Fetch, Fetched, Library};
 use holders::Items;
 use match_rule::Patterns;
 use script_check::scripts_keep_their_patterns;
-use script_read::{ReadFault, Script, ScriptRefusal};
+use script_read::{FILE_LIMIT, ReadFault, Script, ScriptRefusal};
 use std::alloc::{AllocError, Global};
-
-/// The most bytes of a file.
-const LIMIT: usize = 4_194_304;
 
 /// What a fetch of a file found.
 #[derive(Drop)]
@@ -42,7 +39,7 @@ pub fn fetch_file<L: Library>(
     ensures gone { IfOk result (λ file. file ≡ Stopped Gone → Rose (L.faults library.old) (L.faults library.new)) }
 {
     let mut bytes = Vec::new(alloc);
-    match library.fetch(path, LIMIT, &mut bytes) {
+    match library.fetch(path, FILE_LIMIT, &mut bytes) {
         Ok(Fetched::Whole) => Ok(File::Bytes(Items::from_vec(bytes))),
         Ok(Fetched::PastLimit) => {
             let refusal = Refusal::Script(ScriptRefusal::TooLarge);

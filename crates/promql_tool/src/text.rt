@@ -1,7 +1,7 @@
 //! The lines of a report.
 ghost use Rattle.promql_tool.specs.Query.{AreNoteLines, failed_at, failure_text, note_kind, note_line, notes_in, outcome_head, point_text, series_name, series_text};
 ghost use Rattle.promql_tool.specs.Runs.{bytes_of};
-ghost use Rattle.promql_tool.specs.Texts.{fault_text, load_line, load_name, refusal_name, refusal_text, refused_line, script_line, script_name, totals_text};
+ghost use Rattle.promql_tool.specs.Texts.{fault_text, load_line, load_name, refusal_name, refusal_text, refused_line, totals_text};
 ghost use Rattle.std.specs.Fmt.{signed_decimal};
 ghost use Rattle.std.specs.List.{flat_map};
 ghost use Rattle.std.specs.Prelude.{◌≡◌, ◌++◌, codes, map, string_bytes, IfOk, OnOk};
@@ -11,26 +11,10 @@ use frac_text::write_number;
 use label_set::Labels;
 use promql_meaning::{Outcome, Point, ResultSeries};
 use script_check::{append_note, append_outcome, is_warning};
-use script_read::ScriptRefusal;
 use std::alloc::{AllocError, Global};
 use step_table::Note;
 use test_runner::LoadRefusal;
 use ticks::Ms;
-
-/// The line that is refused, counted from 1, or 0 where it is the whole file.
-fn script_line(refusal: &ScriptRefusal) -> u32
-    ensures { result ≡ script_line refusal.now }
-{
-    match refusal {
-        ScriptRefusal::TooLarge => 0,
-        ScriptRefusal::Malformed(line) => *line,
-        ScriptRefusal::NativeHistogram(line) => *line,
-        ScriptRefusal::NotUtf8(line) => *line,
-        ScriptRefusal::NumberRange(line) => *line,
-        ScriptRefusal::BadPattern(line) => *line,
-        ScriptRefusal::BadLabels(line) => *line,
-    }
-}
 
 fn load_line(refusal: &LoadRefusal) -> u32
     ensures { result ≡ load_line refusal.now }
@@ -42,27 +26,14 @@ fn load_line(refusal: &LoadRefusal) -> u32
     }
 }
 
+/// The line that is refused, counted from 1, or 0 where it is the whole file.
 fn refused_line(refusal: &Refusal) -> u32
     ensures { result ≡ refused_line refusal.now }
 {
     match refusal {
-        Refusal::Script(refusal) => script_line(refusal),
+        Refusal::Script(refusal) => refusal.line(),
         Refusal::Range(line) => *line,
         Refusal::Load(refusal) => load_line(refusal),
-    }
-}
-
-fn script_name(refusal: &ScriptRefusal) -> &'static str
-    ensures { result.now ≡ script_name refusal.now }
-{
-    match refusal {
-        ScriptRefusal::TooLarge => "TooLarge",
-        ScriptRefusal::Malformed(_) => "Malformed",
-        ScriptRefusal::NativeHistogram(_) => "NativeHistogram",
-        ScriptRefusal::NotUtf8(_) => "NotUtf8",
-        ScriptRefusal::NumberRange(_) => "NumberRange",
-        ScriptRefusal::BadPattern(_) => "BadPattern",
-        ScriptRefusal::BadLabels(_) => "BadLabels",
     }
 }
 
@@ -80,7 +51,7 @@ fn refusal_name(refusal: &Refusal) -> &'static str
     ensures { result.now ≡ refusal_name refusal.now }
 {
     match refusal {
-        Refusal::Script(refusal) => script_name(refusal),
+        Refusal::Script(refusal) => refusal.name(),
         Refusal::Range(_) => "NumberRange",
         Refusal::Load(refusal) => load_name(refusal),
     }

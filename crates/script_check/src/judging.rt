@@ -3,7 +3,7 @@ ghost use Rattle.script_check.specs.Verdicts.{AreKept, HasPatterns, answer_reaso
 ghost use Rattle.std.specs.Prelude.{◌≡◌, IfOk};
 
 use crate::note_text::texts_of;
-use crate::outcome_text::append_outcome;
+use crate::outcome_text::text_of;
 use crate::series::{judge_scalar, judge_series, scalar_in};
 use crate::tested::{are_met, is_silent, meets_all};
 use crate::verdict::{Reason, Verdict};
@@ -56,9 +56,8 @@ fn has_failure_text(
     ensures answer { IfOk result (λ b. b ≡ failure_text_holds searches.old e.now o.now) }
     ensures same { searches.new ≡ searches.old }
 {
-    let mut text = Vec::new(alloc);
-    append_outcome(alloc, o, &mut text)?;
-    meets_all(&text, e.fail.as_slice(), searches)
+    let text = text_of(alloc, o)?;
+    meets_all(text.as_slice(), e.fail.as_slice(), searches)
 }
 
 // ---- warnings and info notes

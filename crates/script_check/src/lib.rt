@@ -1,6 +1,7 @@
 //! Whether the outcome of an evaluation is what a script expects of it, and the texts of outcomes and notes.
 #![tactic(auto)]
 
+mod joined;
 mod judging;
 mod laws;
 mod note_text;
@@ -9,12 +10,13 @@ mod series;
 mod tested;
 mod verdict;
 
+pub use joined::{append_both, append_labelled};
 pub use judging::judge;
 pub use laws::{
     ordered_pass_is_pass, passes_exactly_where_each_line_holds, passes_exactly_where_series_agree,
     scripts_keep_their_patterns,
 };
 pub use note_text::{append_note, is_warning};
-pub use outcome_text::{append_mark, append_outcome, append_refusal};
+pub use outcome_text::append_outcome;
 pub use std::alloc::AllocError as Memory;
 pub use verdict::{Reason, Verdict};

@@ -2,8 +2,9 @@
 ghost use Rattle.frac_text.specs.Spellings.{spelling};
 ghost use Rattle.label_set.specs.LabelText.{quoted};
 ghost use Rattle.script_check.specs.NoteTexts.{is_of, is_warning, note_text, texts_of};
-ghost use Rattle.std.specs.Prelude.{◌≡◌, ◌++◌, IfOk, OnOk};
+ghost use Rattle.std.specs.Prelude.{◌≡◌, ◌++◌, IfOk, OnErr, OnOk};
 
+use crate::joined::append_both;
 use frac_text::write_number;
 use label_set::{Items, append_quoted};
 use std::alloc::{AllocError, Global};
@@ -46,14 +47,6 @@ fn append_number(text: &str, number: &XFrac, into: &mut Vec<u8>) -> Result<(), A
     write_number(number, into)
 }
 
-/// Appends a text, and another one behind it.
-fn append_both(text: &str, behind: &str, into: &mut Vec<u8>) -> Result<(), AllocError>
-    ensures { OnOk result (into.new.items ≡ into.old.items ++ (text.now ++ behind.now)) }
-{
-    append_text(text, into)?;
-    append_text(behind, into)
-}
-
 /// Appends a text, and one in quotes behind it.
 fn append_with_quotes(text: &str, behind: &str, into: &mut Vec<u8>) -> Result<(), AllocError>
     ensures { OnOk result (into.new.items ≡ into.old.items ++ (text.now ++ quoted behind.now)) }
@@ -62,8 +55,7 @@ fn append_with_quotes(text: &str, behind: &str, into: &mut Vec<u8>) -> Result<()
     append_quoted(behind, into)
 }
 
-/// Appends the text of a note. The only error is want of memory; then a part of the text may stand at the end.
-pub fn append_note(note: &Note, into: &mut Vec<u8>) -> Result<(), AllocError>
+fn append_told(note: &Note, into: &mut Vec<u8>) -> Result<(), AllocError>
     ensures { OnOk result (into.new.items ≡ into.old.items ++ note_text note.now) }
 {
     match note {
@@ -79,7 +71,7 @@ pub fn append_note(note: &Note, into: &mut Vec<u8>) -> Result<(), AllocError>
         ),
         Note::NotCounter(name) => append_both(
             "metric might not be a counter, name does not end in _total/_sum/_count/_bucket: ",
-            name.as_str(),
+            name.as_str().as_bytes(),
             into,
         ),
         Note::FixedBuckets => append_text(
@@ -93,8 +85,17 @@ fn text_of(alloc: Global, note: &Note) -> Result<Items<u8>, AllocError>
     ensures { IfOk result (λ text. text ≡ note_text note.now) }
 {
     let mut text = Vec::new(alloc);
-    append_note(note, &mut text)?;
+    append_told(note, &mut text)?;
     Ok(Items::from_vec(text))
+}
+
+/// Appends the text of a note. The only error is want of memory; then nothing is appended.
+pub fn append_note(note: &Note, into: &mut Vec<u8>) -> Result<(), AllocError>
+    ensures ok { OnOk result (into.new.items ≡ into.old.items ++ note_text note.now) }
+    ensures err { OnErr result (into.new.items ≡ into.old.items) }
+{
+    let text = text_of(*into.allocator(), note)?;
+    into.extend_from_slice(text.as_slice())
 }
 
 /// The texts of the warnings among notes, or else of the info notes, in their order. The only error is want of memory.

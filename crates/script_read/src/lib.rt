@@ -20,7 +20,7 @@ pub use laws::{
     each_script_is_read, items_are_told, lines_are_told, refusals_are_of_first_lines,
     what_is_read_is_a_script,
 };
-pub use reader::read;
+pub use reader::{FILE_LIMIT, read};
 pub use script::{
     Command, Expectations, Expected, Script, ScriptRefusal, SeriesItem, SeriesLine, Wanted, What,
 };

@@ -33,7 +33,7 @@ use ticks::Ms;
 use xfrac::XFrac;
 
 /// The most bytes of a file.
-const LIMIT: usize = 4_194_304;
+pub const FILE_LIMIT: usize = 4_194_304;
 
 /// What a line says, or its refusal with its number.
 fn at_line<T>(line: u32, said: Result<T, LineFault>) -> Result<T, ReadFault>
@@ -360,7 +360,7 @@ pub fn read(alloc: Global, bytes: &[u8], searches: &mut Patterns) -> Result<Scri
     ensures gains { Gains searches.old searches.new }
     ensures few { IfOk result (λ script. length script.commands < 2 ^ 32) }
 {
-    if bytes.len() > LIMIT {
+    if bytes.len() > FILE_LIMIT {
         return Err(ReadFault::Refused(ScriptRefusal::TooLarge));
     }
     match broken_line(bytes) {

@@ -1,4 +1,5 @@
 //! A script as data: its commands in the order of their lines.
+ghost use Rattle.script_read.specs.Refusals.{line_of, name_of};
 ghost use Rattle.std.specs.Prelude.{◌≡◌, IfOk};
 
 use label_set::{Items, Labels, PatternId, Text};
@@ -32,6 +33,38 @@ pub enum ScriptRefusal {
     /// The labels of the line are refused.
     #[error("line {0} has labels that are refused")]
     BadLabels(u32),
+}
+
+impl ScriptRefusal {
+    /// The refused line, counted from 1, or 0 where it is the whole file.
+    pub fn line(&self) -> u32
+        ensures { result ≡ line_of self.now }
+    {
+        match self {
+            ScriptRefusal::TooLarge => 0,
+            ScriptRefusal::Malformed(line) => *line,
+            ScriptRefusal::NativeHistogram(line) => *line,
+            ScriptRefusal::NotUtf8(line) => *line,
+            ScriptRefusal::NumberRange(line) => *line,
+            ScriptRefusal::BadPattern(line) => *line,
+            ScriptRefusal::BadLabels(line) => *line,
+        }
+    }
+
+    /// The name of the refusal.
+    pub fn name(&self) -> &'static str
+        ensures { result.now ≡ name_of self.now }
+    {
+        match self {
+            ScriptRefusal::TooLarge => "TooLarge",
+            ScriptRefusal::Malformed(_) => "Malformed",
+            ScriptRefusal::NativeHistogram(_) => "NativeHistogram",
+            ScriptRefusal::NotUtf8(_) => "NotUtf8",
+            ScriptRefusal::NumberRange(_) => "NumberRange",
+            ScriptRefusal::BadPattern(_) => "BadPattern",
+            ScriptRefusal::BadLabels(_) => "BadLabels",
+        }
+    }
 }
 
 /// A script: its commands in the order of their lines.

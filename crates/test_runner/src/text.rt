@@ -6,7 +6,7 @@ ghost use Rattle.std.specs.Prelude.{◌≡◌, ◌++◌, codes, string_bytes, If
 
 use frac_text::write_number;
 use label_set::Labels;
-use script_check::{Reason, Verdict};
+use script_check::{Reason, Verdict, append_both, append_labelled};
 use std::alloc::{AllocError, Global};
 use ticks::Ms;
 use xfrac::XFrac;
@@ -19,22 +19,6 @@ fn append_value(value: Option<XFrac>, into: &mut Vec<u8>) -> Result<(), AllocErr
         Some(value) => write_number(&value, into),
         None => into.extend_from_slice(b"nothing"),
     }
-}
-
-/// Appends a text, and one behind it.
-fn append_both(text: &str, behind: &[u8], into: &mut Vec<u8>) -> Result<(), AllocError>
-    ensures { OnOk result (into.new.items ≡ into.old.items ++ (text.now ++ behind.now)) }
-{
-    into.extend_from_slice(text.as_bytes())?;
-    into.extend_from_slice(behind)
-}
-
-/// Appends a text, and labels behind it.
-fn append_labelled(text: &str, labels: &Labels, into: &mut Vec<u8>) -> Result<(), AllocError>
-    ensures { OnOk result (into.new.items ≡ into.old.items ++ (text.now ++ labels_text labels.now)) }
-{
-    into.extend_from_slice(text.as_bytes())?;
-    labels.write(into)
 }
 
 /// Appends which value was expected, and which is there instead.

@@ -1,7 +1,7 @@
 use Rattle.std.proofs.Common.{◌≡◌, ◌++◌, take}
 use Rattle.std.specs.List.{flat_map}
 use Rattle.label_set.specs.LabelText.{escaped_byte}
-use Rattle.label_set.proofs.label_text.append_quoted.Given as goal
+use Rattle.label_set.proofs.label_text.push_quoted.Given as goal
 
 abbrev pub invariant-loop-byte : goal.invariant-loop-byte
-invariant-loop-byte l = l.into.items ≡ l.initial.into.items ++ flat_map escaped_byte (take l.byte-index l.byte-items)
+invariant-loop-byte l = l.out.items ≡ l.initial.out.items ++ flat_map escaped_byte (take l.byte-index l.byte-items)
