@@ -13,8 +13,8 @@ found : (hexadecimal : Bool) (last : ℕ) (bytes : List ℕ) → has_unit hexade
 found hexadecimal last [] h = absurd (cc)
 found hexadecimal last (byte ∷ bytes) h =
     elim (or_cases (ends_count hexadecimal last && begins_unit hexadecimal byte) (has_unit hexadecimal (ends_count hexadecimal byte) bytes) h) [
-      inl here ↦ let both = and_parts (ends_count hexadecimal last) (begins_unit hexadecimal byte) here in HasUnit.side_by_side [] last byte bytes refl both.0 both.1
-    | inr there ↦ later hexadecimal last (byte ∷ bytes) (found hexadecimal byte bytes there)
+      | inl here ↦ let both = and_parts (ends_count hexadecimal last) (begins_unit hexadecimal byte) here in HasUnit.side_by_side [] last byte bytes refl both.0 both.1
+      | inr there ↦ later hexadecimal last (byte ∷ bytes) (found hexadecimal byte bytes there)
     ]
 
 found_first : (hexadecimal : Bool) (run : List ℕ) → has_unit hexadecimal false run ≡ true → HasUnit hexadecimal run

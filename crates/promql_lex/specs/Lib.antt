@@ -6,3 +6,4 @@ pub mod Pieces
 pub mod Quoted
 pub mod Signs
 pub mod Tokens
+pub mod Words

@@ -1,8 +1,8 @@
 -- Names and words: `[a-zA-Z_:][a-zA-Z0-9_:]*`. (PromQL's lexer. Between brackets a colon is the sign of a subquery.)
-use Rattle.std.specs.Prelude.{ℕ, Bool, ◌==◌, ◌&&◌, ◌||◌, not, if◌then◌else◌, List, [], ◌∷◌, codes}
+use Rattle.std.specs.Prelude.{ℕ, Bool, ◌==◌, ◌&&◌, ◌||◌, not, if◌then◌else◌, List, codes, is_some}
 use Rattle.std.specs.Char.{is_ascii_alphabetic, is_ascii_alphanumeric}
-use Rattle.std.specs.List.{list_any}
 use Rattle.frac_text.specs.Readings.{is_word}
+use Rattle.promql_lex.specs.Words.{word_of}
 use Rattle.promql_lex.specs.declared.token.TokenKind.{TokenKind}
 use Rattle.promql_lex.specs.declared.token.TokenKind.TheVariants.{Name, Word, Number}
 use Rattle.xfrac.specs.declared.value.XFrac.TheVariants.{PosInf, NaN}
@@ -14,17 +14,9 @@ starts_name inside byte = is_ascii_alphabetic byte || (byte == 95 || (byte == 58
 abbrev pub continues_name : Bool → ℕ → Bool
 continues_name inside byte = is_ascii_alphanumeric byte || (byte == 95 || (byte == 58 && not inside))
 
--- the words of the grammar, the aggregations among them
-abbrev pub words : List (List ℕ)
-words =
-    codes "and" ∷ codes "or" ∷ codes "unless" ∷ codes "by" ∷ codes "without" ∷ codes "on" ∷ codes "ignoring" ∷ codes "group_left"
-    ∷ codes "group_right" ∷ codes "bool" ∷ codes "offset" ∷ codes "start" ∷ codes "end" ∷ codes "atan2"
-    ∷ codes "sum" ∷ codes "avg" ∷ codes "min" ∷ codes "max" ∷ codes "count" ∷ codes "group" ∷ codes "stdvar" ∷ codes "topk"
-    ∷ codes "bottomk" ∷ codes "quantile" ∷ codes "count_values" ∷ []
-
 -- one of the words, in any case
 abbrev pub is_query_word : List ℕ → Bool
-is_query_word text = list_any (is_word text) words
+is_query_word text = is_some (word_of text)
 
 -- `Inf` and `NaN` in any case are numbers and no names
 abbrev pub name_kind : List ℕ → TokenKind

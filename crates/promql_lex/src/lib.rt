@@ -11,11 +11,14 @@ mod piece;
 mod sign;
 mod string;
 mod token;
+mod word;
 
 pub use cut::tokens;
 pub use fault::LexFault;
 pub use laws::{
-    bad_durations_have_units, kinds_are_of_spellings, refused_spellings_are_last, spans_lie_in_order,
+    bad_durations_have_units, kinds_are_of_spellings, refused_spellings_are_last,
+    spans_lie_in_order,
 };
 pub use std::alloc::AllocError as Memory;
 pub use token::{Token, TokenKind};
+pub use word::{Word, word_of};

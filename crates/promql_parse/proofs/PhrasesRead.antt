@@ -33,7 +33,7 @@ use Rattle.promql_parts.specs.declared.lexeme.Lexeme.{Lexeme}
 use Rattle.promql_parts.specs.declared.lexeme.LexemeKind.{LexemeKind}
 use Rattle.promql_parts.specs.declared.lexeme.LexemeKind.TheVariants as kinds
 use Rattle.promql_parts.specs.declared.lexeme.Sign.TheVariants.{LeftParen, RightParen, LeftBrace, LeftBracket, Comma, AtSign, Plus, Minus, Caret}
-use Rattle.promql_parts.specs.declared.lexeme.Word.TheVariants.{On, Ignoring, GroupLeft, GroupRight, Bool as Flag, Offset, Atan2, Over}
+use Rattle.promql_lex.specs.declared.word.Word.TheVariants.{On, Ignoring, GroupLeft, GroupRight, Bool as Flag, Offset, Atan2, Over}
 use Rattle.promql_parts.specs.declared.operator.BinaryOp.{BinaryOp}
 use Rattle.promql_parts.specs.declared.operator.BinaryOp.TheVariants.{Arith}
 use Rattle.promql_parts.specs.declared.operator.Matching.{Matching}

@@ -16,7 +16,7 @@ use Rattle.promql_parts.specs.declared.lexeme.Lexeme.{Lexeme}
 use Rattle.promql_parts.specs.declared.lexeme.LexemeKind.{LexemeKind}
 use Rattle.promql_parts.specs.declared.lexeme.LexemeKind.TheVariants as kinds
 use Rattle.promql_parts.specs.declared.lexeme.Sign.TheVariants.{LeftParen, RightParen, LeftBrace, Comma, Plus, Minus, Star, Slash, Percent, Caret, EqualTwice, Unequal, Less, LessEqual, Greater, GreaterEqual}
-use Rattle.promql_parts.specs.declared.lexeme.Word.TheVariants.{And, Or, Unless}
+use Rattle.promql_lex.specs.declared.word.Word.TheVariants.{And, Or, Unless}
 use Rattle.promql_parts.specs.declared.operator.BinaryOp.{BinaryOp}
 
 -- behind the first part of an operand

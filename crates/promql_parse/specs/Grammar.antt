@@ -20,7 +20,7 @@ use Rattle.promql_parts.specs.Productions.{BinModifier, begins_labels, Grouped, 
 use Rattle.promql_parts.specs.declared.lexeme.Lexeme.{Lexeme}
 use Rattle.promql_parts.specs.declared.lexeme.LexemeKind.TheVariants as kinds
 use Rattle.promql_parts.specs.declared.lexeme.Sign.TheVariants.{LeftParen, RightParen, Comma, Plus, Minus, Caret}
-use Rattle.promql_parts.specs.declared.lexeme.Word.TheVariants.{Over}
+use Rattle.promql_lex.specs.declared.word.Word.TheVariants.{Over}
 use Rattle.promql_parts.specs.declared.operator.BinaryOp.{BinaryOp}
 use Rattle.promql_parts.specs.declared.operator.BinaryOp.TheVariants.{Arith}
 use Rattle.promql_parts.specs.declared.operator.Matching.{Matching}

@@ -10,7 +10,7 @@ use Rattle.promql_parts.specs.declared.lexeme.Lexeme.{Lexeme}
 use Rattle.promql_parts.specs.declared.lexeme.LexemeKind.{LexemeKind}
 use Rattle.promql_parts.specs.declared.lexeme.LexemeKind.TheVariants as kinds
 use Rattle.promql_parts.specs.declared.lexeme.Sign.TheVariants.{LeftParen, RightParen, Comma}
-use Rattle.promql_parts.specs.declared.lexeme.Word.TheVariants.{By, Without}
+use Rattle.promql_lex.specs.declared.word.Word.TheVariants.{By, Without}
 use Rattle.promql_parts.proofs.Lists.{Before, Inside, turns_found}
 
 module _ (taken : List (List ℕ)) where

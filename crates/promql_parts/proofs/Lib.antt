@@ -1,4 +1,5 @@
 pub mod LabelsFound
+pub mod LexemesGood
 pub mod Lists
 pub mod ListsRead
 pub mod MatchersFound

@@ -13,7 +13,7 @@ use Rattle.promql_parts.specs.declared.lexeme.Lexeme.{Lexeme}
 use Rattle.promql_parts.specs.declared.lexeme.LexemeKind.{LexemeKind}
 use Rattle.promql_parts.specs.declared.lexeme.LexemeKind.TheVariants as kinds
 use Rattle.promql_parts.specs.declared.lexeme.Sign.TheVariants.{LeftParen}
-use Rattle.promql_parts.specs.declared.lexeme.Word.TheVariants.{Bool as Flag}
+use Rattle.promql_lex.specs.declared.word.Word.TheVariants.{Bool as Flag}
 use Rattle.promql_parts.specs.declared.operator.BinaryOp.{BinaryOp}
 use Rattle.promql_parts.proofs.LabelsFound.{labels_found}
 

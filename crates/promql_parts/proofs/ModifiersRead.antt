@@ -14,7 +14,7 @@ use Rattle.promql_parts.specs.declared.lexeme.Lexeme.{Lexeme}
 use Rattle.promql_parts.specs.declared.lexeme.LexemeKind.{LexemeKind}
 use Rattle.promql_parts.specs.declared.lexeme.LexemeKind.TheVariants as kinds
 use Rattle.promql_parts.specs.declared.lexeme.Sign.TheVariants.{LeftParen}
-use Rattle.promql_parts.specs.declared.lexeme.Word.TheVariants.{On, Ignoring, GroupLeft, GroupRight, Bool as Flag}
+use Rattle.promql_lex.specs.declared.word.Word.TheVariants.{On, Ignoring, GroupLeft, GroupRight, Bool as Flag}
 use Rattle.promql_parts.specs.declared.operator.BinaryOp.{BinaryOp}
 use Rattle.promql_parts.specs.declared.operator.Matching.{Matching}
 use Rattle.promql_parts.proofs.PartsRead.{labels_read}

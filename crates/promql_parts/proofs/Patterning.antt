@@ -15,14 +15,15 @@ use Rattle.promql_lex.specs.declared.token.Token.{Token}
 use Rattle.promql_lex.specs.declared.token.TokenKind.{TokenKind}
 use Rattle.promql_lex.specs.declared.token.TokenKind.TheVariants as tokens
 use Rattle.holders.specs.Joins.{both_of}
-use Rattle.promql_parts.specs.Lexemes.{kind_of, lexeme_of, sign_kind, sign_of, spelling_in, word_kind, word_of}
+use Rattle.promql_parts.specs.Lexemes.{kind_of, lexeme_of, sign_kind, sign_of, spelling_in, word_kind}
+use Rattle.promql_lex.specs.Words.{word_of}
 use Rattle.promql_parts.specs.Patterned.{Becomes, HasPattern, HavePatterns, Kept, Patterned, is_bad, is_string, takes_pattern}
 use Rattle.promql_parts.specs.Patterned.Patterned.{done, last, more}
 use Rattle.promql_parts.specs.declared.lexeme.Lexeme.{Lexeme}
 use Rattle.promql_parts.specs.declared.lexeme.LexemeKind.{LexemeKind}
 use Rattle.promql_parts.specs.declared.lexeme.LexemeKind.TheVariants as kinds
 use Rattle.promql_parts.specs.declared.lexeme.Sign.{Sign}
-use Rattle.promql_parts.specs.declared.lexeme.Word.{Word}
+use Rattle.promql_lex.specs.declared.word.Word.{Word}
 
 -- whatever the lexemes that are left become, it stands behind what is found
 abbrev pub Leads : Bool → Kept → List Lexeme → Kept → List Lexeme → List Lexeme → Type 0

@@ -12,7 +12,7 @@ use Rattle.promql_parts.specs.declared.lexeme.Lexeme.{Lexeme}
 use Rattle.promql_parts.specs.declared.lexeme.LexemeKind.{LexemeKind}
 use Rattle.promql_parts.specs.declared.lexeme.LexemeKind.TheVariants as kinds
 use Rattle.promql_parts.specs.declared.lexeme.Sign.TheVariants.{LeftParen, RightParen, LeftBracket, RightBracket, Colon, Plus, Minus, AtSign}
-use Rattle.promql_parts.specs.declared.lexeme.Word.TheVariants.{Start, End}
+use Rattle.promql_lex.specs.declared.word.Word.TheVariants.{Start, End}
 use Rattle.promql_parts.specs.declared.span.Brackets.{Brackets}
 use Rattle.ticks.specs.declared.moment.Ms.{Ms}
 use Rattle.ticks.specs.Durations.{hundred_years}

@@ -10,7 +10,7 @@ use Rattle.promql_parts.specs.declared.lexeme.LexemeKind.{LexemeKind}
 use Rattle.promql_parts.specs.declared.lexeme.LexemeKind.TheVariants as kinds
 use Rattle.promql_parts.specs.declared.lexeme.Sign.{Sign}
 use Rattle.promql_parts.specs.declared.lexeme.Sign.TheVariants.{LeftParen, RightParen, Comma}
-use Rattle.promql_parts.specs.declared.lexeme.Word.TheVariants.{By, Without}
+use Rattle.promql_lex.specs.declared.word.Word.TheVariants.{By, Without}
 use Rattle.promql_parts.specs.Reads.{Read, Turn, ◌>>=◌, refused, refused_at, begins, after, all_turns}
 
 -- a colon stands in a metric's name alone

@@ -4,8 +4,12 @@ use Rattle.std.specs.Prelude.{◌≡◌, ℕ, Bool, true, false, List, ◌∷◌
 use Rattle.label_set.specs.declared.rules.Grouping.{Grouping}
 use Rattle.label_set.specs.declared.rules.Rule.{Rule}
 use Rattle.promql_ast.specs.declared.tree.Fixed.{Fixed}
+use Rattle.promql_lex.specs.Tokens.{is_bad as is_bad_token, tokens_of}
+use Rattle.promql_lex.specs.declared.token.Token.{Token}
 use Rattle.promql_parts.specs.Labels.{grouping_at, grouping_begun}
+use Rattle.promql_parts.specs.Lexemes.{lexeme_of}
 use Rattle.promql_parts.specs.Operators.{matching_at}
+use Rattle.promql_parts.specs.Patterned.{is_bad}
 use Rattle.promql_parts.specs.Productions.{BinModifier, begins_labels, Grouped, IsSelector, IsSign, Matchers, RangeBrackets, Signed, StepBrackets, TimeBehind}
 use Rattle.promql_parts.specs.Reads.{Read}
 use Rattle.promql_parts.specs.Selectors.{braces_at}
@@ -14,7 +18,7 @@ use Rattle.promql_parts.specs.declared.lexeme.Lexeme.{Lexeme}
 use Rattle.promql_parts.specs.declared.lexeme.LexemeKind.{LexemeKind}
 use Rattle.promql_parts.specs.declared.lexeme.LexemeKind.TheVariants as kinds
 use Rattle.promql_parts.specs.declared.lexeme.Sign.TheVariants.{LeftBrace, LeftBracket, AtSign}
-use Rattle.promql_parts.specs.declared.lexeme.Word.TheVariants.{On, Ignoring, GroupLeft, GroupRight, Bool as Flag}
+use Rattle.promql_lex.specs.declared.word.Word.TheVariants.{On, Ignoring, GroupLeft, GroupRight, Bool as Flag}
 use Rattle.promql_parts.specs.declared.operator.BinaryOp.{BinaryOp}
 use Rattle.promql_parts.specs.declared.operator.Matching.{Matching}
 use Rattle.promql_parts.specs.declared.selector.Matcher.{Matcher}
@@ -93,3 +97,7 @@ is_modifier _ = false
 abbrev pub ModifierIsRead : Type 0
 ModifierIsRead = (op : BinaryOp) (end : ℕ) (xs : List Lexeme) (matching : Matching) (bare : Bool) → BinModifier op xs matching bare → (l : Lexeme) (ls : List Lexeme) → is_modifier l.kind ≡ false
     → begins_labels bare (l ∷ ls) ≡ false → matching_at op end (xs ++ l ∷ ls) ≡ Ok (matching, l ∷ ls)
+
+-- a lexeme of a text is refused exactly where its token is: no other spelling that a token has is unknown to the grammar
+abbrev pub RefusedAsTokens : Type 0
+RefusedAsTokens = (text : List ℕ) (front : List Token) (t : Token) (back : List Token) → tokens_of text ≡ front ++ t ∷ back → is_bad (lexeme_of text t).kind ≡ is_bad_token t.kind

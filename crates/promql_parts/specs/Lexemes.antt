@@ -2,16 +2,14 @@
 use Rattle.std.specs.Prelude.{ℕ, ◌-◌, if◌then◌else◌, List, [], ◌∷◌, map, take, drop, Option, Some, None, bytes_eq, codes}
 use Rattle.std.specs.Map.{lookup}
 use Rattle.std.specs.Str.{is_utf8}
-use Rattle.frac_text.specs.Readings.{is_word}
-use Rattle.func_table.specs.declared.table.Aggregate.TheVariants.{Sum, Avg, Min, Max, Count, Group, Stdvar, TopK, BottomK, Quantile, CountValues}
 use Rattle.promql_ast.specs.declared.refusal.QueryRefusal.TheVariants.{BadToken}
+use Rattle.promql_lex.specs.Words.{word_of}
 use Rattle.promql_lex.specs.declared.token.Token.{Token}
 use Rattle.promql_lex.specs.declared.token.TokenKind.{TokenKind}
 use Rattle.promql_lex.specs.declared.token.TokenKind.TheVariants as tokens
+use Rattle.promql_lex.specs.declared.word.Word.{Word}
 use Rattle.promql_parts.specs.declared.lexeme.Sign.{Sign}
 use Rattle.promql_parts.specs.declared.lexeme.Sign.TheVariants.{LeftParen, RightParen, LeftBrace, RightBrace, LeftBracket, RightBracket, Comma, Colon, Plus, Minus, Star, Slash, Percent, Caret, Equal, EqualTwice, Unequal, Matches, Unmatched, Less, LessEqual, Greater, GreaterEqual, AtSign}
-use Rattle.promql_parts.specs.declared.lexeme.Word.{Word}
-use Rattle.promql_parts.specs.declared.lexeme.Word.TheVariants.{And, Or, Unless, By, Without, On, Ignoring, GroupLeft, GroupRight, Bool as Flag, Offset, Start, End, Atan2, Over}
 use Rattle.promql_parts.specs.declared.lexeme.Lexeme.{Lexeme}
 use Rattle.promql_parts.specs.declared.lexeme.LexemeKind.{LexemeKind}
 use Rattle.promql_parts.specs.declared.lexeme.LexemeKind.TheVariants as kinds
@@ -26,19 +24,6 @@ signs =
 
 abbrev pub sign_of : List ℕ → Option Sign
 sign_of spelling = lookup (λ other. bytes_eq other spelling) signs
-
--- each word beside its spelling in small letters
-abbrev pub words : List (List ℕ × Word)
-words =
-    (codes "and", And) ∷ (codes "or", Or) ∷ (codes "unless", Unless) ∷ (codes "by", By) ∷ (codes "without", Without) ∷ (codes "on", On)
-    ∷ (codes "ignoring", Ignoring) ∷ (codes "group_left", GroupLeft) ∷ (codes "group_right", GroupRight) ∷ (codes "bool", Flag) ∷ (codes "offset", Offset)
-    ∷ (codes "start", Start) ∷ (codes "end", End) ∷ (codes "atan2", Atan2) ∷ (codes "sum", Over Sum) ∷ (codes "avg", Over Avg) ∷ (codes "min", Over Min)
-    ∷ (codes "max", Over Max) ∷ (codes "count", Over Count) ∷ (codes "group", Over Group) ∷ (codes "stdvar", Over Stdvar) ∷ (codes "topk", Over TopK)
-    ∷ (codes "bottomk", Over BottomK) ∷ (codes "quantile", Over Quantile) ∷ (codes "count_values", Over CountValues) ∷ []
-
--- the word that a spelling is, in any case
-abbrev pub word_of : List ℕ → Option Word
-word_of spelling = lookup (λ other. is_word spelling other) words
 
 -- the bytes of a token
 abbrev pub spelling_in : List ℕ → ℕ → ℕ → List ℕ

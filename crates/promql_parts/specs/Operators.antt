@@ -8,7 +8,7 @@ use Rattle.promql_parts.specs.declared.lexeme.Lexeme.{Lexeme}
 use Rattle.promql_parts.specs.declared.lexeme.LexemeKind.{LexemeKind}
 use Rattle.promql_parts.specs.declared.lexeme.LexemeKind.TheVariants as kinds
 use Rattle.promql_parts.specs.declared.lexeme.Sign.TheVariants.{LeftParen, Plus, Minus, Star, Slash, Percent, Caret, EqualTwice, Unequal, Less, LessEqual, Greater, GreaterEqual}
-use Rattle.promql_parts.specs.declared.lexeme.Word.TheVariants.{And, Or, Unless, On, Ignoring, GroupLeft, GroupRight, Bool as Flag}
+use Rattle.promql_lex.specs.declared.word.Word.TheVariants.{And, Or, Unless, On, Ignoring, GroupLeft, GroupRight, Bool as Flag}
 use Rattle.promql_parts.specs.declared.operator.BinaryOp.{BinaryOp}
 use Rattle.promql_parts.specs.declared.operator.BinaryOp.TheVariants.{Arith, Compare, Set}
 use Rattle.promql_parts.specs.declared.operator.Matching.{Matching}

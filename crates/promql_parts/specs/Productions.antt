@@ -22,8 +22,8 @@ use Rattle.promql_parts.specs.declared.lexeme.LexemeKind.{LexemeKind}
 use Rattle.promql_parts.specs.declared.lexeme.LexemeKind.TheVariants as kinds
 use Rattle.promql_parts.specs.declared.lexeme.Sign.{Sign}
 use Rattle.promql_parts.specs.declared.lexeme.Sign.TheVariants.{LeftParen, RightParen, LeftBrace, RightBrace, LeftBracket, RightBracket, Comma, Colon, Plus, Minus, Equal, Unequal, Matches, Unmatched, AtSign}
-use Rattle.promql_parts.specs.declared.lexeme.Word.{Word}
-use Rattle.promql_parts.specs.declared.lexeme.Word.TheVariants.{By, Without, On, Ignoring, GroupLeft, GroupRight, Bool as Flag, Offset, Start, End, Atan2}
+use Rattle.promql_lex.specs.declared.word.Word.{Word}
+use Rattle.promql_lex.specs.declared.word.Word.TheVariants.{By, Without, On, Ignoring, GroupLeft, GroupRight, Bool as Flag, Offset, Start, End, Atan2}
 use Rattle.promql_parts.specs.declared.operator.BinaryOp.{BinaryOp}
 use Rattle.promql_parts.specs.declared.operator.Matching.{Matching as Matched}
 use Rattle.promql_parts.specs.declared.selector.Matcher.{Matcher}

@@ -10,7 +10,7 @@ use Rattle.promql_parts.specs.declared.lexeme.Lexeme.{Lexeme}
 use Rattle.promql_parts.specs.declared.lexeme.LexemeKind.{LexemeKind}
 use Rattle.promql_parts.specs.declared.lexeme.LexemeKind.TheVariants as kinds
 use Rattle.promql_parts.specs.declared.lexeme.Sign.TheVariants.{LeftParen, RightParen, RightBracket, Colon, Plus, Minus}
-use Rattle.promql_parts.specs.declared.lexeme.Word.TheVariants.{Start, End}
+use Rattle.promql_lex.specs.declared.word.Word.TheVariants.{Start, End}
 use Rattle.promql_parts.specs.declared.span.Brackets.{Brackets}
 use Rattle.promql_parts.specs.declared.span.Brackets.TheVariants.{Range, Steps}
 use Rattle.promql_parts.specs.Reads.{Read, ◌>>=◌, refused, refused_at, begins, after}

@@ -1,16 +1,14 @@
 //! Lexemes out of tokens.
-ghost use Rattle.frac_text.specs.Readings.{is_word};
-ghost use Rattle.promql_parts.specs.Lexemes.{kind_of, lexeme_of, name_kind, sign_kind, sign_of, spelling_in, word_kind, word_of};
+ghost use Rattle.promql_parts.specs.Lexemes.{kind_of, lexeme_of, name_kind, sign_kind, sign_of, spelling_in, word_kind};
+ghost use Rattle.promql_lex.specs.Words.{word_of};
 ghost use Rattle.std.specs.Map.{lookup};
-ghost use Rattle.std.specs.Char.{to_ascii_lowercase};
-ghost use Rattle.std.specs.Prelude.{◌≡◌, bytes_eq, false, map, true, IfOk, MatchOption};
+ghost use Rattle.std.specs.Prelude.{◌≡◌, bytes_eq, false, true, IfOk, MatchOption};
 ghost use Rattle.std.specs.Str.{is_utf8};
 
-use crate::lexeme::{Lexeme, LexemeKind, Sign, Word};
-use func_table::Aggregate;
+use crate::lexeme::{Lexeme, LexemeKind, Sign};
 use holders::Text;
 use promql_ast::QueryRefusal;
-use promql_lex::{Token, TokenKind};
+use promql_lex::{Token, TokenKind, word_of};
 use std::alloc::{AllocError, Global};
 use std::str;
 
@@ -42,35 +40,6 @@ const SIGNS: [(&str, Sign); 24] = [
     ("@", Sign::AtSign),
 ];
 
-/// Each word beside its spelling in small letters.
-const WORDS: [(&str, Word); 25] = [
-    ("and", Word::And),
-    ("or", Word::Or),
-    ("unless", Word::Unless),
-    ("by", Word::By),
-    ("without", Word::Without),
-    ("on", Word::On),
-    ("ignoring", Word::Ignoring),
-    ("group_left", Word::GroupLeft),
-    ("group_right", Word::GroupRight),
-    ("bool", Word::Bool),
-    ("offset", Word::Offset),
-    ("start", Word::Start),
-    ("end", Word::End),
-    ("atan2", Word::Atan2),
-    ("sum", Word::Over(Aggregate::Sum)),
-    ("avg", Word::Over(Aggregate::Avg)),
-    ("min", Word::Over(Aggregate::Min)),
-    ("max", Word::Over(Aggregate::Max)),
-    ("count", Word::Over(Aggregate::Count)),
-    ("group", Word::Over(Aggregate::Group)),
-    ("stdvar", Word::Over(Aggregate::Stdvar)),
-    ("topk", Word::Over(Aggregate::TopK)),
-    ("bottomk", Word::Over(Aggregate::BottomK)),
-    ("quantile", Word::Over(Aggregate::Quantile)),
-    ("count_values", Word::Over(Aggregate::CountValues)),
-];
-
 fn sign_in(table: &[(&str, Sign)], spelling: &[u8]) -> Option<Sign>
     ensures { result ≡ lookup (λ other. bytes_eq other.now spelling.now) table.now }
 {
@@ -86,30 +55,6 @@ fn sign_of(spelling: &[u8]) -> Option<Sign>
     ensures { result ≡ sign_of spelling.now }
 {
     sign_in(&SIGNS, spelling)
-}
-
-/// Whether the text is the word, in any case.
-fn is_word(text: &[u8], word: &[u8]) -> bool
-    ensures { result ≡ is_word text.now (map to_ascii_lowercase word.now) }
-{
-    text.eq_ignore_ascii_case(word)
-}
-
-fn word_in(table: &[(&str, Word)], spelling: &[u8]) -> Option<Word>
-    ensures { result ≡ lookup (λ other. is_word spelling.now (map to_ascii_lowercase other.now)) table.now }
-{
-    for (other, word) in table {
-        if is_word(spelling, other.as_bytes()) {
-            return Some(*word);
-        }
-    }
-    None
-}
-
-fn word_of(spelling: &[u8]) -> Option<Word>
-    ensures { result ≡ word_of spelling.now }
-{
-    word_in(&WORDS, spelling)
 }
 
 /// The bytes of a token.

@@ -3,13 +3,13 @@ ghost use Rattle.promql_parts.specs.Labels.{grouping_at, grouping_begun, groupin
 ghost use Rattle.promql_parts.specs.Reads.{Gives, all_turns};
 ghost use Rattle.std.specs.Prelude.{◌≡◌, ◌<◌, ◌≤◌, [], None, Some, length, IfOk, IsTrue, MatchOption, OnSome};
 
-use crate::lexeme::{Lexeme, LexemeKind, Sign, Word};
+use crate::lexeme::{Lexeme, LexemeKind, Sign};
 use crate::reads::{Read, after, begins, item_behind, refused, refused_at};
 use crate::taken::Taken;
 use holders::{Items, Text};
 use label_set::Grouping;
 use promql_ast::QueryRefusal;
-use promql_lex::LexFault;
+use promql_lex::{LexFault, Word};
 use std::alloc::Global;
 
 fn has_colon(name: &str) -> bool

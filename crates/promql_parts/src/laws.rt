@@ -1,7 +1,16 @@
 //! Laws of the readers of parts and their grammar.
-ghost use Rattle.promql_parts.specs.Laws.{BracedIsRead, BracesAreMatchers, BracketsAreRead, BracketsAreSpans, GroupedIsRead, GroupingsAreGrouped, MatchingsAreModifiers, ModifierIsRead, OffsetIsRead, OffsetsAreSigned, TimeIsRead, TimesStandBehind};
+ghost use Rattle.promql_parts.specs.Laws.{BracedIsRead, BracesAreMatchers, BracketsAreRead, BracketsAreSpans, GroupedIsRead, GroupingsAreGrouped, MatchingsAreModifiers, ModifierIsRead, OffsetIsRead, OffsetsAreSigned, RefusedAsTokens, TimeIsRead, TimesStandBehind};
 ghost use Rattle.promql_parts.specs.Limits.{OffsetsAreWithin, RangesAreWithin, RulesHaveTheirs, StepsAreWithin, TimesAreWithin};
 ghost use Rattle.promql_parts.specs.Stands.{BracesStand, BracketsStand, GroupingBehindStands, GroupingStands, MatchingStands, OffsetStands, TimeStands};
+
+use promql_lex::kinds_are_of_spellings;
+
+/// A lexeme of a text is refused exactly where its token is, with the same refusal.
+pub fn lexemes_are_refused_as_their_tokens()
+    ensures { RefusedAsTokens }
+{
+    kinds_are_of_spellings();
+}
 
 /// Each part that is read is that part by its productions.
 pub fn what_is_read_is_a_part()

@@ -1,10 +1,10 @@
 //! Lexemes: tokens by what the grammar knows them as.
 ghost use Rattle.std.specs.Prelude.{◌≡◌, IfOk};
 
-use func_table::Aggregate;
 use holders::Text;
 use label_set::PatternId;
 use promql_ast::QueryRefusal;
+use promql_lex::Word;
 use std::alloc::AllocError;
 use ticks::Ms;
 use xfrac::XFrac;
@@ -60,27 +60,6 @@ pub enum Sign {
     GreaterEqual,
     /// `@`
     AtSign,
-}
-
-/// The words of the grammar, which may be written in any case.
-#[derive(Clone, Copy, Debug, PartialEq, Eq)]
-pub enum Word {
-    And,
-    Or,
-    Unless,
-    By,
-    Without,
-    On,
-    Ignoring,
-    GroupLeft,
-    GroupRight,
-    Bool,
-    Offset,
-    Start,
-    End,
-    Atan2,
-    /// An aggregation.
-    Over(Aggregate),
 }
 
 /// What a lexeme is.

@@ -4,12 +4,13 @@ ghost use Rattle.promql_parts.specs.Reads.{Gives};
 ghost use Rattle.std.specs.Prelude.{◌≡◌, ◌<◌, ◌≤◌, length, IfOk, OnSome};
 
 use crate::labels::labels_at;
-use crate::lexeme::{Lexeme, LexemeKind, Sign, Word};
+use crate::lexeme::{Lexeme, LexemeKind, Sign};
 use crate::reads::{Read, begins, refused, refused_at};
 use crate::taken::Taken;
 use func_table::SetOp;
 use holders::{Items, Text};
 use label_set::{Card, Pairing};
+use promql_lex::Word;
 use std::alloc::Global;
 use xfrac::{ArithOp, CompareOp};
 

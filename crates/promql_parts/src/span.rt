@@ -5,10 +5,10 @@ ghost use Rattle.promql_parts.specs.Spans.{amount_at, amount_kind, brackets_at, 
 ghost use Rattle.std.specs.Prelude.{◌≡◌, ◌<◌, ◌≤◌, length, unsigned_abs, IfOk, IsOk, OnSome};
 ghost use Rattle.ticks.specs.Durations.{hundred_years};
 
-use crate::lexeme::{Lexeme, LexemeKind, Sign, Word};
+use crate::lexeme::{Lexeme, LexemeKind, Sign};
 use crate::reads::{Read, after, begins, refused, refused_at};
 use promql_ast::{Fixed, QueryRefusal};
-use promql_lex::LexFault;
+use promql_lex::{LexFault, Word};
 use ticks::Ms;
 use xfrac::laws::is_number;
 use xfrac::{XFrac, parts};
