@@ -1,3 +1,4 @@
+pub mod Edges
 pub mod Spelled
 pub mod Steps
 pub mod Walks

@@ -1,13 +1,32 @@
 -- The loop over the instants of an outer walk, in whose ranges the multiples of a step are sought.
-use Rattle.std.proofs.Common.{◌≡◌, ℕ, ◌+◌, ◌<◌, ◌≤◌, ◌^◌, refl, sym, subst, arith}
-use Rattle.std.specs.Prelude.{⊤, ℤ, pos, ◌+ℤ◌, ◌-ℤ◌, ◌<ℤ◌, ◌≤ℤ◌, Option, None, Some, IfSome, IfNone, unsigned_abs, is_some, true, false}
+use Rattle.std.proofs.Common.{◌≡◌, ℕ, ◌+◌, ◌<◌, ◌≤◌, ◌^◌, refl, sym, subst, ap, ◌∙◌, arith}
+use Rattle.std.specs.Prelude.{⊤, Bool, ℤ, pos, ◌+ℤ◌, ◌-ℤ◌, ◌<ℤ◌, ◌≤ℤ◌, Option, None, Some, IfSome, IfNone, unsigned_abs, is_some, true, false}
 use Rattle.std.proofs.lemmas.Int.{ints, by_lt_z}
 use Rattle.ticks.specs.declared.grid.Grid as grid
 use Rattle.ticks.specs.declared.moment.Ms.{Ms}
 use Rattle.ticks.specs.declared.walk.Walk.{Walk, Grid, Fixed, Multiples', end_of-Walk, more_of-Walk}
 use Rattle.ticks.specs.declared.walk.Walk.TheVariants.{Multiples}
 use Rattle.ticks.specs.declared.walk.WalkMoment.{WalkMoment}
+use Rattle.ticks.specs.Edges.{IsFrom, before}
 use Rattle.ticks.specs.Walks.{HasTimes, IsBarren, IsFirstInWindow, IsInWindow, IsInstant, IsTime, LeadsToTimes, moment_at, multiples-instants, multiples-times}
+
+-- what is in a window isn't before its edge
+pub from-edge : (closed : Bool) (edge t : ℤ) → IsFrom closed edge t → edge ≤ℤ t
+from-edge false edge t h = omega (arith, ints, h)
+from-edge true edge t h = h
+
+-- a window that begins earlier has it too
+from-earlier : (closed : Bool) (edge later t : ℤ) → edge ≤ℤ later → IsFrom closed later t → IsFrom closed edge t
+from-earlier false edge later t h is = omega (arith, ints, h, is)
+from-earlier true edge later t h is = omega (arith, ints, h, is)
+
+-- the last time before a window is its edge or a millisecond before
+pub before-near : (closed : Bool) (edge : ℤ) → ((edge -ℤ pos 1) ≤ℤ before closed edge) × (before closed edge ≤ℤ edge)
+before-near false edge = (omega (arith, ints), omega (arith, ints))
+before-near true edge = (omega (arith, ints), omega (arith, ints))
+
+pub at-edge : (closed : Bool) (last edge same : ℤ) → last ≡ before closed edge → edge ≡ same → last ≡ before closed same
+at-edge closed last edge same is e = is ∙ ap (before closed) e
 
 pub instant-is_time : (walk : Walk) → LeadsToTimes walk → (t : ℤ) → IsInstant walk t → IsTime t
 instant-is_time (Grid g) h t i =
@@ -16,7 +35,8 @@ instant-is_time (Grid g) h t i =
 instant-is_time (Fixed at) h t i = subst IsTime (sym i) h
 instant-is_time (Multiples' p (more_of-Walk outer end_of-Walk) moment range step) h t i =
     let times = h.3 i.0 i.1 in
-    record { low = omega (arith, ints, times.begins.low, i.2.after_edge); high = omega (arith, ints, times.ends.high, i.2.to_moment) }
+    let from = from-edge moment.closed _ t i.2.from_edge in
+    record { low = omega (arith, ints, times.begins.low, from); high = omega (arith, ints, times.ends.high, i.2.to_moment) }
 
 abbrev pub IsPast : Option Ms → ℤ → Type 0
 IsPast None o = ⊤
@@ -29,7 +49,7 @@ IsOuter outer (Some at) = IsInstant outer at.0
 -- the instant is the outer walk's, and the ranges of those before it have nothing later than the time
 pub record HasLooked (outer : Walk) (moment : WalkMoment) (range step t : ℤ) (instant : Option Ms) : Type 0 where
   pub outer_instant : IsOuter outer instant
-  pub barren : (o : ℤ) → IsInstant outer o → IsPast instant o → IsBarren (moment_at moment o) range step t
+  pub barren : (o : ℤ) → IsInstant outer o → IsPast instant o → IsBarren moment.closed (moment_at moment o) range step t
 
 -- how far the instants may still rise
 abbrev pub left : Option Ms → ℕ
@@ -37,27 +57,27 @@ left None = 0
 left (Some at) = unsigned_abs (pos (2 ^ 60 + 1) -ℤ at.0)
 
 -- the moments of later instants aren't earlier
-moment_by-rises : (fixed : Option Ms) (offset : Ms) (o p : ℤ) → o ≤ℤ p
-    → moment_at (record { fixed = fixed; offset = offset }) o ≤ℤ moment_at (record { fixed = fixed; offset = offset }) p
-moment_by-rises None offset o p h = omega (arith, ints, h)
-moment_by-rises (Some at) offset o p h = omega (arith, ints)
+moment_by-rises : (fixed : Option Ms) (offset : Ms) (closed : Bool) (o p : ℤ) → o ≤ℤ p
+    → moment_at (record { fixed = fixed; offset = offset; closed = closed }) o ≤ℤ moment_at (record { fixed = fixed; offset = offset; closed = closed }) p
+moment_by-rises None offset closed o p h = omega (arith, ints, h)
+moment_by-rises (Some at) offset closed o p h = omega (arith, ints)
 
 moment_at-rises : (moment : WalkMoment) (o p : ℤ) → o ≤ℤ p → moment_at moment o ≤ℤ moment_at moment p
-moment_at-rises moment o p h = moment_by-rises moment.fixed moment.offset o p h
+moment_at-rises moment o p h = moment_by-rises moment.fixed moment.offset moment.closed o p h
 
 -- with a fixed time every instant has the same moment
-moment_by-same : (fixed : Option Ms) (offset : Ms) (o p : ℤ) → is_some fixed ≡ true
-    → moment_at (record { fixed = fixed; offset = offset }) o ≡ moment_at (record { fixed = fixed; offset = offset }) p
-moment_by-same None offset o p h = absurd (cc)
-moment_by-same (Some f) offset o p h = refl
+moment_by-same : (fixed : Option Ms) (offset : Ms) (closed : Bool) (o p : ℤ) → is_some fixed ≡ true
+    → moment_at (record { fixed = fixed; offset = offset; closed = closed }) o ≡ moment_at (record { fixed = fixed; offset = offset; closed = closed }) p
+moment_by-same None offset closed o p h = absurd (cc)
+moment_by-same (Some f) offset closed o p h = refl
 
 -- the least multiple in the range of an instant is the least of all, where those before it have none
 pub found-is_least : (outer : Walk) (moment : WalkMoment) (range step t : ℤ) (at : Ms) (found : ℤ) → HasLooked outer moment range step t (Some at)
-    → IsFirstInWindow (moment_at moment at.0) range step t found → (u : ℤ) → (o : ℤ) → IsInstant outer o → IsInWindow (moment_at moment o) range step u → t <ℤ u
+    → IsFirstInWindow moment.closed (moment_at moment at.0) range step t found → (u : ℤ) → (o : ℤ) → IsInstant outer o → IsInWindow moment.closed (moment_at moment o) range step u → t <ℤ u
     → found ≤ℤ u
 found-is_least outer moment range step t at found looked first u o i w later = by_lt_z o at.0
     (λ past. absurd ((looked.barren o i past).none u w later))
-    (λ h. let rises = moment_at-rises moment at.0 o h in first.least u w.on_step later (omega (arith, ints, rises, w.after_edge)))
+    (λ h. let rises = moment_at-rises moment at.0 o h in first.least u w.on_step later (from-earlier moment.closed _ _ u (omega (arith, ints, rises)) w.from_edge))
 
 module _ (outer : Walk) (moment : WalkMoment) (range step t : ℤ) where
   pub started : (w : Walk) → w ≡ outer → (start : Ms) (instant : Option Ms) → LeadsToTimes outer
@@ -80,13 +100,13 @@ module _ (outer : Walk) (moment : WalkMoment) (range step t : ℤ) where
     };
   }
 
-  barren-at : (at : Ms) → HasLooked outer moment range step t (Some at) → IsBarren (moment_at moment at.0) range step t → (o : ℤ) → IsInstant outer o
-      → (at.0 <ℤ o → ⊥) → IsBarren (moment_at moment o) range step t
+  barren-at : (at : Ms) → HasLooked outer moment range step t (Some at) → IsBarren moment.closed (moment_at moment at.0) range step t → (o : ℤ) → IsInstant outer o
+      → (at.0 <ℤ o → ⊥) → IsBarren moment.closed (moment_at moment o) range step t
   barren-at at looked here o i not-later = by_lt_z o at.0 (λ past. looked.barren o i past) (λ h. by_lt_z at.0 o (λ l. absurd (not-later l))
-      (λ g. let e : at.0 ≡ o = omega (arith, ints, h, g) in subst (λ z. IsBarren (moment_at moment z) range step t) e here))
+      (λ g. let e : at.0 ≡ o = omega (arith, ints, h, g) in subst (λ z. IsBarren moment.closed (moment_at moment z) range step t) e here))
 
   pub moved : (w : Walk) → w ≡ outer → (at : Ms) (next : Option Ms) → HasLooked outer moment range step t (Some at)
-      → IsBarren (moment_at moment at.0) range step t
+      → IsBarren moment.closed (moment_at moment at.0) range step t
       → IfSome next (λ n. IsInstant w n.0) → IfSome next (λ n. (u : ℤ) → IsInstant w u → at.0 <ℤ u → n.0 ≤ℤ u)
       → IfNone next ((u : ℤ) → IsInstant w u → at.0 <ℤ u → ⊥) → HasLooked outer moment range step t next
   moved w e at None looked here instant least none = record {
@@ -105,10 +125,10 @@ module _ (outer : Walk) (moment : WalkMoment) (range step t : ℤ) where
       let h = instant-is_time outer times n.0 (subst (λ z. IsInstant z n.0) e instant) in omega (arith, ints, h.high, later)
 
 module _ (w outer : Walk) (moment : WalkMoment) (range step : Ms) (t : ℤ) (e : w ≡ Multiples outer moment range step) where
-  opened : (u : ℤ) → IsInstant w u → (o : ℤ) × IsInstant outer o × IsInWindow (moment_at moment o) range.0 step.0 u
+  opened : (u : ℤ) → IsInstant w u → (o : ℤ) × IsInstant outer o × IsInWindow moment.closed (moment_at moment o) range.0 step.0 u
   opened u i = coe 0 1 (k. multiples-instants outer moment range step u k) (subst (λ z. IsInstant z u) e i)
 
-  closed : (u : ℤ) → (o : ℤ) × IsInstant outer o × IsInWindow (moment_at moment o) range.0 step.0 u → IsInstant w u
+  closed : (u : ℤ) → (o : ℤ) × IsInstant outer o × IsInWindow moment.closed (moment_at moment o) range.0 step.0 u → IsInstant w u
   closed u i = subst (λ z. IsInstant z u) (sym e) (coe 1 0 (k. multiples-instants outer moment range step u k) i)
 
   pub times-of : LeadsToTimes w
@@ -116,26 +136,26 @@ module _ (w outer : Walk) (moment : WalkMoment) (range step : Ms) (t : ℤ) (e :
   times-of h = coe 0 1 (k. multiples-times outer moment range step k) (subst LeadsToTimes e h)
 
   pub found-instant : (at : Ms) (m : ℤ) → m ≡ moment_at moment at.0 → (found : Option Ms) → HasLooked outer moment range.0 step.0 t (Some at)
-      → IfSome found (λ f. IsFirstInWindow m range.0 step.0 t f.0) → IfSome found (λ f. IsInstant w f.0)
+      → IfSome found (λ f. IsFirstInWindow moment.closed m range.0 step.0 t f.0) → IfSome found (λ f. IsInstant w f.0)
   found-instant at m d None looked first = tt
   found-instant at m d (Some f) looked first =
-      closed f.0 (at.0, looked.outer_instant, subst (λ z. IsInWindow z range.0 step.0 f.0) d first.in_window)
+      closed f.0 (at.0, looked.outer_instant, subst (λ z. IsInWindow moment.closed z range.0 step.0 f.0) d first.in_window)
 
   pub found-least : (at : Ms) (m : ℤ) → m ≡ moment_at moment at.0 → (found : Option Ms) → HasLooked outer moment range.0 step.0 t (Some at)
-      → IfSome found (λ f. IsFirstInWindow m range.0 step.0 t f.0) → IfSome found (λ f. (u : ℤ) → IsInstant w u → t <ℤ u → f.0 ≤ℤ u)
+      → IfSome found (λ f. IsFirstInWindow moment.closed m range.0 step.0 t f.0) → IfSome found (λ f. (u : ℤ) → IsInstant w u → t <ℤ u → f.0 ≤ℤ u)
   found-least at m d None looked first = tt
   found-least at m d (Some f) looked first = λ u i later.
       let j = opened u i in
-      found-is_least outer moment range.0 step.0 t at f.0 looked (subst (λ z. IsFirstInWindow z range.0 step.0 t f.0) d first) u j.0 j.1 j.2 later
+      found-is_least outer moment range.0 step.0 t at f.0 looked (subst (λ z. IsFirstInWindow moment.closed z range.0 step.0 t f.0) d first) u j.0 j.1 j.2 later
 
   pub all-barren : (instant : Option Ms) → is_some instant ≡ false → HasLooked outer moment range.0 step.0 t instant → (u : ℤ) → IsInstant w u → t <ℤ u → ⊥
   all-barren None h looked u i later = let j = opened u i in (looked.barren j.0 j.1 tt).none u j.2 later
   all-barren (Some at) h looked u i later = absurd (cc)
 
-  pub fixed-barren : (at : Ms) → is_some moment.fixed ≡ true → IsBarren (moment_at moment at.0) range.0 step.0 t → (u : ℤ) → IsInstant w u → t <ℤ u → ⊥
+  pub fixed-barren : (at : Ms) → is_some moment.fixed ≡ true → IsBarren moment.closed (moment_at moment at.0) range.0 step.0 t → (u : ℤ) → IsInstant w u → t <ℤ u → ⊥
   fixed-barren at h here u i later =
       let j = opened u i in
-      here.none u (subst (λ z. IsInWindow z range.0 step.0 u) (moment_by-same moment.fixed moment.offset j.0 at.0 h) j.2) later
+      here.none u (subst (λ z. IsInWindow moment.closed z range.0 step.0 u) (moment_by-same moment.fixed moment.offset moment.closed j.0 at.0 h) j.2) later
 
 pub none-holds : (found : Option Ms) (P : Type 0) → is_some found ≡ false → IfNone found P → P
 none-holds None P e h = h
@@ -152,11 +172,11 @@ first-none w times None low h none = λ u i. none u i (let b = instant-is_time w
 first-none w times (Some at) low h none = tt
 
 -- a subquery over a walk keeps to the times where the instants, its offset and its range are small
-module _ (outer : Walk) (bound : ℕ) (small : bound ≤ 2 ^ 50) (near : (o : ℤ) → IsInstant outer o → (pos 0 ≤ℤ (o +ℤ pos bound)) × (o ≤ℤ pos bound)) (offset range step : Ms)
+module _ (outer : Walk) (bound : ℕ) (small : bound ≤ 2 ^ 50) (near : (o : ℤ) → IsInstant outer o → (pos 0 ≤ℤ (o +ℤ pos bound)) × (o ≤ℤ pos bound)) (offset : Ms) (closed : Bool) (range step : Ms)
     (a : offset.0 <ℤ pos (2 ^ 40)) (b : pos 0 <ℤ (offset.0 +ℤ pos (2 ^ 40))) (r : pos 0 <ℤ range.0) (s : range.0 <ℤ pos (2 ^ 40)) where
-  pub near-leads : LeadsToTimes outer → pos 0 <ℤ step.0 → LeadsToTimes (Multiples outer (record { fixed = None; offset = offset }) range step)
+  pub near-leads : LeadsToTimes outer → pos 0 <ℤ step.0 → LeadsToTimes (Multiples outer (record { fixed = None; offset = offset; closed = closed }) range step)
   near-leads times p =
-      coe 1 0 (k. multiples-times outer (record { fixed = None; offset = offset }) range step k) (
+      coe 1 0 (k. multiples-times outer (record { fixed = None; offset = offset; closed = closed }) range step k) (
         times,
         r,
         p,
@@ -168,18 +188,19 @@ module _ (outer : Walk) (bound : ℕ) (small : bound ≤ 2 ^ 50) (near : (o : �
             },
       )
 
-  pub near-instants : (t : ℤ) → IsInstant (Multiples outer (record { fixed = None; offset = offset }) range step) t → (pos 0 ≤ℤ (t +ℤ pos (bound + 2 ^ 41))) × (t ≤ℤ pos (bound + 2 ^ 41))
+  pub near-instants : (t : ℤ) → IsInstant (Multiples outer (record { fixed = None; offset = offset; closed = closed }) range step) t → (pos 0 ≤ℤ (t +ℤ pos (bound + 2 ^ 41))) × (t ≤ℤ pos (bound + 2 ^ 41))
   near-instants t i =
-      let j = coe 0 1 (k. multiples-instants outer (record { fixed = None; offset = offset }) range step t k) i in
+      let j = coe 0 1 (k. multiples-instants outer (record { fixed = None; offset = offset; closed = closed }) range step t k) i in
       let n = near j.0 j.1 in
-      (omega (arith, ints, a, b, r, s, n.0, j.2.after_edge), omega (arith, ints, a, b, n.1, j.2.to_moment))
+      let from = from-edge closed _ t j.2.from_edge in
+      (omega (arith, ints, a, b, r, s, n.0, from), omega (arith, ints, a, b, n.1, j.2.to_moment))
 
 -- so does a subquery at a fixed time
-pub pinned-leads : (outer : Walk) → LeadsToTimes outer → (at offset range step : Ms) → at.0 <ℤ pos (2 ^ 40) → pos 0 <ℤ (at.0 +ℤ pos (2 ^ 40)) → offset.0 <ℤ pos (2 ^ 40)
+pub pinned-leads : (outer : Walk) → LeadsToTimes outer → (at offset : Ms) (closed : Bool) (range step : Ms) → at.0 <ℤ pos (2 ^ 40) → pos 0 <ℤ (at.0 +ℤ pos (2 ^ 40)) → offset.0 <ℤ pos (2 ^ 40)
     → pos 0 <ℤ (offset.0 +ℤ pos (2 ^ 40)) → pos 0 <ℤ range.0 → range.0 <ℤ pos (2 ^ 40) → pos 0 <ℤ step.0
-    → LeadsToTimes (Multiples outer (record { fixed = Some at; offset = offset }) range step)
-pinned-leads outer times at offset range step f g a b r s p =
-    coe 1 0 (k. multiples-times outer (record { fixed = Some at; offset = offset }) range step k) (
+    → LeadsToTimes (Multiples outer (record { fixed = Some at; offset = offset; closed = closed }) range step)
+pinned-leads outer times at offset closed range step f g a b r s p =
+    coe 1 0 (k. multiples-times outer (record { fixed = Some at; offset = offset; closed = closed }) range step k) (
       times,
       r,
       p,

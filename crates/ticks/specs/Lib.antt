@@ -1,4 +1,5 @@
 pub mod Durations
+pub mod Edges
 pub mod Grids
 pub mod Moments
 pub mod Pairs

@@ -1,7 +1,8 @@
 -- Walks: the instants that a part of a query is evaluated at, as a set of times in milliseconds. A subquery of PromQL is
--- evaluated at the multiples of its step in the range that ends at its moment (Prometheus, "Subquery"); the range is
--- open on the left. How walks are put together is this project's own.
-use Rattle.std.specs.Prelude.{◌≡◌, ◌^◌, ⊤, refl, ℤ, pos, neg_ℤ, ◌-ℤ◌, ◌<ℤ◌, ◌≤ℤ◌, Option, None, Some}
+-- evaluated at the multiples of its step in the range that ends at its moment (Prometheus, "Subquery"); the range is open or
+-- closed on the left, as its moment says. How walks are put together is this project's own.
+use Rattle.std.specs.Prelude.{◌≡◌, ◌^◌, ⊤, Bool, refl, ℤ, pos, neg_ℤ, ◌-ℤ◌, ◌<ℤ◌, ◌≤ℤ◌, Option, None, Some}
+use Rattle.ticks.specs.Edges.{IsFrom}
 use Rattle.ticks.specs.Grids.{IsOnGrid}
 use Rattle.ticks.specs.Steps.{IsMultiple}
 use denote.Hole.Carrier.{hidden}
@@ -12,21 +13,21 @@ use Rattle.ticks.specs.declared.walk.Walk.TheBlock.{hidden-the_row-Walk-0}
 use Rattle.ticks.specs.declared.walk.Walk.TheVariants.{Multiples}
 use Rattle.ticks.specs.declared.walk.WalkMoment.{WalkMoment}
 
--- the multiples of a step in the range that ends at a moment; the range's left edge is not taken
-pub record IsInWindow (moment range step t : ℤ) : Type 0 where
-  pub after_edge : (moment -ℤ range) <ℤ t
+-- the multiples of a step in the range that ends at a moment; the range's left edge is taken where it is closed
+pub record IsInWindow (closed : Bool) (moment range step t : ℤ) : Type 0 where
+  pub from_edge : IsFrom closed (moment -ℤ range) t
   pub to_moment : t ≤ℤ moment
   pub on_step : IsMultiple step t
 
 -- the least multiple that is later than a time, in the range that ends at a moment
-pub record IsFirstInWindow (moment range step t at : ℤ) : Type 0 where
-  pub in_window : IsInWindow moment range step at
+pub record IsFirstInWindow (closed : Bool) (moment range step t at : ℤ) : Type 0 where
+  pub in_window : IsInWindow closed moment range step at
   pub later : t <ℤ at
-  pub least : (u : ℤ) → IsMultiple step u → t <ℤ u → (moment -ℤ range) <ℤ u → at ≤ℤ u
+  pub least : (u : ℤ) → IsMultiple step u → t <ℤ u → IsFrom closed (moment -ℤ range) u → at ≤ℤ u
 
 -- no multiple in the range that ends at a moment is later than a time
-pub record IsBarren (moment range step t : ℤ) : Type 0 where
-  pub none : (u : ℤ) → IsInWindow moment range step u → t <ℤ u → ⊥
+pub record IsBarren (closed : Bool) (moment range step t : ℤ) : Type 0 where
+  pub none : (u : ℤ) → IsInWindow closed moment range step u → t <ℤ u → ⊥
 
 -- the moment that belongs to an instant: the fixed time, if there is one, or the instant, less the offset
 abbrev pub moment_at : WalkMoment → ℤ → ℤ
@@ -41,7 +42,7 @@ abbrev pub IsInstant : Walk → ℤ → Type 0
 IsInstant (Grid g) t = IsOnGrid g.start.0 g.end.0 g.step.0 t
 IsInstant (Fixed at) t = t ≡ at.0
 IsInstant (Multiples' p (more_of-Walk outer end_of-Walk) moment range step) t =
-    (o : ℤ) × IsInstant outer o × IsInWindow (moment_at moment o) range.0 step.0 t
+    (o : ℤ) × IsInstant outer o × IsInWindow moment.closed (moment_at moment o) range.0 step.0 t
 
 -- a time that is at most 2^60 in magnitude
 pub record IsTime (t : ℤ) : Type 0 where
@@ -63,7 +64,7 @@ LeadsToTimes (Multiples' p (more_of-Walk outer end_of-Walk) moment range step) =
 
 -- what the two say of the multiples in the ranges of an outer walk
 pub multiples-instants : (outer : Walk) (moment : WalkMoment) (range step : Ms) (t : ℤ) → IsInstant (Multiples outer moment range step) t
-    ≡ ((o : ℤ) × IsInstant outer o × IsInWindow (moment_at moment o) range.0 step.0 t)
+    ≡ ((o : ℤ) × IsInstant outer o × IsInWindow moment.closed (moment_at moment o) range.0 step.0 t)
 unfolding hidden-the_row-Walk-0 hidden
 multiples-instants outer moment range step t = refl
 

@@ -1,6 +1,7 @@
 //! Times and durations, in whole milliseconds.
 #![tactic(auto)]
 
+mod edge;
 mod grid;
 mod laws;
 mod moment;
@@ -12,6 +13,7 @@ mod walk;
 mod work;
 mod write;
 
+pub use edge::{closed_windows_have_their_edge, last_before};
 pub use grid::Grid;
 pub use laws::{durations_are_found, instants_are_numbered, spellings_are_durations};
 pub use moment::Ms;

@@ -129,6 +129,7 @@ fn walks_are_copied_whole(rt: HostRuntime) -> Result<(), Fail> {
         moment: WalkMoment {
             fixed: None,
             offset: Ms(5),
+            closed: true,
         },
         range: Ms(30),
         step: Ms(10),
@@ -142,6 +143,7 @@ fn subquery(
     alloc: Global,
     outer: Walk,
     offset: i32,
+    closed: bool,
     range: u16,
     step: u16,
 ) -> Result<Walk, AllocError>
@@ -158,6 +160,7 @@ fn subquery(
         moment: WalkMoment {
             fixed: None,
             offset: Ms(offset as i64),
+            closed,
         },
         range: Ms(range as i64),
         step: Ms(step as i64),
@@ -169,6 +172,7 @@ fn over_subquery(
     alloc: Global,
     outer: Walk,
     offset: i32,
+    closed: bool,
     range: u16,
     step: u16,
 ) -> Result<Walk, AllocError>
@@ -184,6 +188,7 @@ fn over_subquery(
         moment: WalkMoment {
             fixed: None,
             offset: Ms(offset as i64),
+            closed,
         },
         range: Ms(range as i64),
         step: Ms(step as i64),
@@ -196,6 +201,7 @@ fn pinned(
     outer: Walk,
     at: i32,
     offset: i32,
+    closed: bool,
     range: u16,
     step: u16,
 ) -> Result<Walk, AllocError>
@@ -210,6 +216,7 @@ fn pinned(
         moment: WalkMoment {
             fixed: Some(Ms(at as i64)),
             offset: Ms(offset as i64),
+            closed,
         },
         range: Ms(range as i64),
         step: Ms(step as i64),
@@ -272,7 +279,7 @@ fn subqueries_walk_over_multiples(rt: HostRuntime) -> Result<(), Fail> {
     for (start, end, step, offset, range, multiple, instants) in rows {
         if let Ok(grid) = Grid::of(Ms(start), Ms(end), Ms(step)) {
             assert!(rt; 0 < range && 0 < multiple);
-            let walk = subquery(rt.alloc(), Walk::Grid(grid), offset, range, multiple)?;
+            let walk = subquery(rt.alloc(), Walk::Grid(grid), offset, false, range, multiple)?;
             assert_eq!(rt; listed(rt.alloc(), &walk)?.as_str(), instants);
         } else {
             assert!(rt; false);
@@ -324,8 +331,8 @@ fn subqueries_walk_over_subqueries(rt: HostRuntime) -> Result<(), Fail> {
         if let Ok(grid) = Grid::of(Ms(start), Ms(end), Ms(step)) {
             assert!(rt; 0 < range && 0 < multiple);
             assert!(rt; 0 < wide && 0 < apart);
-            let inner = subquery(rt.alloc(), Walk::Grid(grid), offset, range, multiple)?;
-            let walk = over_subquery(rt.alloc(), inner, later, wide, apart)?;
+            let inner = subquery(rt.alloc(), Walk::Grid(grid), offset, false, range, multiple)?;
+            let walk = over_subquery(rt.alloc(), inner, later, false, wide, apart)?;
             assert_eq!(rt; listed(rt.alloc(), &walk)?.as_str(), instants);
         } else {
             assert!(rt; false);
@@ -355,11 +362,101 @@ fn subqueries_walk_over_a_fixed_time(rt: HostRuntime) -> Result<(), Fail> {
             rt.alloc(),
             Walk::Fixed(Ms(at as i64)),
             offset,
+            false,
             range,
             multiple,
         )?;
         assert_eq!(rt; listed(rt.alloc(), &walk)?.as_str(), instants);
-        let walk = pinned(rt.alloc(), Walk::Fixed(Ms(9)), at, offset, range, multiple)?;
+        let walk = pinned(
+            rt.alloc(),
+            Walk::Fixed(Ms(9)),
+            at,
+            offset,
+            false,
+            range,
+            multiple,
+        )?;
+        assert_eq!(rt; listed(rt.alloc(), &walk)?.as_str(), instants);
+    }
+    Ok(())
+}
+
+#[test]
+fn closed_subqueries_walk_over_their_edges(rt: HostRuntime) -> Result<(), Fail> {
+    // each list is a plain enumeration of the times, made elsewhere: a grid, then the offset, range and step of each
+    // subquery, and whether it is closed on the left
+    let rows = [
+        (
+            (0, 60, 20),
+            (0, true, 30, 10),
+            (0, true, 15, 5),
+            " -45 -40 -35 -30 -25 -20 -15 -10 -5 0 5 10 15 20 25 30 35 40 45 50 55 60",
+        ),
+        (
+            (0, 60, 20),
+            (0, true, 20, 10),
+            (0, false, 1, 5),
+            " -20 -10 0 10 20 30 40 50 60",
+        ),
+        (
+            (3, 63, 20),
+            (0, true, 3, 10),
+            (0, false, 5, 10),
+            " 0 20 40 60",
+        ),
+        ((3, 63, 20), (0, false, 3, 10), (0, true, 5, 10), ""),
+        ((5, 5, 1), (0, true, 5, 10), (0, true, 10, 10), " -10 0"),
+        ((5, 5, 1), (-1, true, 5, 10), (0, true, 10, 10), ""),
+        (
+            (-50, 50, 25),
+            (-13, true, 25, 20),
+            (6, true, 12, 9),
+            " -72 -54 -36 -27 -18 -9 9 27 45 54",
+        ),
+        ((1, 2, 1), (1, true, 1, 50), (0, true, 1, 1), " -1 0"),
+        ((-7, -7, 1), (0, true, 7, 7), (0, true, 7, 7), " -21 -14 -7"),
+    ];
+    for (
+        (start, end, step),
+        (offset, inside, range, multiple),
+        (later, outside, wide, apart),
+        instants,
+    ) in rows {
+        if let Ok(grid) = Grid::of(Ms(start), Ms(end), Ms(step)) {
+            assert!(rt; 0 < range && 0 < multiple);
+            assert!(rt; 0 < wide && 0 < apart);
+            let inner = subquery(
+                rt.alloc(),
+                Walk::Grid(grid),
+                offset,
+                inside,
+                range,
+                multiple,
+            )?;
+            let walk = over_subquery(rt.alloc(), inner, later, outside, wide, apart)?;
+            assert_eq!(rt; listed(rt.alloc(), &walk)?.as_str(), instants);
+        } else {
+            assert!(rt; false);
+        }
+    }
+    let rows = [
+        (60, 0, 30, 10, " 30 40 50 60"),
+        (60, 5, 30, 10, " 30 40 50"),
+        (7, 0, 7, 10, " 0"),
+        (7, -1, 7, 10, ""),
+        (-33, 12, 45, 15, " -90 -75 -60 -45"),
+    ];
+    for (at, offset, range, multiple, instants) in rows {
+        assert!(rt; 0 < range && 0 < multiple);
+        let walk = pinned(
+            rt.alloc(),
+            Walk::Fixed(Ms(9)),
+            at,
+            offset,
+            true,
+            range,
+            multiple,
+        )?;
         assert_eq!(rt; listed(rt.alloc(), &walk)?.as_str(), instants);
     }
     Ok(())

@@ -2,15 +2,17 @@ ghost use Rattle.std.specs.Prelude.{◌≡◌, ℤ, pos, ◌<ℤ◌, ◌≤ℤ�
 ghost use Rattle.ticks.specs.Walks.{HasTimes, IsBarren, IsFirstInWindow, IsInstant, IsTime, LeadsToTimes, moment_at};
 
 use crate::step::step_after;
-use crate::{Grid, Ms};
+use crate::{Grid, Ms, last_before};
 use holders::Boxed;
 use std::alloc::AllocError;
 
-/// The moment that a subquery's points are taken from: the instant itself or a fixed one, less the offset.
+/// The moment that a subquery's points are taken from: the instant itself or a fixed one, less the offset. Where it is
+/// closed, a point on the left edge of the range that ends there is taken too.
 #[derive(Clone, Copy, Debug, PartialEq, Eq)]
 pub struct WalkMoment {
     pub fixed: Option<Ms>,
     pub offset: Ms,
+    pub closed: bool,
 }
 
 impl WalkMoment {
@@ -80,7 +82,7 @@ impl Walk {
             } => {
                 let mut instant = outer.get().after(moment.start(t));
                 while let Some(at) = instant {
-                    let found = multiple_after(moment.at(at), *range, *step, t);
+                    let found = multiple_after(moment.at(at), moment.closed, *range, *step, t);
                     if found.is_some() {
                         return found;
                     }
@@ -121,17 +123,18 @@ impl Walk {
 }
 
 /// The least multiple of the step that is later than a time and in the range that ends at a moment.
-fn multiple_after(moment: i64, range: Ms, step: Ms, t: Ms) -> Option<Ms>
+fn multiple_after(moment: i64, closed: bool, range: Ms, step: Ms, t: Ms) -> Option<Ms>
     requires times { HasTimes moment range.0 }
     requires step { pos 0 <ℤ step.0 }
     requires range { pos 0 <ℤ range.0 }
-    ensures found { IfSome result (λ at. IsFirstInWindow moment range.0 step.0 t.0 at.0) }
-    ensures none { IfNone result (IsBarren moment range.0 step.0 t.0) }
+    ensures found { IfSome result (λ at. IsFirstInWindow closed moment range.0 step.0 t.0 at.0) }
+    ensures none { IfNone result (IsBarren closed moment range.0 step.0 t.0) }
 {
     if moment <= t.0 {
         return None;
     }
-    match step_after(0, step.0, later_of(t.0, moment - range.0), moment) {
+    let before = last_before(Ms(moment - range.0), closed);
+    match step_after(0, step.0, later_of(t.0, before.0), moment) {
         None => None,
         Some(at) => Some(Ms(at)),
     }

@@ -8,6 +8,6 @@ use Rattle.ticks.proofs.tests.over_subquery.Goals as goal
 pub returns : goal.returns
 returns c =
     near-leads c.in_ok-outer.outer (10 ^ 14 + 2 ^ 41) (omega arith)
-    (subst (λ z. (o : ℤ) → IsInstant z o → (pos 0 ≤ℤ (o +ℤ pos (10 ^ 14 + 2 ^ 41))) × (o ≤ℤ pos (10 ^ 14 + 2 ^ 41))) (sym c.in_ok-outer.ensures) c.requires.near) _ _ _
+    (subst (λ z. (o : ℤ) → IsInstant z o → (pos 0 ≤ℤ (o +ℤ pos (10 ^ 14 + 2 ^ 41))) × (o ≤ℤ pos (10 ^ 14 + 2 ^ 41))) (sym c.in_ok-outer.ensures) c.requires.near) _ _ _ _
     (omega (arith, ints)) (omega (arith, ints)) (omega (arith, ints, c.requires.range)) (omega (arith, ints)) (subst LeadsToTimes (sym c.in_ok-outer.ensures) c.requires.times)
     (omega (arith, ints, c.requires.step))

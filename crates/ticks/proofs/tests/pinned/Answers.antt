@@ -6,5 +6,5 @@ use Rattle.ticks.proofs.tests.pinned.Goals as goal
 
 pub returns : goal.returns
 returns c =
-    pinned-leads c.in_ok-outer.outer (subst LeadsToTimes (sym c.in_ok-outer.ensures) c.requires.times) _ _ _ _ (omega (arith, ints)) (omega (arith, ints)) (omega (arith, ints))
+    pinned-leads c.in_ok-outer.outer (subst LeadsToTimes (sym c.in_ok-outer.ensures) c.requires.times) _ _ _ _ _ (omega (arith, ints)) (omega (arith, ints)) (omega (arith, ints))
     (omega (arith, ints)) (omega (arith, ints, c.requires.range)) (omega (arith, ints)) (omega (arith, ints, c.requires.step))

@@ -8,12 +8,12 @@ use Rattle.ticks.proofs.tests.subquery.Goals as goal
 pub returns-clause-times : goal.returns-clause-times
 returns-clause-times c =
     near-leads c.in_ok-outer.outer (10 ^ 14) (omega arith)
-    (subst (λ z. (o : ℤ) → IsInstant z o → (pos 0 ≤ℤ (o +ℤ pos (10 ^ 14))) × (o ≤ℤ pos (10 ^ 14))) (sym c.in_ok-outer.ensures) c.requires.near) _ _ _
+    (subst (λ z. (o : ℤ) → IsInstant z o → (pos 0 ≤ℤ (o +ℤ pos (10 ^ 14))) × (o ≤ℤ pos (10 ^ 14))) (sym c.in_ok-outer.ensures) c.requires.near) _ _ _ _
     (omega (arith, ints)) (omega (arith, ints)) (omega (arith, ints, c.requires.range)) (omega (arith, ints)) (subst LeadsToTimes (sym c.in_ok-outer.ensures) c.requires.times)
     (omega (arith, ints, c.requires.step))
 
 pub returns-clause-near : goal.returns-clause-near
 returns-clause-near c =
     near-instants c.in_ok-outer.outer (10 ^ 14) (omega arith)
-    (subst (λ z. (o : ℤ) → IsInstant z o → (pos 0 ≤ℤ (o +ℤ pos (10 ^ 14))) × (o ≤ℤ pos (10 ^ 14))) (sym c.in_ok-outer.ensures) c.requires.near) _ _ _
+    (subst (λ z. (o : ℤ) → IsInstant z o → (pos 0 ≤ℤ (o +ℤ pos (10 ^ 14))) × (o ≤ℤ pos (10 ^ 14))) (sym c.in_ok-outer.ensures) c.requires.near) _ _ _ _
     (omega (arith, ints)) (omega (arith, ints)) (omega (arith, ints, c.requires.range)) (omega (arith, ints))

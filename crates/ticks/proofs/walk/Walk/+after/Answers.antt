@@ -61,8 +61,8 @@ returns-then-is_some-clause-least t c =
 
 pub returns-then-is_some-2-clause-none : goal.returns-then-is_some-2-clause-none
 returns-then-is_some-2-clause-none t c =
-    let here : IsBarren (moment_at c.in-Multiples.moment c.in-Some.at.0) c.in-Multiples.range.0 c.in-Multiples.step.0 c.args.t.0 =
-    subst (λ z. IsBarren z c.in-Multiples.range.0 c.in-Multiples.step.0 c.args.t.0) (let d : to_z w64 (of_z w64 c.at.result) ≡ moment_at c.in-Multiples.moment c.in-Some.at.0 = search (rules, c.at.ensures) in d)
+    let here : IsBarren c.in-Multiples.moment.closed (moment_at c.in-Multiples.moment c.in-Some.at.0) c.in-Multiples.range.0 c.in-Multiples.step.0 c.args.t.0 =
+    subst (λ z. IsBarren c.in-Multiples.moment.closed z c.in-Multiples.range.0 c.in-Multiples.step.0 c.args.t.0) (let d : to_z w64 (of_z w64 c.at.result) ≡ moment_at c.in-Multiples.moment c.in-Some.at.0 = search (rules, c.at.ensures) in d)
     (none-holds c.multiple_after-found.result _ (sym c.is_some.ensures ∙ c.if-is_some.false) c.multiple_after-found.ensures.none) in
     fixed-barren c.args.self.now c.in-Multiples.outer c.in-Multiples.moment c.in-Multiples.range c.in-Multiples.step c.args.t.0 c.in-Multiples.is c.in-Some.at
     (sym c.is_some-in-Some.ensures ∙ c.if-is_some-2.true) here
@@ -90,8 +90,8 @@ loop-instant-preserved t c =
     let looked : HasLooked c.in-Multiples.outer c.in-Multiples.moment c.in-Multiples.range.0 c.in-Multiples.step.0 c.args.t.0 (Some c.in-Some.at) =
     subst (λ z. HasLooked c.in-Multiples.outer c.in-Multiples.moment c.in-Multiples.range.0 c.in-Multiples.step.0 c.args.t.0 z) c.in-Some.is c.loop-instant.invariant in
     let e = c.after-instant-in-Some.ensures in
-    let here : IsBarren (moment_at c.in-Multiples.moment c.in-Some.at.0) c.in-Multiples.range.0 c.in-Multiples.step.0 c.args.t.0 =
-    subst (λ z. IsBarren z c.in-Multiples.range.0 c.in-Multiples.step.0 c.args.t.0) (let d : to_z w64 (of_z w64 c.at.result) ≡ moment_at c.in-Multiples.moment c.in-Some.at.0 = search (rules, c.at.ensures) in d)
+    let here : IsBarren c.in-Multiples.moment.closed (moment_at c.in-Multiples.moment c.in-Some.at.0) c.in-Multiples.range.0 c.in-Multiples.step.0 c.args.t.0 =
+    subst (λ z. IsBarren c.in-Multiples.moment.closed z c.in-Multiples.range.0 c.in-Multiples.step.0 c.args.t.0) (let d : to_z w64 (of_z w64 c.at.result) ≡ moment_at c.in-Multiples.moment c.in-Some.at.0 = search (rules, c.at.ensures) in d)
     (none-holds c.multiple_after-found.result _ (sym c.is_some.ensures ∙ c.if-is_some.false) c.multiple_after-found.ensures.none) in
     moved c.in-Multiples.outer c.in-Multiples.moment c.in-Multiples.range.0 c.in-Multiples.step.0 c.args.t.0 c.get-in-Some.result.now c.get-in-Some.ensures
     c.in-Some.at c.after-instant-in-Some.result looked here e.instant e.least e.none
