@@ -1,0 +1,79 @@
+#!/usr/bin/env bash
+# Judges each script below tests/scripts/, whose README.md says which must pass and which must fail. It prints a line for each
+# script that does otherwise, and last how many scripts passed and failed. It ends with 0 where all passed.
+#   tests/scripts.sh                   by bin/promqltest; it fails where the release isn't of the sources that stand here
+#   tests/scripts.sh --program FILE    by this program, whatever the release is
+set -u
+word=${0##*/}
+top=$(cd -- "$(dirname -- "${BASH_SOURCE[0]}")/.." && pwd)
+. "$top/bin/lib/find.sh"
+cd -- "$top/tests/scripts" || exit 1
+room=$(mktemp -d) && trap 'rm -rf -- "$room"' EXIT
+failed=0
+
+fails() {
+    failed=$((failed + 1))
+    printf 'FAILED %s\n' "$1"
+}
+
+# Judges scripts that must pass, all in one call. One that is refused ends its call, and the scripts behind it have another.
+judge_all() {
+    local code refused line
+    while [ $# -gt 0 ]; do
+        "${start[@]}" "$@" >"$room/told"
+        code=$?
+        while read -r line; do fails "$line"; done < <(
+            awk '/^FAIL / { name = $2; sub(/:[0-9]+$/, "", name); if (!(name in told)) print substr($0, 6); told[name] }' "$room/told")
+        [ "$code" -gt 1 ] || return
+        refused=$(tail -n 1 "$room/told")
+        if [ "$code" -ne 3 ] && [ "$code" -ne 6 ]; then
+            fails "$* ended with status $code"
+            return
+        fi
+        fails "$refused"
+        refused=${refused#* }
+        [ "$code" -eq 3 ] && refused=${refused#read } || refused=${refused%:*}
+        while [ $# -gt 0 ] && [ "$1" != "$refused" ]; do shift; done
+        shift
+    done
+}
+
+# Judges a script that must print what stands beside it. The program is started itself: the launcher reads all sources at
+# each start.
+judge_one() {
+    local name=${1%.test} code wanted=1
+    [ ! -e "$name.status" ] || read -r wanted <"$name.status"
+    "${program[@]}" promqltest "$1" >"$room/told"
+    code=$?
+    if [ "$code" != "$wanted" ]; then
+        fails "$1 ended with status $code, not $wanted"
+    elif ! cmp -s "$name.expected" "$room/told"; then
+        fails "$1 $(diff "$name.expected" "$room/told" | sed -n 's/^< /wanted: /p; s/^> /printed: /p' | head -n 2 | paste -sd' ')"
+    fi
+}
+
+if [ "${1-}" = --program ]; then
+    program=("$(readlink -f -- "$2")")
+    start=("${program[@]}" promqltest)
+else
+    read_sources
+    if ! find_release; then
+        fails "the release isn't of the sources that stand here: bin/build --gate --release makes it"
+        exit 1
+    fi
+    start=("$top/bin/promqltest")
+fi
+mapfile -t files < <(find . -type f | sed 's,^\./,,' | sort)
+passing=() failing=()
+for file in "${files[@]}"; do
+    case $file in
+        README.md) ;;
+        *.test) [ -e "${file%.test}.expected" ] && failing+=("$file") || passing+=("$file") ;;
+        *.expected | *.status) [ -e "${file%.*}.test" ] && [ -e "${file%.*}.expected" ] || fails "$file stands beside no script" ;;
+        *) fails "$file is no script" ;;
+    esac
+done
+judge_all "${passing[@]}"
+for file in "${failing[@]}"; do judge_one "$file"; done
+echo "scripts: ${#passing[@]} that must pass and ${#failing[@]} that must fail, $failed failed"
+[ "$failed" -eq 0 ]
