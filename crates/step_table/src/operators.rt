@@ -1,5 +1,5 @@
 ghost use Rattle.label_set.specs.Labels.{metric_name, put_refusal, with_pair, without};
-ghost use Rattle.std.specs.Prelude.{◌≡◌, ◌≢◌, [], ◌∷◌, true, false, is_some, IfErr, IfOk, MatchBool, if◌then◌else◌};
+ghost use Rattle.std.specs.Prelude.{◌≡◌, ◌≢◌, [], ◌∷◌, true, false, is_some, IfErr, IfOk, MatchBool, OnErr, if◌then◌else◌};
 ghost use Rattle.step_table.specs.Operators.{all_put, drops_name as drops_metric_name, grouped_labels, is_grouped as has_group_word, matched_labels, operated, pair_labels};
 
 use label_set::{Card, Items, LabelRefusal, Labels, Pairing};
@@ -109,9 +109,11 @@ fn put_all(labels: Labels, pairs: &Labels) -> Result<Option<Labels>, AllocError>
 /// Puts a value under a name that has none, and answers whether it was taken: not where the name is empty or there, or where
 /// the labels would pass their limits. An empty value changes nothing. The only error is want of memory.
 pub fn put_one(labels: &mut Labels, name: &str, value: &str) -> Result<bool, AllocError>
-    ensures { IfOk result (λ taken. MatchBool taken
+    ensures taken { IfOk result (λ taken. MatchBool taken
         ((is_some (put_refusal labels.old name.now value.now) ≡ false) × (labels.new ≡ with_pair labels.old name.now value.now))
         (is_some (put_refusal labels.old name.now value.now) ≡ true)) }
+    ensures left { IfOk result (λ taken. taken ≡ false → labels.new ≡ labels.old) }
+    ensures err { OnErr result (labels.new ≡ labels.old) }
 {
     match labels.put(name, value) {
         Ok(()) => Ok(true),
