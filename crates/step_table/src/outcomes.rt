@@ -1,4 +1,7 @@
-ghost use Rattle.std.specs.Prelude.{◌≡◌, IfOk, map};
+ghost use Rattle.std.specs.Prelude.{◌≡◌, IfOk, IsTrue, map};
+ghost use Rattle.label_set.specs.Labels.{labels_cmp};
+ghost use Rattle.std.specs.declared.cmp.Ordering.TheVariants.{Less};
+ghost use Rattle.step_table.specs.WellFormed.{IsTable};
 ghost use Rattle.step_table.specs.Groups.{Names};
 ghost use Rattle.step_table.specs.Outcomes.{fault_mark as mark_of_fault, keyed, settled, taken};
 ghost use Rattle.step_table.specs.declared.marks.Mark.TheVariants.{SameLabelset};
@@ -6,8 +9,9 @@ ghost use Rattle.step_table.specs.declared.marks.Mark.TheVariants.{SameLabelset}
 use crate::groups::part;
 use crate::marks::{Mark, Marks};
 use crate::step::{Row, Step, Table};
-use label_set::{Items, Labels};
+use label_set::{Items, Labels, order_is_total};
 use std::alloc::{AllocError, Global};
+use std::cmp::Ordering;
 use xfrac::{NumFault, XFrac};
 
 /// What comes of a row under some labels: a value, nothing, or a fault.
@@ -53,9 +57,13 @@ pub(crate) fn fault_mark(fault: NumFault) -> Mark
 
 /// The step in the order of labels, without the rows that share their labels; these labels have a mark. The only error
 /// is want of memory.
+#[tactic(auto, using(crate::specs::Gathering::settled_table))]
 pub fn settled(alloc: Global, step: Step) -> Result<Step, AllocError>
     ensures { IfOk result (λ out. out ≡ settled step) }
 {
+    if are_rising(step.table.rows.as_slice()) {
+        return Ok(step);
+    }
     let Step { table, mut marks } = step;
     let parted = part(alloc, by_labels(alloc, table.rows)?)?;
     marks.add_fatal(alloc, same_labelsets(alloc, parted.shared)?)?;
@@ -63,6 +71,27 @@ pub fn settled(alloc: Global, step: Step) -> Result<Step, AllocError>
         table: Table { rows: parted.lone },
         marks,
     })
+}
+
+/// Whether rows are in the order of their labels, no two with equal labels.
+fn are_rising(rows: &[Row]) -> bool
+    ensures { IsTrue result → IsTable rows.now }
+{
+    order_is_total();
+    for i in 1..rows.len() {
+        let before = &rows[i - 1];
+        let row = &rows[i];
+        if !is_below(before, row) {
+            return false;
+        }
+    }
+    true
+}
+
+fn is_below(a: &Row, b: &Row) -> bool
+    ensures { IsTrue result → labels_cmp a.now.labels b.now.labels ≡ Less }
+{
+    matches!(a.labels.cmp(&b.labels), Ordering::Less)
 }
 
 /// The rows, each beside its labels.
