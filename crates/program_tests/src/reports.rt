@@ -16,169 +16,18 @@ const REPORTS: &str = r##"
 passed 0 failed 0|
 passed 0 failed 0||
 passed 0 failed 0| `09`|
-PASS a.test:1;passed 1 failed 0|eval instant at 1s b|
 PASS a.test:4;FAIL a.test:7 up expected 3 got 2;passed 1 failed 1|load 5m|up 1 2||eval instant at 0 up|up 1||eval instant at 5m up|up 3|
-PASS a.test:4;PASS a.test:7;passed 2 failed 0|load 5m|up 1||eval instant at 4m59s up|up 1||eval instant at 5m up|
-FAIL a.test:4 up expected -2 got -1;passed 0 failed 1|load 5m|`09`up -1 2||eval instant at 0 up|up -2|
-FAIL a.test:5 missing c;passed 0 failed 1|load 1s|b 1|a 1||eval instant at 1s b|b 1|d 2|c 3|
-FAIL a.test:4 unexpected series b;passed 0 failed 1|load 1s|b 1||eval instant at 1s b|
-PASS a.test:4;FAIL a.test:7 b expected 1000003 got 1000000;passed 1 failed 1|load 1s|b 1000000||eval instant at 0 b|b 1000002||eval instant at 0 b|b 1000003|
-PASS a.test:4;PASS a.test:7;PASS a.test:10;PASS a.test:13;PASS a.test:15;passed 5 failed 0|load 1.5|x 1e3 .5 -0 inf||eval instant at 0 x|x 1000||eval instant at 1500ms x|x 5e-1||eval instant at 3 x|x 0||eval instant at 1h x||eval instant at -1m x|
-FAIL a.test:4 x expected 0.3333 got 0.3333333333333333;PASS a.test:7;FAIL a.test:10 x expected -Inf got NaN;passed 1 failed 2|load 1|x 0.3333333333333333 NaN||eval instant at 0 x|x 0.3333||eval instant at 1 x|x nan||eval instant at 1 x|x -Inf|
-PASS a.test:4;FAIL a.test:7 x expected 0.33333 got 0.3333333333333333;passed 1 failed 1|load 1|x 0.3333333333333333||eval instant at 0 x|x 0.333333||eval instant at 0 x|x 0.33333|
-PASS a.test:4;passed 1 failed 0|load 999999m|_:a 123456789012345678||eval instant at 0 _:a|_:a 123456789012345678|
 PASS a.test:4;PASS a.test:7;PASS a.test:9;PASS a.test:11;passed 4 failed 0|load 5m|up 1 _ stale 3||eval instant at 4m59s up|up 1||eval instant at 5m up||eval instant at 10m up||eval instant at 15m up|up 3|
 PASS a.test:4;PASS a.test:6;passed 2 failed 0|load 1m|z 1 stale||eval instant at 1m z||eval instant at 0 z|z 1|
-FAIL a.test:4 missing z;passed 0 failed 1|load 1m|z 1 stale||eval instant at 1m z|z 1|
-PASS a.test:4;PASS a.test:7;PASS a.test:9;PASS a.test:11;passed 4 failed 0|load 6m|x 1 _x2 4||eval instant at 0 x|x 1||eval instant at 6m x||eval instant at 12m x||eval instant at 18m x|x 4|
-PASS a.test:4;PASS a.test:7;PASS a.test:10;PASS a.test:13;passed 4 failed 0|load 10m|c 0+60x2 5x1 10-2x1 1+-2x01||eval instant at 20m c|c 120||eval instant at 40m c|c 5||eval instant at 60m c|c 8||eval instant at 80m c|c -1|
-PASS a.test:6;passed 1 failed 0|load 5m|x{a="1"} 1|x{ b = "2" , a="1", } 2|{__name__="x",c="}#,é"} 3||eval instant at 0 x|x{a="1"} 1|x {b="2",a="1"} 2|x{c="}#,é"} 3|
-PASS a.test:6;passed 1 failed 0|load 5m|y 5|x{} 1|x{a="2"} 2 # behind||eval instant at 0 x|x{a="2"} 2|x 1|
-FAIL a.test:4 unexpected series x{a="1"};passed 0 failed 1|load 5m|x{a="1"} 1||eval instant at 0 x|
-FAIL a.test:4 missing x{a="2"};passed 0 failed 1|load 5m|x{a="1"} 1||eval instant at 0 x|x{a="2"} 1|
-FAIL a.test:4 x{a="1"} expected 3 got 1;passed 0 failed 1|load 5m|x{a="1"} 1||eval instant at 0 x|x{a="1"} 3|
-PASS a.test:5;passed 1 failed 0|# a comment|load 5m|  x 1 2 # the samples|# ends the block|eval instant at 0 x|x 1|  # the end|
 passed 0 failed 0|# one|  # two|
-PASS a.test:8;passed 1 failed 0|load 5m|x 1||clear|load 5m|x 2||eval instant at 0 x|x 2|
-PASS a.test:4;PASS a.test:9;passed 2 failed 0|load 5m|x 1||eval instant at 0 x|x 1||clear||eval instant at 0 x|
-PASS a.test:7;passed 1 failed 0|load 5m|x 1||load 5m|x 1 2||eval instant at 5m x|x 2|
 REFUSED a.test:5 Conflict|load 5m|x 1||load 5m|x 2||eval instant at 0 x|x 1|
-REFUSED a.test:5 Conflict|eval instant at 0 x||load 5m|x 1|x 2|
-REFUSED a.test:3 Conflict|load 5m|x 1|x stale|
-REFUSED a.test:3 Conflict|load 5m|x 1|x 1.0000001|
-passed 0 failed 0|load 5m|x NaN stale|x nan stale|
 REFUSED a.test:2 NumberRange|load 1m|x 1e30+1x1|
-REFUSED a.test:2 NumberRange|load 1m|x 1e30-1e30x1|
-REFUSED a.test:2 NumberRange|load 1m|x 1 1e31|
-REFUSED a.test:3 Malformed|load 1m|x 1e30+1x1|x{|
-passed 0 failed 0|load 100y|x 1 _x30 1|
 REFUSED a.test:2 NumberRange|load 100y|x 1 _x31 1|
-passed 0 failed 0|load 1s|x _x4294967295 1|
-REFUSED a.test:2 BadLabels|load 1m|x{a="1",a="2"} 1|
 REFUSED a.test:2 BadLabels|load 1m|x{__name__="y"} 1|
 REFUSED a.test:2 BadLabels|eval instant at 0 x|x{a="1",a="1"} 1|
 REFUSED a.test:2 NumberRange|eval instant at 0 x|x 1e31|
-FAIL a.test:4 unexpected series x;passed 0 failed 1|load 5m|x 1 2||eval instant at 0 x|
-FAIL a.test:4 unexpected series x;passed 0 failed 1|load 5m|x{} 1||eval instant at 0 x|
-FAIL a.test:4 unexpected series x{a="b"};passed 0 failed 1|load 5m|x{a="b",} 1||eval instant at 0 x|
-FAIL a.test:4 unexpected series x{a="b",c="d"};passed 0 failed 1|load 5m|x { c = "d" , a = "b" }`09`1||eval instant at 0 x|
-FAIL a.test:4 unexpected series x{a="}"};passed 0 failed 1|load 5m|x{a="}"} 1||eval instant at 0 x|
-FAIL a.test:4 unexpected series x{a=","};passed 0 failed 1|load 5m|x{a=","} 1||eval instant at 0 x|
-FAIL a.test:4 unexpected series x;passed 0 failed 1|load 5m|x{a=""} 1||eval instant at 0 x|
-FAIL a.test:4 unexpected series y;passed 0 failed 1|load 5m|{__name__="y"} 1||eval instant at 0 y|
-FAIL a.test:4 unexpected series x{on="é"};passed 0 failed 1|load 5m|x{on="é"} 1||eval instant at 0 x|
-FAIL a.test:4 unexpected series x{a="#"};passed 0 failed 1|load 5m|x{a="#"} 1 #"#||eval instant at 0 x|
-REFUSED a.test:2 Malformed|load 5m|{,} 1|
-REFUSED a.test:2 Malformed|load 5m|x{a="b"|
-REFUSED a.test:2 Malformed|load 5m|x{a:b="c"}|
-REFUSED a.test:2 Malformed|load 5m|x{inf="c"} 1|
-FAIL a.test:4 unexpected series x{a="\""};passed 0 failed 1|load 5m|x{a="\""} 1||eval instant at 0 x|
-FAIL a.test:4 unexpected series x{a="b"};passed 0 failed 1|load 5m|x{a='b'} 1 2||eval instant at 0 x|
-REFUSED a.test:2 BadLabels|load 5m|x{a="b",a="c"} 1|
-REFUSED a.test:2 BadLabels|load 5m|x{a="b",a="c",d} 1|
-PASS a.test:4;passed 1 failed 0|load 5m|x 1 # 2||eval instant at 5m x|
-passed 0 failed 0|load 5m|# x|
-PASS a.test:4;passed 1 failed 0|load 1m|x -1.5e3||eval instant at 0 x|x -1500|
-PASS a.test:4;passed 1 failed 0|load 1m|x Inf||eval instant at 0 x|x inf|
-PASS a.test:4;passed 1 failed 0|load 1m|x nan||eval instant at 0 x|x NaN|
-PASS a.test:4;passed 1 failed 0|load 1m|x _ 7||eval instant at 1m x|x 7|
-PASS a.test:4;passed 1 failed 0|load 1m|x _x0 7||eval instant at 0 x|x 7|
-PASS a.test:4;PASS a.test:6;passed 2 failed 0|load 1s|x _x000000000000000000000007 5||eval instant at 6s x||eval instant at 7s x|x 5|
-PASS a.test:8;PASS a.test:11;PASS a.test:14;PASS a.test:17;PASS a.test:20;PASS a.test:23;passed 6 failed 0|load 10m|a 1x3|b 10-2x5|c 1+-2x3|d 1--2x3|e 1e-2+1E+1x007||eval instant at 30m a|a 1||eval instant at 50m b|b 0||eval instant at 30m c|c -5||eval instant at 30m d|d 7||eval instant at 70m e|e 70.01||eval instant at 40m a|
-REFUSED a.test:2 NumberRange|load 5m|x 1e31x2|
-passed 0 failed 0|load 5|
-passed 0 failed 0|load 1h30m|
-passed 0 failed 0|load 100y|
-passed 0 failed 0|load 0.001|
-passed 0 failed 0|load 5m|x 1.5 +1 -.5 2. 1E-3 iNF -inf nAn|
-passed 0 failed 0|load 5m|x 1234567890123456789 1e-2+1E+1x007|
-passed 0 failed 0|load 5m||load 5m|
-passed 0 failed 0|load 5m|and 1|sum 1|eval 1|load 1|
-passed 0 failed 0|load 5m|x{on="1",bool="2",sum="3"} 1|x{a="b"} _x0 1|
-passed 0 failed 0|clear|clear|load 5m|x 1|
-FAIL a.test:1 missing {};passed 0 failed 1|eval instant at 0 x|{} 1|
-PASS a.test:1;PASS a.test:3;passed 2 failed 0|eval instant at +5 x||eval instant at -5 x||
-REFUSED a.test:1 Malformed|x|
-REFUSED a.test:1 Malformed|load|
-REFUSED a.test:1 Malformed|load 0|
-REFUSED a.test:1 Malformed|load 0s|
-REFUSED a.test:1 Malformed|load 30m1h|
-REFUSED a.test:1 Malformed|load 0.0001|
-REFUSED a.test:1 Malformed|load 101y|
-REFUSED a.test:1 Malformed|load -5m|
-REFUSED a.test:1 Malformed|load 5m 5m|
-REFUSED a.test:1 Malformed|LOAD 5m|
-REFUSED a.test:1 NativeHistogram|load_with_nhcb 5m|
-REFUSED a.test:1 Malformed|clear all|
-REFUSED a.test:1 Malformed|Clear|
-REFUSED a.test:2 Malformed|load 5m|load 5m|
-REFUSED a.test:2 Malformed|load 5m|x|
-REFUSED a.test:2 Malformed|load 5m|x # 1|
-REFUSED a.test:2 Malformed|load 5m|x#1 2|
 REFUSED a.test:2 Malformed|load 1m|x{a="b|
-REFUSED a.test:2 Malformed|load 5m|x{a="b" 1|
-REFUSED a.test:2 Malformed|load 5m|x{a=b} 1|
-FAIL a.test:4 unexpected series x{a="b\\"};passed 0 failed 1|load 5m|x{a=`60`b\`60`} 1||eval instant at 0 x|
-REFUSED a.test:2 Malformed|load 5m|x{a="b\"} 1|
-REFUSED a.test:2 Malformed|load 5m|x{a:b="c"} 1|
-REFUSED a.test:2 Malformed|load 5m|x{5="c"} 1|
-REFUSED a.test:2 Malformed|load 5m|x{Inf="c"} 1|
-REFUSED a.test:2 Malformed|load 5m|x{a="b"c="d"} 1|
-REFUSED a.test:2 Malformed|load 5m|x{a="b",,} 1|
-REFUSED a.test:2 Malformed|load 5m|x{,} 1|
-REFUSED a.test:2 Malformed|load 5m|x{a} 1|
-REFUSED a.test:2 Malformed|load 5m|x{="b"} 1|
-REFUSED a.test:2 Malformed|load 5m|x{a=~"b"} 1|
-REFUSED a.test:2 Malformed|load 5m|x{a="b"}1|
-REFUSED a.test:2 Malformed|load 5m|x{a="b"}|
-REFUSED a.test:2 Malformed|load 5m|{} 1|
-REFUSED a.test:2 Malformed|load 5m|{a=""} 1|
-PASS a.test:4;passed 1 failed 0|load 5m|{"x"} 1||eval instant at 0 x|x 1|
 REFUSED a.test:2 NativeHistogram|load 5m|x {{sum:1}}|
-REFUSED a.test:2 Malformed|load 5m|5 1|
-REFUSED a.test:2 Malformed|load 5m|nan 1|
-REFUSED a.test:2 Malformed|load 5m|BOOL 1|
-REFUSED a.test:2 Malformed|load 5m|on{a="b"} 1|
-REFUSED a.test:2 Malformed|load 5m|x 1 y|
-REFUSED a.test:2 Malformed|load 5m|x 007|
-REFUSED a.test:2 Malformed|load 5m|x 0x8f|
-REFUSED a.test:2 Malformed|load 5m|x 1_000|
-REFUSED a.test:2 Malformed|load 5m|x 1/3|
-REFUSED a.test:2 Malformed|load 5m|x 1e|
-REFUSED a.test:2 Malformed|load 5m|x ++1|
-REFUSED a.test:2 Malformed|load 5m|x _x|
-REFUSED a.test:2 Malformed|load 5m|x _x-1|
-REFUSED a.test:2 Malformed|load 5m|x _x4294967296|
-REFUSED a.test:2 Malformed|load 5m|x __|
-REFUSED a.test:2 Malformed|load 5m|x stalex2|
-REFUSED a.test:2 Malformed|load 5m|x Stale|
-REFUSED a.test:2 Malformed|load 5m|x 1x|
-REFUSED a.test:2 Malformed|load 5m|x 1x1.5|
-REFUSED a.test:2 Malformed|load 5m|x x3|
-REFUSED a.test:2 Malformed|load 5m|x 1+x3|
-REFUSED a.test:2 Malformed|load 5m|x 1+1|
-REFUSED a.test:2 Malformed|load 5m|x 1+2x4294967296|
-REFUSED a.test:2 Malformed|load 5m|x 1 2,3|
-REFUSED a.test:2 Malformed|load 5m|é 1|
-REFUSED a.test:2 Malformed|load 5m|x 1`c2``a0`|
-REFUSED a.test:3 Malformed|load 5m|x 1|y|
-REFUSED a.test:1 Malformed|eval|
-REFUSED a.test:1 Malformed|eval instant at 0|
-REFUSED a.test:1 Malformed|eval instant at 1e15 x|
-REFUSED a.test:1 Malformed|eval range at 0 x|
-REFUSED a.test:1 Malformed|eval instant in 0 x|
-FAIL a.test:1 expected a failure;passed 0 failed 1|eval_fail instant at 0 x|
-FAIL a.test:1 expected a vector;passed 0 failed 1|eval instant at 0 nan|
-FAIL a.test:1 unexpected Expected at 2;passed 0 failed 1|eval instant at 0 x y|
-REFUSED a.test:2 Malformed|eval instant at 0 x|x|
-REFUSED a.test:2 Malformed|eval instant at 0 x|x 1 2|
-REFUSED a.test:2 Malformed|eval instant at 0 x|x _|
-REFUSED a.test:2 Malformed|eval instant at 0 x|x 1x2|
-REFUSED a.test:2 Malformed|eval instant at 0 x|x 1 # behind|
-FAIL a.test:1 expected a scalar;passed 0 failed 1|eval instant at 0 x|1|
-REFUSED a.test:3 Malformed|eval instant at 0 x|x 1|x 1|
-REFUSED a.test:3 Malformed|eval instant at 0 x|x{a="1",b="2"} 1|x{b="2",a="1"} 1|
-REFUSED a.test:4 Malformed|eval instant at 0 x|||x 1|
 PASS a.test:4;PASS a.test:7;passed 2 failed 0|load 1m|c_total 0+60x10||eval instant at 5m rate(c_total[5m])|{} 1||eval instant at 5m increase(c_total[5m])|{} 300|
 PASS a.test:4;passed 1 failed 0|load 1m|c_total 0 10 5 15||eval instant at 3m increase(c_total[4m])|{} 25|
 PASS a.test:1;FAIL a.test:4 scalar expected 0.33333 got 1/3;passed 1 failed 1|eval instant at 0 1/3|0.3333333333333333||eval instant at 0 1/3|0.33333|
@@ -215,23 +64,7 @@ PASS a.test:4;PASS a.test:7;PASS a.test:10;PASS a.test:13;PASS a.test:16;passed 
 FAIL a.test:6 unexpected multiple matches for labels {i="1"};passed 0 failed 1|load 1m|a{i="1"} 1|a{i="2"} 2|b{i="1"} 1||eval instant at 0 a * on() group_left(i) b|
 PASS a.test:4;FAIL a.test:7 expected a scalar;FAIL a.test:10 expected a vector;FAIL a.test:12 expected a vector;FAIL a.test:15 scalar expected 2 got NaN;PASS a.test:18;passed 2 failed 4|load 1m|x 1||eval instant at 0 scalar(x)|1||eval instant at 0 x|1||eval instant at 0 1||eval instant at 0 1|{} 1||eval instant at 0 scalar(y)|2||eval instant at 1h  time() - 3600`09`+ `09` 0|0|
 REFUSED a.test:3 Malformed|eval instant at 0 1|1|x 1|
-REFUSED a.test:3 Malformed|eval instant at 0 1|x 1|1|
-REFUSED a.test:3 Malformed|eval instant at 0 1|1|1|
-REFUSED a.test:2 NumberRange|eval instant at 0 1|1e31|
-REFUSED a.test:3 Malformed|eval instant at 0 1|1|1e31|
-REFUSED a.test:1 Malformed|eval instant at 0`09` |
-REFUSED a.test:1 Malformed|eval instant at x 0|
-FAIL a.test:1 expected a failure;passed 0 failed 1|eval instant at 0 1|expect fail|
-PASS a.test:4;passed 1 failed 0|load 5m|x 1||eval instant at 0 x|expect no_warn|x 1|
-PASS a.test:1;passed 1 failed 0|eval_ordered instant at 0 x|
-FAIL a.test:1 expected a warning;passed 0 failed 1|eval_warn instant at 0 x|
-FAIL a.test:1 expected an info;passed 0 failed 1|eval_info instant at 0 x|
-PASS a.test:1;passed 1 failed 0|eval instant at 0 x|expect no_info|
-PASS a.test:1;passed 1 failed 0|eval range from 0 to 1 step 1 x|
-PASS a.test:1;PASS a.test:3;FAIL a.test:5 expected a failure;passed 2 failed 1|eval instant at 0 x||eval range from 0 to 1 step 1 x||eval_fail instant at 0 x|
-REFUSED a.test:3 Malformed|eval_fail instant at 0 x||y|
 REFUSED a.test:3 Conflict|load 5m|x 1|x 2||eval_fail instant at 0 x|
-FAIL a.test:1 expected a failure;passed 0 failed 1|eval instant at 0 x|expect fail regex: a|
 REFUSED a.test:2 BadPattern|eval instant at 0 x|expect fail regex: (|
 REFUSED a.test:1 NotUtf8|`ff`|load 5m|
 REFUSED a.test:4 NotUtf8|load 5m|x 1||# `c3`(||eval instant at 0 x|
@@ -240,13 +73,10 @@ REFUSED a.test:2 NotUtf8|nonsense|`f0``9f`
 REFUSED a.test:2 NotUtf8|load 5m`0d`|x{a="`ed``a0``80`"} 1`0d`|
 REFUSED a.test:1 NotUtf8|`80`
 passed 0 failed 0|load 1|y 1|x 1`30*0`
-REFUSED a.test:3 NumberRange|load 1|y 1|x 1`31*0`
-REFUSED a.test:2 NumberRange|eval instant at 0 x|x 1e-31
 passed 0 failed 0|load 1|`4096*n` 1
 REFUSED a.test:2 BadLabels|load 1|`4097*n` 1
 REFUSED a.test:2 BadLabels|load 1|x{a="`4097*n`"} 1
 passed 0 failed 0|load 1|x{`63*l%="v",`} 1
-REFUSED a.test:2 BadLabels|load 1|x{`64*l%="v",`} 1
 "##;
 
 /// The same, for long files and many samples.
@@ -638,7 +468,7 @@ fn is_cut_so(alloc: Global, run: Run<'_>, printed: &[u8]) -> Result<bool, AllocE
 
 #[test]
 fn reports(rt: HostRuntime) -> Result<(), Fail> {
-    assert_eq!(rt; run_rows(&rt, rt.alloc(), REPORTS)?, 234);
+    assert_eq!(rt; run_rows(&rt, rt.alloc(), REPORTS)?, 64);
     assert_eq!(rt; run_rows(&rt, rt.alloc(), LONG)?, 5);
     Ok(())
 }

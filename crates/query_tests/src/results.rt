@@ -1,7 +1,6 @@
 //! Texts of queries over a few series, and what comes of each.
 ghost use Rattle.std.specs.Prelude.{◌≡◌};
 
-mod nested;
 mod rows;
 
 use frac_text::write_number;
@@ -218,26 +217,10 @@ fn row_of<'a>(alloc: Global, line: &'a str) -> Result<(Vec<u8>, &'a str), Fail> 
 
 #[test]
 fn texts_come_to(rt: HostRuntime) -> Result<(), Fail> {
-    for table in [rows::WORKED, rows::RANGES] {
-        for line in table.lines() {
-            let (got, wanted) = row_of(rt.alloc(), line)?;
-            assert_eq!(rt; got.as_slice(), wanted.as_bytes(), "{line}");
-        }
+    for line in rows::ROWS.lines() {
+        let (got, wanted) = row_of(rt.alloc(), line)?;
+        assert_eq!(rt; got.as_slice(), wanted.as_bytes(), "{line}");
     }
-    Ok(())
-}
-
-#[test]
-fn vectors_stand_in_each_place(rt: HostRuntime) -> Result<(), Fail> {
-    let mut outcomes = nested::NESTED.lines();
-    for place in nested::PLACES.lines() {
-        for vector in nested::VECTORS.lines() {
-            let query = place.replace(rt.alloc(), "?", vector)?;
-            let query = query.as_str();
-            let got = comes_to(rt.alloc(), nested::NESTED_SERIES, "120", query)?;
-            let wanted = outcomes.next().ok_or("no outcome")?;
-            assert_eq!(rt; got.as_slice(), wanted.as_bytes(), "{query}");
-        }
-    }
+    assert_eq!(rt; rows::ROWS.lines().count(), 44);
     Ok(())
 }
