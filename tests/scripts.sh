@@ -1,6 +1,7 @@
 #!/usr/bin/env bash
 # Judges each script below tests/scripts/, whose README.md says which must pass and which must fail. It prints a line for each
-# script that does otherwise, and last how many scripts passed and failed. It ends with 0 where all passed.
+# script that does otherwise, and last how many scripts passed and failed. It judges the scripts of tests/refusals.cases too.
+# It ends with 0 where all passed.
 #   tests/scripts.sh                   by bin/promqltest; it fails where the release isn't of the sources that stand here
 #   tests/scripts.sh --program FILE    by this program, whatever the release is
 set -u
@@ -75,5 +76,6 @@ for file in "${files[@]}"; do
 done
 judge_all "${passing[@]}"
 for file in "${failing[@]}"; do judge_one "$file"; done
+[ ! -e "$top/tests/refusals.sh" ] || "$top/tests/refusals.sh" "${program[-1]}" || failed=$((failed + 1))
 echo "scripts: ${#passing[@]} that must pass and ${#failing[@]} that must fail, $failed failed"
 [ "$failed" -eq 0 ]

@@ -16,8 +16,9 @@ stop() {
 
 # Where programs are kept: in the checkout, or where that can't be written in a folder of the user's own.
 places() {
-    local own=${XDG_CACHE_HOME:-${HOME:+$HOME/.cache}}
-    own=${own:-${TMPDIR:-/tmp}}/zelmuca-$(printf '%s %s' "$EUID" "$top" | sha256sum | cut -c1-16)
+    local own=${XDG_CACHE_HOME:-${HOME:+$HOME/.cache}} sum
+    sum=$(printf '%s %s' "$EUID" "$top" | sha256sum)
+    own=${own:-${TMPDIR:-/tmp}}/zelmuca-${sum:0:16}
     printf '%s\n' "$top/bin/.cache"
     [ -e "$own" ] && [ ! -O "$own" ] || printf '%s\n' "$own"
 }
@@ -101,7 +102,8 @@ toolchain() {
 
 # The name of a program of these sources by the toolchain's `version`.
 name_program() {
-    name=promql-${sources:0:40}-$(printf '%s' "$version" | sha256sum | cut -c1-16)
+    name=$(printf '%s' "$version" | sha256sum)
+    name=promql-${sources:0:40}-${name:0:16}
 }
 
 # The program that was built here. The toolchain isn't asked for where none was built from these sources.
