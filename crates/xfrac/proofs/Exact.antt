@@ -43,7 +43,7 @@ by_signs false true a b = omega (arith, ints)
 by_signs true false a b = omega (arith, ints)
 by_signs true true a b = omega (arith, ints)
 
-magnitude_few : (p q : ℕ) → unsigned_abs (pos p -ℤ pos q) ≤ p + q
+pub magnitude_few : (p q : ℕ) → unsigned_abs (pos p -ℤ pos q) ≤ p + q
 magnitude_few p q = omega (arith, ints)
 
 minus_scaled : (p q g : ℕ) → (pos p -ℤ pos q) *ℤ pos g ≡ pos (p * g) -ℤ pos (q * g)
@@ -99,12 +99,12 @@ signed_number s m d h small few =
     subst (λ f. IsReduced (unsigned_abs f.0) f.1) (sym (lowest-with_sign s m d))
     (subst (λ x. IsReduced x (d / gcd m d)) (sym (unsigned_abs-with_sign s (m / gcd m d))) (reduced_terms m d (gcd m d) (m / gcd m d) (d / gcd m d) h (gcd-is m d h) refl refl small few))
 
-lowest_number : (z : ℤ) (d : ℕ) → 0 < d → unsigned_abs z ≤ limit → d ≤ limit → IsNumber (Fin (lowest z d))
+pub lowest_number : (z : ℤ) (d : ℕ) → 0 < d → unsigned_abs z ≤ limit → d ≤ limit → IsNumber (Fin (lowest z d))
 lowest_number z d h small few = subst (λ x. IsNumber (Fin (lowest x d))) (sym (by_sign z)) (signed_number (below z) (unsigned_abs z) d h small few)
 
 -- ---- the sum
 
-fit_parts : (t : Totals) → fits t ≡ true → (t.multiple ≤ limit) × (t.above + t.below ≤ limit)
+pub fit_parts : (t : Totals) → fits t ≡ true → (t.multiple ≤ limit) × (t.above + t.below ≤ limit)
 fit_parts t is =
     let both = and_parts (nat_le t.multiple limit) (nat_le (t.above + t.below) limit) is in
     (leb-true t.multiple limit both.0, leb-true (t.above + t.below) limit both.1)

@@ -5,6 +5,7 @@ pub mod Floors
 pub mod LawProofs
 pub mod Multiples
 pub mod Nearness
+pub mod Numbers
 pub mod Pairs
 pub mod Products
 pub mod Ratios

@@ -7,6 +7,7 @@ pub mod Gcds
 pub mod Kinds
 pub mod Laws
 pub mod Near
+pub mod NumberLaws
 pub mod Order
 pub mod Reduced
 pub mod Sequencing

@@ -1,5 +1,6 @@
 //! Laws of numbers that users rely on. The functions do nothing: each stands for what its contract says.
 ghost use Rattle.xfrac.specs.Laws.{IsNumber, SumIsExact, SumIgnoresOrder, JoinedStandsForBoth, AloneStandsForOne, TotalsNeverFall, PartOverflowsWhole, NearIsSymmetric, EqualIsSame, OrderIsReflexive, OrderIsReversed, LessIsTransitive, LowestIsEqual, LowestIsReduced, LcmIsMultiple, LcmIsLeast, FloorIsWhole, FloorIsNotAbove, FloorIsGreatest, CeilingIsWhole, CeilingIsNotBelow, CeilingIsLeast};
+ghost use Rattle.xfrac.specs.NumberLaws.{NumberHasDenominator, ArithmeticIsNumber, FormedIsNumber, SumIsNumber, MeanIsNumber, CommonDenominatorIsPositive, NegatedIsNumber, MagnitudeIsNumber, FloorIsNumber, CeilingIsNumber, FractionIsFormed, WholeIsNumber, WholeIsFormed};
 
 use crate::value::XFrac;
 
@@ -72,4 +73,33 @@ pub fn ceiling_is_least()
     ensures whole { CeilingIsWhole }
     ensures not_below { CeilingIsNotBelow }
     ensures least { CeilingIsLeast }
+{}
+
+/// What an operator answers of numbers is a number; all but the remainder form it anew, whatever both sides' terms are.
+pub fn arithmetic_gives_numbers()
+    ensures numbers { ArithmeticIsNumber }
+    ensures formed { FormedIsNumber }
+{}
+
+/// The sum and the mean of a list are numbers, and the common denominator of its totals is above 0.
+pub fn sums_are_numbers()
+    ensures sum { SumIsNumber }
+    ensures mean { MeanIsNumber }
+    ensures denominator { NumberHasDenominator }
+    ensures common { CommonDenominatorIsPositive }
+{}
+
+/// A number with the other sign, without its sign, rounded down or up is a number.
+pub fn rounding_gives_numbers()
+    ensures negated { NegatedIsNumber }
+    ensures magnitude { MagnitudeIsNumber }
+    ensures floor { FloorIsNumber }
+    ensures ceiling { CeilingIsNumber }
+{}
+
+/// A fraction whose terms are within the limit is formed; a whole number, as each count below 2^96 is, as it stands.
+pub fn small_terms_are_formed()
+    ensures fraction { FractionIsFormed }
+    ensures whole { WholeIsFormed }
+    ensures number { WholeIsNumber }
 {}

@@ -21,4 +21,5 @@ pub use order::{cmp_total, compare};
 pub use sums::SumAcc;
 pub use value::{
     ArithOp, CompareOp, Frac, Held, LIMIT, NumFault, Overflow, PairOp, XFrac, is_nan, parts, whole,
+    whole_count,
 };

@@ -222,6 +222,15 @@ pub fn whole(n: i64) -> XFrac
     XFrac::Fin(Frac::of(n as i128, 1))
 }
 
+/// The whole number `n`, a count of at most `LIMIT`.
+#[tactic(auto, using(crate::specs::Reduced::whole_is_reduced))]
+pub fn whole_count(n: u128) -> XFrac
+    requires { n ≤ limit }
+    ensures { result ≡ XFrac.Fin (pos n, 1) }
+{
+    XFrac::Fin(Frac::with_parts(false, n, 1))
+}
+
 /// The numerator and the denominator, which is positive: lowest terms within the limits.
 pub fn parts(f: &Frac) -> (i128, i128)
     ensures numerator { result.0 ≡ f.now.0 }
