@@ -1,4 +1,5 @@
 pub mod Clamps
 pub mod Faults
 pub mod Halves
+pub mod Numbers
 pub mod Rounding
