@@ -4,6 +4,7 @@ pub mod Extremes
 pub mod Fitting
 pub mod Insertion
 pub mod Lost
+pub mod Numbers
 pub mod Permuting
 pub mod Places
 pub mod Plain

@@ -2,6 +2,7 @@ pub mod Aggregates
 pub mod Fits
 pub mod Increases
 pub mod Laws
+pub mod NumberLaws
 pub mod Points
 pub mod Slopes
 pub mod Steps

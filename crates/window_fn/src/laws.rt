@@ -1,7 +1,11 @@
 //! Laws of functions over windows that users rely on. The functions do nothing: each stands for what its contract says.
 ghost use Rattle.window_fn.specs.Laws.{AscendingIsRanked, GreatestIsGreatest, IncreaseWithoutResets, LeastIsLeast, OneValueStays, OrderDoesntMatter, TimesDontMatter};
+ghost use Rattle.window_fn.specs.NumberLaws.{AggregateIsNumber, SecondsAreNumbers, WindowIsNumber};
 
-use xfrac::laws::{order_is_total, sum_ignores_order};
+use xfrac::laws::{
+    arithmetic_gives_numbers, order_is_total, rounding_gives_numbers, small_terms_are_formed,
+    sum_ignores_order, sums_are_numbers,
+};
 
 /// Without a reset a counter's increase is the plain difference, carried on to the window's edges.
 pub fn increase_without_resets()
@@ -40,4 +44,22 @@ pub fn ranks_are_of_values()
     ensures { AscendingIsRanked }
 {
     order_is_total();
+}
+
+/// The aggregations, the quantiles and the functions over windows give numbers where the values are numbers.
+pub fn windows_give_numbers()
+    ensures aggregates { AggregateIsNumber }
+    ensures windows { WindowIsNumber }
+{
+    arithmetic_gives_numbers();
+    sums_are_numbers();
+    rounding_gives_numbers();
+}
+
+/// A time in milliseconds, within 10^30, has a number of seconds.
+pub fn seconds_are_numbers()
+    ensures { SecondsAreNumbers }
+{
+    small_terms_are_formed();
+    arithmetic_gives_numbers();
 }
