@@ -1,4 +1,5 @@
 pub mod LabelEquality
+pub mod LabelLaws
 pub mod LabelOrder
 pub mod LabelText
 pub mod Labels

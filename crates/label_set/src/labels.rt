@@ -1,5 +1,6 @@
 ghost use Rattle.label_set.specs.LabelText.{labels_text};
 ghost use Rattle.label_set.specs.Labels.{IsLabelSet, IsMarked, byte_cmp, is_chosen, is_named, keep, labels_cmp, metric_name, put_refusal, set_refusal, signature, value_at, value_of, with_metric, with_pair, with_value, without};
+ghost use Rattle.label_set.specs.LabelLaws.{EqualityIsEquivalence, EqualityIsTie};
 ghost use Rattle.std.specs.BTreeMap.{insert_entry};
 ghost use Rattle.std.specs.Cmp.{IsTotalOrder};
 ghost use Rattle.std.specs.Option.{option_map};
@@ -407,4 +408,11 @@ impl Hash for Labels {
 pub fn order_is_total()
     ensures total { IsTotalOrder labels_cmp }
     ensures ties { (ps qs : List (List ℕ × List ℕ)) → labels_cmp ps qs ≡ Equal → ps ≡ qs }
+{}
+
+/// The law of `==` of labels, on which maps keyed by them rest: it is an equivalence, and tells what their order tells.
+#[tactic(auto, using(crate::specs::LabelOrder::labels_eq_equivalence, crate::specs::LabelOrder::labels_eq_at))]
+pub fn equality_is_tie()
+    ensures equivalence { EqualityIsEquivalence }
+    ensures tie { EqualityIsTie }
 {}

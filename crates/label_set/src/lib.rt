@@ -9,5 +9,5 @@ mod rules;
 
 pub use holders::{Boxed, Items, Memory, Text};
 pub use label_text::append_quoted;
-pub use labels::{LabelRefusal, Labels, METRIC_NAME, order_is_total};
+pub use labels::{LabelRefusal, Labels, METRIC_NAME, equality_is_tie, order_is_total};
 pub use rules::{Card, Grouping, Pairing, PatternId, Relabel, Rule, RuleKind};
