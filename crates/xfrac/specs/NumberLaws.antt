@@ -1,5 +1,5 @@
 -- Which answers are numbers: what users rely on of arithmetic, of sums and of whole numbers. (This project's own.)
-use Rattle.std.specs.Prelude.{◌≡◌, ◌<◌, ◌≤◌, ℤ, unsigned_abs, List, Some, IfOk, IfSome}
+use Rattle.std.specs.Prelude.{◌≡◌, ℕ, ◌<◌, ◌≤◌, ℤ, unsigned_abs, List, Some, IfOk, IfSome}
 use Rattle.std.specs.List.{All}
 use Rattle.xfrac.specs.Arithmetic.{arithmetic, mean_of}
 use Rattle.xfrac.specs.Forming.{formed, negated, magnitude, floor_of, ceiling_of}
