@@ -31,7 +31,7 @@ use Rattle.step_table.specs.declared.marks.Marks.{Marks}
 use Rattle.step_table.specs.declared.outcomes.Outcome.{Outcome}
 use Rattle.step_table.specs.declared.step.Row.{Row}
 use Rattle.step_table.specs.declared.step.Step.{Step}
-use Rattle.step_table.proofs.Alike.{gathered_alike, none_shared, union_swapped}
+use Rattle.step_table.specs.Alike.{gathered_alike, none_shared, union_swapped}
 use Rattle.step_table.proofs.Filters.{matched_unnamed}
 use Rattle.step_table.proofs.Matched.{all_matched, kept, kept_under, with_partner}
 use Rattle.step_table.specs.KeySets.{any_of_set, merged-nil}

@@ -1,5 +1,4 @@
 mod Rising
-pub mod Alike
 pub mod Exchanged
 pub mod Filters
 pub mod Gathers

@@ -4,21 +4,13 @@ use Rattle.std.proofs.lemmas.List.{nil_from_length}
 use Rattle.std.specs.declared.cmp.Ordering.{Ordering}
 use Rattle.std.specs.declared.cmp.Ordering.TheVariants.{Less, Equal, Greater}
 use Rattle.std.specs.Set.{sorted_merge}
+use Rattle.step_table.specs.Alike.{merged-less, merged-equal, merged-greater}
 use Rattle.step_table.specs.KeySets.{merged-nil}
 
 module _ {K : Type 0} (R : K → K → Ordering) where
   -- what is merged so far and what is still to come, before a bound and all that may follow it, are the same at both
   pub record IsSame (bound : K) (all rest all' rest' : List K) : Type 0 where
     pub at : (xs : List K) → all ++ sorted_merge R true (bound ∷ xs) rest ≡ all' ++ sorted_merge R true (bound ∷ xs) rest'
-
-  pub merged-less : (x : K) (xs : List K) (y : K) (ys : List K) → R x y ≡ Less → sorted_merge R true (x ∷ xs) (y ∷ ys) ≡ x ∷ sorted_merge R true xs (y ∷ ys)
-  merged-less x xs y ys e = rw e refl
-
-  pub merged-equal : (x : K) (xs : List K) (y : K) (ys : List K) → R x y ≡ Equal → sorted_merge R true (x ∷ xs) (y ∷ ys) ≡ x ∷ sorted_merge R true xs ys
-  merged-equal x xs y ys e = rw e refl
-
-  pub merged-greater : (x : K) (xs : List K) (y : K) (ys : List K) → R x y ≡ Greater → sorted_merge R true (x ∷ xs) (y ∷ ys) ≡ y ∷ sorted_merge R true (x ∷ xs) ys
-  merged-greater x xs y ys e = rw e refl
 
   pub head_tail : (xs : List K) (x : K) → 1 ≤ length xs → x ≡ get_or xs 0 x → xs ≡ x ∷ drop 1 xs
   head_tail [] x l e = absurd (omega arith)

@@ -1,4 +1,5 @@
--- Items that are the same under all labels are gathered alike.
+-- Sets with the same members are one, and items that are the same under all labels are gathered alike: lemmas that the
+-- crates above cite too.
 use Rattle.std.proofs.Common.{◌≡◌, ◌∙◌, Bool, true, false, cond, List, [], ◌∷◌, map, refl, sym, ap, subst, Some, None}
 use Rattle.std.specs.Prelude.{◌||◌, filter, unwrap_or, if◌then◌else◌}
 use Rattle.std.specs.declared.cmp.Ordering.{Ordering}
@@ -18,7 +19,18 @@ use Rattle.label_set.specs.LabelOrder.{labels_cmp_total, labels_cmp_ties}
 use Rattle.step_table.specs.Gathering.{found, names_sorted}
 use Rattle.step_table.specs.Groups.{Names, names_among, items_of, gathered, has_several, shared_names, shared_of}
 use Rattle.step_table.specs.KeySets.{any_of_set, merged-nil}
-use Rattle.step_table.proofs.Merges.{merged-less, merged-equal, merged-greater}
+
+-- ---- sets
+
+module _ {K : Type 0} (R : K → K → Ordering) where
+  pub merged-less : (x : K) (xs : List K) (y : K) (ys : List K) → R x y ≡ Less → sorted_merge R true (x ∷ xs) (y ∷ ys) ≡ x ∷ sorted_merge R true xs (y ∷ ys)
+  merged-less x xs y ys e = rw e refl
+
+  pub merged-equal : (x : K) (xs : List K) (y : K) (ys : List K) → R x y ≡ Equal → sorted_merge R true (x ∷ xs) (y ∷ ys) ≡ x ∷ sorted_merge R true xs ys
+  merged-equal x xs y ys e = rw e refl
+
+  pub merged-greater : (x : K) (xs : List K) (y : K) (ys : List K) → R x y ≡ Greater → sorted_merge R true (x ∷ xs) (y ∷ ys) ≡ y ∷ sorted_merge R true (x ∷ xs) ys
+  merged-greater x xs y ys e = rw e refl
 
 module _ {K : Type 0} {R : K → K → Ordering} (o : IsTotalOrder R) (ties : (x y : K) → R x y ≡ Equal → x ≡ y) where
   is_here : (k : K) (ks : List K) → list_any (is_at (R k)) (k ∷ ks) ≡ true
@@ -71,12 +83,14 @@ module _ {K : Type 0} {R : K → K → Ordering} (o : IsTotalOrder R) (ties : (x
   union_swapped [] ys = sym (merged-nil R ys)
   union_swapped (x ∷ xs) ys = swapped_onto x xs (union_swapped xs) ys
 
+-- ---- items under labels
+
 module _ {T : Type 0} where
-  abbrev has_some : List T → Bool
+  abbrev pub has_some : List T → Bool
   has_some [] = false
   has_some (item ∷ items) = true
 
-  any_key : (items : List (Names × T)) (names : Names) → list_any (is_at (labels_cmp names)) (keys_of items) ≡ has_some (items_of items names)
+  pub any_key : (items : List (Names × T)) (names : Names) → list_any (is_at (labels_cmp names)) (keys_of items) ≡ has_some (items_of items names)
   any_key [] names = refl
   any_key (item ∷ items) names =
       elim (is_at (labels_cmp names) item.0) as (λ b. (b || list_any (is_at (labels_cmp names)) (keys_of items)) ≡ has_some (values_of (cond b (item ∷ filter (λ e. is_at (labels_cmp names) e.0) items) (filter (λ e. is_at (labels_cmp names) e.0) items)))) [
@@ -84,7 +98,7 @@ module _ {T : Type 0} where
         | false ↦ any_key items names
       ]
 
-  any_name : (items : List (Names × T)) (names : Names) → list_any (is_at (labels_cmp names)) (names_among items) ≡ has_some (items_of items names)
+  pub any_name : (items : List (Names × T)) (names : Names) → list_any (is_at (labels_cmp names)) (names_among items) ≡ has_some (items_of items names)
   any_name items names = any_of_set labels_cmp_total labels_cmp_ties (is_at (labels_cmp names)) (keys_of items) ∙ any_key items names
 
   names_alike : (xs ys : List (Names × T)) → ((names : Names) → items_of xs names ≡ items_of ys names) → names_among xs ≡ names_among ys

@@ -1,3 +1,4 @@
+pub mod Alike
 pub mod Gathering
 pub mod Groups
 pub mod KeySets
