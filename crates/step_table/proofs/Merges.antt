@@ -25,14 +25,14 @@ module _ {K : Type 0} (R : K → K → Ordering) where
     module _ (y : K) (ys : List K) (is : rest ≡ y ∷ ys) where
       pub ended_less : R bound y ≡ Less → (xs : List K) → all ++ bound ∷ sorted_merge R true xs rest ≡ all' ++ sorted_merge R true (bound ∷ xs) rest'
       ended_less o xs =
-          ap (λ r. all ++ bound ∷ sorted_merge R true xs r) is ∙ ap (λ r. all ++ r) (sym (merged-less bound xs y ys o)) ∙ ap (λ r. all ++ sorted_merge R true (bound ∷ xs) r) (sym is) ∙ same.at xs
+          ap (λ r. all ++ bound ∷ sorted_merge R true xs r) is ∙ ap (λ r. all ++ r) (sym (merged-less R bound xs y ys o)) ∙ ap (λ r. all ++ sorted_merge R true (bound ∷ xs) r) (sym is) ∙ same.at xs
 
       pub ended_equal : R bound y ≡ Equal → (xs : List K) → all ++ bound ∷ sorted_merge R true xs ys ≡ all' ++ sorted_merge R true (bound ∷ xs) rest'
       ended_equal o xs =
-          ap (λ r. all ++ r) (sym (merged-equal bound xs y ys o)) ∙ ap (λ r. all ++ sorted_merge R true (bound ∷ xs) r) (sym is) ∙ same.at xs
+          ap (λ r. all ++ r) (sym (merged-equal R bound xs y ys o)) ∙ ap (λ r. all ++ sorted_merge R true (bound ∷ xs) r) (sym is) ∙ same.at xs
 
       pub goes_on : R bound y ≡ Greater → (more : List K) → more ≡ all ++ y ∷ [] → IsSame bound more ys all' rest'
       goes_on o more e = record {
         at = λ xs. ap (λ m. m ++ sorted_merge R true (bound ∷ xs) ys) e ∙ append_assoc all (y ∷ []) (sorted_merge R true (bound ∷ xs) ys)
-            ∙ ap (λ r. all ++ r) (sym (merged-greater bound xs y ys o)) ∙ ap (λ r. all ++ sorted_merge R true (bound ∷ xs) r) (sym is) ∙ same.at xs;
+            ∙ ap (λ r. all ++ r) (sym (merged-greater R bound xs y ys o)) ∙ ap (λ r. all ++ sorted_merge R true (bound ∷ xs) r) (sym is) ∙ same.at xs;
       }
