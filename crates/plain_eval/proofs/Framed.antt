@@ -35,7 +35,9 @@ use Rattle.promql_meaning.specs.Subqueries.{as_times, gathered_windows, group_wi
 use Rattle.promql_meaning.specs.Meaning.{argument, called, given_at, meaning, negation, node_meaning, operation}
 use Rattle.promql_meaning.specs.Ranges.{frame_of}
 use Rattle.promql_meaning.specs.Selecting.{Asked, Samples, between, fresh_sample, passing, moment_of, series_window, window, window_row}
-use Rattle.plain_eval.specs.Frames.{AreFramed, IsFramed}
+use Rattle.step_rules.specs.Frames.{AreFramed}
+use Rattle.step_rules.specs.Instants.{IsIn, multiples_in}
+use Rattle.plain_eval.specs.Frames.{IsFramed}
 
 -- ---- lists
 
@@ -45,10 +47,6 @@ all_of P (x ∷ xs) a zero d w = a.0
 all_of P (x ∷ xs) a (suc k) d w = all_of P xs a.1 k d (omega (arith, w))
 
 -- ---- a range selector
-
--- a time behind the left edge of a range, up to its moment
-abbrev pub IsIn : ℤ → ℤ → Ms → Type 0
-IsIn edge m t = (edge ≤ℤ t.0) × (t.0 ≤ℤ m)
 
 fresh_in : (edge m : ℤ) (s : Ms × Held) (rest : List (Ms × XFrac)) → IsIn edge m s.0 → AllByRecursion (λ (x : Ms × XFrac). IsIn edge m x.0) rest
     → AllByRecursion (λ (x : Ms × XFrac). IsIn edge m x.0) (cons_option (fresh_sample s) rest)
@@ -190,36 +188,6 @@ groups_in edge m items (ns ∷ names) all =
 windows_in : (edge m : ℤ) (items : List (Names × (Ms × XFrac))) → AllByRecursion (λ (x : Names × (Ms × XFrac)). IsIn edge m x.1.0) items → AllByRecursion (RowIn edge m) (gathered_windows items)
 unfolding gathered
 windows_in edge m items all = groups_in edge m items (names_among items) all
-
-rem_below : (z : ℤ) (n : ℕ) → 0 < n → int_rem_euclid z (pos n) <ℤ pos n
-rem_below (pos a) n h = let b : a % n < n = mod-lt a h in omega (arith, ints, b)
-rem_below (negsuc a) n h = let b : a % n < n = mod-lt a h in omega (arith, ints, b)
-
--- a first instant behind an edge and those after it, where the last one is not behind a moment
-instants_in : (edge m first : ℤ) (s n : ℕ) → edge <ℤ first → (first +ℤ pos (n * s)) ≤ℤ m → AllByRecursion (IsIn edge m) (as_times (instants first (pos s) (suc n)))
-instants_in edge m first s zero behind last = ((omega (arith, ints, behind), omega (arith, ints, last)), tt)
-instants_in edge m first s (suc n) behind last =
-    ((omega (arith, ints, behind), omega (arith, ints, last)), instants_in edge m (first +ℤ pos s) s n (omega (arith, ints, behind)) (omega (arith, ints, last)))
-
-pub up_to_in : (edge m first : ℤ) (s : ℕ) → 0 < s → edge <ℤ first → AllByRecursion (IsIn edge m) (as_times (instants_up_to first m (pos s)))
-up_to_in edge m first s positive behind =
-    let k = unsigned_abs (m -ℤ first) in
-    let e : k / s * s + k % s ≡ k = div-add-mod' k s in
-    elim (int_lt m first) as (λ b. int_lt m first ≡ b → AllByRecursion (IsIn edge m) (as_times (if b then [] else instants first (pos s) (k / s + 1)))) [
-      | true ↦ λ h. tt
-      | false ↦ λ h.
-          let abs : pos k ≡ m -ℤ first = omega (arith, ints, h) in
-          subst (λ c. AllByRecursion (IsIn edge m) (as_times (instants first (pos s) c))) (sym (add-one (k / s))) (instants_in edge m first s (k / s) behind (omega (arith, ints, e, abs)))
-    ] refl
-
--- the multiples of a step in a range lie in it
-multiples_in : (m range step : ℤ) → pos 0 <ℤ step → AllByRecursion (IsIn (m -ℤ range) m) (as_times (multiples m range step))
-multiples_in m range (pos s) positive =
-    let edge = m -ℤ range in
-    let some : 0 < s = omega (arith, ints, positive) in
-    let b = rem_below edge s some in
-    up_to_in edge m (multiple_after (pos s) edge) s some (omega (arith, ints, b))
-multiples_in m range (negsuc s) positive = absurd (omega (arith, ints, positive))
 
 points_in : (inner : ℤ → Step) (range step : Ms) (m : ℤ) → pos 0 <ℤ step.0 → AllByRecursion (RowIn (m -ℤ range.0) m) (points_of inner range step m).rows
 points_in inner range step m positive =

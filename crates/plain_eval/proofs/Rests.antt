@@ -1,11 +1,11 @@
 -- What is left of a list of arguments or instants, after one more.
-use Rattle.std.proofs.Common.{◌≡◌, ◌∙◌, ℕ, ◌+◌, ◌<◌, ◌≤◌, List, [], ◌∷◌, ◌++◌, length, get_or, drop, map, ap, sym, subst, add-one, append_assoc, append-nil, drop-cons}
+use Rattle.std.proofs.Common.{◌≡◌, ◌∙◌, ℕ, ◌+◌, ◌<◌, ◌≤◌, List, [], ◌∷◌, ◌++◌, length, get_or, drop, map, ap, sym, append_assoc, append-nil}
 use Rattle.std.proofs.lemmas.List.{drop_all}
 use Rattle.std.specs.Prelude.{ℤ}
-use Rattle.std.specs.List.{AllByRecursion}
 use Rattle.ticks.specs.declared.moment.Ms.{Ms}
 use Rattle.promql_ast.specs.declared.tree.Expr.{Expr}
 use Rattle.step_table.specs.Groups.{Names}
+use Rattle.step_table.specs.Timed.{timed}
 use Rattle.step_table.specs.Unions.{united}
 use Rattle.step_table.specs.declared.marks.Marks.{Marks}
 use Rattle.step_table.specs.declared.step.Step.{Step}
@@ -14,21 +14,7 @@ use Rattle.promql_meaning.specs.declared.given.Given.{Given}
 use Rattle.promql_meaning.specs.Meaning.{given_at, meaning}
 use Rattle.promql_meaning.specs.Selecting.{Asked}
 use Rattle.promql_meaning.specs.Subqueries.{marks_over, rows_over}
-use Rattle.step_table.specs.Timed.{timed}
-
-module _ {X : Type 0} where
-  pub drop_at : (xs : List X) (i : ℕ) (d : X) → i < length xs → drop i xs ≡ get_or xs i d ∷ drop (i + 1) xs
-  drop_at xs i d w = rw add-one (drop-cons xs i d w)
-
-  pub drop_item : (xs : List X) (i : ℕ) (x : X) → i < length xs → x ≡ get_or xs i x → drop i xs ≡ x ∷ drop (i + 1) xs
-  drop_item xs i x w is = drop_at xs i x w ∙ ap (λ y. y ∷ drop (i + 1) xs) (sym is)
-
-  -- what holds of all that are left holds of the next one and of those behind it
-  pub next_holds : (P : X → Type 0) (xs : List X) (i : ℕ) (d : X) → i < length xs → AllByRecursion P (drop i xs) → P (get_or xs i d) × AllByRecursion P (drop (i + 1) xs)
-  next_holds P xs i d w all = subst (AllByRecursion P) (drop_at xs i d w) all
-
-  pub item_holds : (P : X → Type 0) (xs : List X) (i : ℕ) (x : X) → i < length xs → x ≡ get_or xs i x → AllByRecursion P (drop i xs) → P x × AllByRecursion P (drop (i + 1) xs)
-  item_holds P xs i x w is all = subst (AllByRecursion P) (drop_item xs i x w is) all
+use Rattle.step_rules.specs.Rests.{drop_at, drop_item}
 
 pub given_more : (asked : Asked) (items : List Expr) (i : ℕ) (x : Expr) (t : ℤ) (old new : List Given) (v : Given) (all : List Given) → i < length items → x ≡ get_or items i x → new ≡ old ++ v ∷ [] → v ≡ meaning asked x t
     → old ++ given_at (map (meaning asked) (drop i items)) t ≡ all → new ++ given_at (map (meaning asked) (drop (i + 1) items)) t ≡ all

@@ -24,7 +24,7 @@ use Rattle.promql_meaning.specs.Selecting.{Asked}
 use Rattle.promql_meaning.specs.Results.{all_marks, all_points, first_stop, points_at, stop_at}
 use Rattle.step_table.specs.Timed.{StepAt, steps_over}
 use Rattle.plain_eval.proofs.Children.{all_back, all_front}
-use Rattle.plain_eval.proofs.Rests.{drop_at}
+use Rattle.step_rules.specs.Rests.{drop_at}
 
 abbrev pub at_instant : Ms → Step → StepAt
 at_instant u step = record { at = u; step = step }

@@ -1,10 +1,6 @@
-pub mod Absent
 pub mod Checked
-pub mod Counts
 pub mod Frames
-pub mod Joined
 pub mod Numbered
 pub mod Queried
-pub mod Ranked
 pub mod Ready
 pub mod Walks

@@ -1,14 +1,13 @@
 //! Aggregations of what their arguments give.
-ghost use Rattle.promql_meaning.specs.Aggregations.{aggregated};
-ghost use Rattle.promql_meaning.specs.Givens.{with_scalar};
 ghost use Rattle.promql_meaning.specs.Meaning.{aggregation};
-ghost use Rattle.std.specs.Prelude.{◌≡◌, [], IfOk};
+ghost use Rattle.std.specs.Prelude.{◌≡◌, IfOk};
 
-use crate::givens::{barren, marked, take_step, take_words, value_in};
+use crate::givens::{take_step, take_words};
 use func_table::Aggregate;
 use label_set::{Grouping, Items};
 use promql_meaning::{Given, group};
 use std::alloc::{AllocError, Global};
+use step_rules::aggregated_with;
 use step_table::Step;
 use xfrac::whole;
 
@@ -27,7 +26,7 @@ pub fn aggregation(
         Aggregate::TopK | Aggregate::BottomK | Aggregate::Quantile => {
             let parameter = take_step(alloc, &mut arguments)?;
             let step = take_step(alloc, &mut arguments)?;
-            with_parameter(alloc, f, by, &parameter, step)
+            aggregated_with(alloc, f, by, "", &parameter, step)
         }
         Aggregate::CountValues => {
             let label = take_words(alloc, &mut arguments)?;
@@ -38,22 +37,5 @@ pub fn aggregation(
             let step = take_step(alloc, &mut arguments)?;
             group(alloc, &step, f, by, &whole(0), "")
         }
-    }
-}
-
-/// An aggregation with a scalar as its parameter.
-fn with_parameter(
-    alloc: Global,
-    f: Aggregate,
-    by: &Grouping,
-    parameter: &Step,
-    step: Step,
-) -> Result<Step, AllocError>
-    ensures { IfOk result (λ s. s ≡ with_scalar (λ a. aggregated f by.now a []) parameter.now step) }
-{
-    let step = marked(&parameter.marks, step)?;
-    match value_in(parameter) {
-        Some(value) => group(alloc, &step, f, by, &value, ""),
-        None => Ok(barren(alloc, step.marks)),
     }
 }

@@ -2,28 +2,24 @@
 ghost use Rattle.plain_eval.specs.Frames.{IsFramed};
 ghost use Rattle.promql_meaning.specs.Buckets.{bucket_quantiles as quantiles_of_buckets};
 ghost use Rattle.promql_meaning.specs.Givens.{step_of, with_scalar, words_of};
-ghost use Rattle.promql_meaning.specs.Meaning.{as_scalar, called, step_at, value_of_one, words_at};
+ghost use Rattle.promql_meaning.specs.Meaning.{called, step_at, words_at};
 ghost use Rattle.promql_meaning.specs.Relabels.{label_joined as label_joined_of};
 ghost use Rattle.std.specs.List.{AllByRecursion};
 ghost use Rattle.std.specs.Prelude.{◌≡◌, drop, map, Some, true, slice_get, IfOk};
 
-use crate::absences::absent;
-use crate::buckets::bucket_quantiles;
-use crate::elements::applied;
-use crate::givens::{
-    barren, into_words, marked, step_of_rows, take_first, take_step, take_words, value_in,
-};
-use crate::ranges::ranged;
-use crate::relabels::{Replacing, label_joined, label_replaced};
-use crate::times::{time_step, timestamps};
+use crate::elements::{absent, applied, ranged, timestamps};
+use crate::givens::{into_words, take_first, take_step, take_words};
 use func_table::Func;
-use label_set::{Items, Labels, PatternId, Text};
+use label_set::{Items, PatternId, Text};
 use match_rule::Patterns;
-use promql_meaning::Given;
+use promql_meaning::{Given, barren};
 use std::alloc::{AllocError, Global};
-use step_table::{Row, Step};
+use step_rules::{
+    Replacing, as_scalar, bucket_quantiles, label_joined, label_replaced, marked, time_step,
+    value_in,
+};
+use step_table::Step;
 use ticks::Ms;
-use xfrac::XFrac;
 
 /// What a call gives at an instant, but for label_replace. The only error is want of memory.
 pub fn called(alloc: Global, f: Func, arguments: Items<Given>, t: Ms) -> Result<Given, AllocError>
@@ -54,28 +50,6 @@ pub fn called(alloc: Global, f: Func, arguments: Items<Given>, t: Ms) -> Result<
             Ok(Given::Vector(timestamps(alloc, given, t)?))
         }
         Func::LabelReplace => Ok(Given::Vector(take_step(alloc, &mut arguments)?)),
-    }
-}
-
-/// The value of the one row of a vector, else NaN, as a scalar.
-fn as_scalar(alloc: Global, step: Step) -> Result<Step, AllocError>
-    ensures { IfOk result (λ s. s ≡ as_scalar step) }
-{
-    let value = value_of_one(step.table.rows.as_slice());
-    let mut rows = Items::new(alloc);
-    rows.push(Row {
-        labels: Labels::empty(alloc),
-        value,
-    })?;
-    Ok(step_of_rows(rows, step.marks))
-}
-
-fn value_of_one(rows: &[Row]) -> XFrac
-    ensures { result ≡ value_of_one rows.now }
-{
-    match rows {
-        [row] => row.value,
-        _ => XFrac::NaN,
     }
 }
 

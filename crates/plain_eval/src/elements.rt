@@ -1,20 +1,22 @@
-//! Element functions, and operators between a vector and a scalar.
-ghost use Rattle.promql_meaning.specs.Elements.{mapped, operated_rows, operated_with};
-ghost use Rattle.promql_meaning.specs.Givens.{with_scalar, with_scalars, step_of};
-ghost use Rattle.promql_meaning.specs.Givens.{scalar_step as step_of_scalar};
-ghost use Rattle.promql_meaning.specs.Meaning.{applied, zero_number};
+//! Functions of values, windows and times, of what their arguments give.
+ghost use Rattle.plain_eval.specs.Frames.{IsFramed};
+ghost use Rattle.promql_meaning.specs.Elements.{timestamps};
+ghost use Rattle.promql_meaning.specs.Givens.{scalar_step as step_of_scalar, step_of};
+ghost use Rattle.promql_meaning.specs.Meaning.{absent, applied, over_windows, over_windows_with, ranged};
 ghost use Rattle.promql_meaning.specs.declared.given.Given.TheVariants.{Scalar};
+ghost use Rattle.std.specs.List.{AllByRecursion};
 ghost use Rattle.std.specs.Prelude.{◌≡◌, slice_index_or, IfOk};
-ghost use Rattle.step_table.specs.Operators.{unnamed};
 ghost use Rattle.xfrac.specs.Arithmetic.{whole_number};
 
-use crate::givens::{barren, marked, scalar_step, take_step, value_in};
-use func_table::Element;
-use label_set::{Items, Labels};
-use promql_meaning::{Given, map_rows};
+use crate::givens::{take_first, take_step};
+use func_table::{Element, Window};
+use label_set::Items;
+use promql_meaning::{Given, Selection, Windows, barren, map_rows, no_marks};
 use std::alloc::{AllocError, Global};
-use step_table::{Outcome, Step, drops_name, operate, settled, taken, without_name};
-use xfrac::{NumFault, PairOp, XFrac, compare, whole};
+use step_rules::{absence, applied_to, at_instant, scalar_step, stamps, windowed, windowed_with};
+use step_table::Step;
+use ticks::Ms;
+use xfrac::whole;
 
 /// An element function of a vector and of the scalars that it takes. The only error is want of memory.
 #[tactic(auto, using(crate::proofs::Taken::second_is, crate::proofs::Taken::third_is, crate::proofs::Taken::other_is))]
@@ -26,16 +28,16 @@ pub fn applied(alloc: Global, f: Element, arguments: Items<Given>) -> Result<Ste
     match f {
         Element::Round => {
             let to = rounding(alloc, arguments)?;
-            with_one(alloc, f, &to, step)
+            applied_to(alloc, f, &to, &to, step)
         }
         Element::ClampMin | Element::ClampMax => {
             let bound = take_step(alloc, &mut arguments)?;
-            with_one(alloc, f, &bound, step)
+            applied_to(alloc, f, &bound, &bound, step)
         }
         Element::Clamp => {
             let low = take_step(alloc, &mut arguments)?;
             let high = take_step(alloc, &mut arguments)?;
-            clamped(alloc, &low, &high, step)
+            applied_to(alloc, f, &low, &high, step)
         }
         _ => map_rows(alloc, &step, f, &whole(0), &whole(0)),
     }
@@ -52,93 +54,86 @@ fn rounding(alloc: Global, arguments: Items<Given>) -> Result<Step, AllocError>
     take_step(alloc, &mut arguments)
 }
 
-/// An element function of a vector and one scalar.
-fn with_one(alloc: Global, f: Element, scalar: &Step, step: Step) -> Result<Step, AllocError>
-    ensures { IfOk result (λ s. s ≡ with_scalar (λ a. mapped f a zero_number) scalar.now step) }
+/// A function of windows, and of the scalar that it takes. The only error is want of memory.
+pub fn ranged(alloc: Global, f: Window, arguments: Items<Given>, t: Ms) -> Result<Step, AllocError>
+    requires { AllByRecursion (IsFramed t.0) arguments }
+    ensures { IfOk result (λ step. step ≡ ranged f t.0 arguments) }
 {
-    let step = marked(&scalar.marks, step)?;
-    match value_in(scalar) {
-        Some(value) => map_rows(alloc, &step, f, &value, &whole(0)),
-        None => Ok(barren(alloc, step.marks)),
+    let mut arguments = arguments;
+    match f {
+        Window::PredictLinear => {
+            let given = take_first(alloc, &mut arguments);
+            let ahead = take_step(alloc, &mut arguments)?;
+            with_scalar(alloc, f, &ahead, given, t)
+        }
+        Window::QuantileOver => {
+            let quantile = take_step(alloc, &mut arguments)?;
+            let given = take_first(alloc, &mut arguments);
+            with_scalar(alloc, f, &quantile, given, t)
+        }
+        _ => alone(alloc, f, take_first(alloc, &mut arguments), t),
     }
 }
 
-fn clamped(alloc: Global, low: &Step, high: &Step, step: Step) -> Result<Step, AllocError>
-    ensures { IfOk result (λ s. s ≡ with_scalars (mapped Element.Clamp) low.now high.now step) }
+/// A function of windows alone.
+fn alone(alloc: Global, f: Window, given: Given, t: Ms) -> Result<Step, AllocError>
+    requires { IsFramed t.0 given }
+    ensures { IfOk result (λ step. step ≡ over_windows f t.0 given) }
 {
-    let step = marked(&high.marks, marked(&low.marks, step)?)?;
-    match (value_in(low), value_in(high)) {
-        (Some(low), Some(high)) => map_rows(alloc, &step, Element::Clamp, &low, &high),
-        _ => Ok(barren(alloc, step.marks)),
+    match given {
+        Given::Windows(windows) => windowed(alloc, f, t, &whole(0), windows),
+        _ => Ok(barren(alloc, no_marks(alloc))),
     }
 }
 
-/// An operator between the rows of a vector and a scalar, which is the left operand or the right one. The only error is
-/// want of memory.
-pub fn with_operand(
+/// A function of windows and a scalar, with the marks of both.
+fn with_scalar(
     alloc: Global,
-    op: PairOp,
-    scalar_left: bool,
+    f: Window,
     scalar: &Step,
-    step: Step,
+    given: Given,
+    t: Ms,
 ) -> Result<Step, AllocError>
-    ensures { IfOk result (λ s. s ≡ with_scalar (operated_rows op scalar_left) scalar.now step) }
+    requires { IsFramed t.0 given }
+    ensures { IfOk result (λ step. step ≡ over_windows_with f t.0 scalar.now given) }
 {
-    let step = marked(&scalar.marks, step)?;
-    match value_in(scalar) {
-        Some(value) => operated_rows(alloc, op, scalar_left, &value, step),
-        None => Ok(barren(alloc, step.marks)),
+    match given {
+        Given::Windows(windows) => windowed_with(alloc, f, t, scalar, windows),
+        _ => Ok(barren(alloc, no_marks(alloc))),
     }
 }
 
-fn operated_rows(
-    alloc: Global,
-    op: PairOp,
-    scalar_left: bool,
-    scalar: &XFrac,
-    step: Step,
-) -> Result<Step, AllocError>
-    ensures { IfOk result (λ s. s ≡ operated_rows op scalar_left scalar.now step) }
+/// The time of each sample of a selector in seconds; of any other vector the instant. The only error is want of memory.
+pub fn timestamps(alloc: Global, given: Given, t: Ms) -> Result<Step, AllocError>
+    ensures { IfOk result (λ step. step ≡ timestamps given t.0) }
 {
-    let Step { table, marks } = step;
-    let mut outcomes = Items::new(alloc);
-    for row in table.rows.into_vec() {
-        outcomes.push(Outcome {
-            value: operated_with(op, scalar_left, scalar, &row.value),
-            labels: left_labels(alloc, op, row.labels)?,
-        })?;
-    }
-    settled(alloc, taken(alloc, marks, outcomes)?)
-}
-
-fn operated_with(
-    op: PairOp,
-    scalar_left: bool,
-    scalar: &XFrac,
-    value: &XFrac,
-) -> Result<Option<XFrac>, NumFault>
-    ensures { result ≡ operated_with op scalar_left scalar.now value.now }
-{
-    if !scalar_left {
-        return operate(op, value, scalar);
-    }
-    match op {
-        PairOp::Filter(c) => Ok(if compare(c, scalar, value) {
-            Some(*value)
-        } else {
-            None
-        }),
-        _ => operate(op, scalar, value),
+    match given {
+        Given::Selected(selection) => stamps(alloc, selection.rows.as_slice()),
+        other => at_instant(alloc, other.into_step(alloc)?, t),
     }
 }
 
-/// The labels that an operator leaves.
-fn left_labels(alloc: Global, op: PairOp, labels: Labels) -> Result<Labels, AllocError>
-    ensures { IfOk result (λ l. l ≡ unnamed op labels) }
+/// One row 1 where a vector has no rows, or windows have none. The only error is want of memory.
+pub fn absent(alloc: Global, given: Given) -> Result<Step, AllocError>
+    ensures { IfOk result (λ step. step ≡ absent given) }
 {
-    if drops_name(op) {
-        without_name(alloc, &labels)
-    } else {
-        Ok(labels)
+    match given {
+        Given::Selected(selection) => {
+            let Selection { rules, rows } = selection;
+            absence(alloc, rules.as_slice(), rows.as_slice(), no_marks(alloc))
+        }
+        Given::Windows(windows) => {
+            let Windows {
+                rules,
+                rows,
+                marks,
+                ..
+            } = windows;
+            absence(alloc, rules.as_slice(), rows.as_slice(), marks)
+        }
+        other => {
+            let Step { table, marks } = other.into_step(alloc)?;
+            absence(alloc, &[], table.rows.as_slice(), marks)
+        }
     }
 }

@@ -15,20 +15,20 @@ ghost use Rattle.ticks.specs.Walks.{IsTime};
 
 use crate::aggregates::aggregation;
 use crate::calls::{called, replaced};
-use crate::givens::{no_marks, scalar_step, words_at};
+use crate::givens::words_at;
 use crate::operators::{negation, operation, set_operation};
-use crate::points::{Points, add_step, multiples, windows_over};
 use crate::selecting::{moment_at, newest_rows, window_rows};
 use func_table::Func;
 use label_set::Items;
 use match_rule::Patterns;
 use promql_ast::{Expr, Moment, Node, Selector};
-use promql_meaning::{Given, Selection, Windows};
+use promql_meaning::{Given, Selection, Windows, no_marks};
 use promql_type::Typed;
 use sample_store::Store;
 use std::alloc::{AllocError, Global};
 use std::marker::Model;
 use std::sync::ledger::Ledger;
+use step_rules::{Points, add_step, multiples, scalar_step, windows_over};
 use step_table::Step;
 use ticks::{Grid, Ms, Work};
 

@@ -1,26 +1,12 @@
-//! What expressions give, taken apart and put together.
-ghost use Rattle.promql_meaning.specs.Givens.{marked, scalar_step, step_of, value_in, words_of};
+//! Arguments taken one after another, by what they give.
+ghost use Rattle.promql_meaning.specs.Givens.{step_of, words_of};
 ghost use Rattle.promql_meaning.specs.Meaning.{argument, words_at};
 ghost use Rattle.std.specs.Prelude.{◌≡◌, drop, IfOk};
 
-use label_set::{Items, Labels, Text};
-use promql_meaning::Given;
-pub use promql_meaning::{barren, no_marks, step_of_rows};
+use label_set::{Items, Text};
+use promql_meaning::{Given, barren, no_marks};
 use std::alloc::{AllocError, Global};
-use step_table::{Marks, Row, Step};
-use xfrac::XFrac;
-
-/// A table of one row without labels. The only error is want of memory.
-pub fn scalar_step(alloc: Global, value: &XFrac) -> Result<Step, AllocError>
-    ensures { IfOk result (λ step. step ≡ scalar_step value.now) }
-{
-    let mut rows = Items::new(alloc);
-    rows.push(Row {
-        labels: Labels::empty(alloc),
-        value: *value,
-    })?;
-    Ok(step_of_rows(rows, no_marks(alloc)))
-}
+use step_table::Step;
 
 /// The text of words. The only error is want of memory.
 pub fn into_words(alloc: Global, given: Given) -> Result<Text, AllocError>
@@ -43,25 +29,6 @@ pub fn words_at(arguments: &[Given], n: usize) -> &str
         Some(Given::Words(text)) => text.as_str(),
         _ => "",
     }
-}
-
-/// The value of a scalar, unless its row is lost.
-pub fn value_in(scalar: &Step) -> Option<XFrac>
-    ensures { result ≡ value_in scalar.now }
-{
-    match scalar.table.rows.as_slice() {
-        [] => None,
-        [row, ..] => Some(row.value),
-    }
-}
-
-/// A step with the marks of another part. The only error is want of memory.
-pub fn marked(marks: &Marks, step: Step) -> Result<Step, AllocError>
-    ensures { IfOk result (λ s. s ≡ marked marks.now step) }
-{
-    let mut step = step;
-    step.marks.unite(marks)?;
-    Ok(step)
 }
 
 /// Takes the first argument; a missing one is a vector without rows.

@@ -1,23 +1,15 @@
 //! The meaning of a typed query at an instant, and its result over a grid, computed from the tree and the store.
 #![tactic(auto)]
 
-mod absences;
 mod aggregates;
-mod buckets;
 mod calls;
 mod elements;
 mod evaluating;
 mod givens;
 mod laws;
 mod operators;
-mod orders;
-mod points;
-mod ranges;
-mod relabels;
 mod results;
 mod selecting;
-mod templates;
-mod times;
 
 pub use evaluating::at;
 pub use laws::{checked_patterns_are_kept, kept_patterns_stay};

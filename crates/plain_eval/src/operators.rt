@@ -1,17 +1,16 @@
 //! Operators and the sign minus.
 ghost use Rattle.promql_meaning.specs.Givens.{step_of};
-ghost use Rattle.promql_meaning.specs.Elements.{mapped};
-ghost use Rattle.promql_meaning.specs.Meaning.{negation, operation, zero_number};
+ghost use Rattle.promql_meaning.specs.Meaning.{negation, operation};
 ghost use Rattle.std.specs.Prelude.{◌≡◌, IfOk};
 ghost use Rattle.step_table.specs.Sets.{combined};
 
-use crate::elements::with_operand;
-use func_table::{Element, SetOp};
+use func_table::SetOp;
 use label_set::Pairing;
-use promql_meaning::{Given, map_rows};
+use promql_meaning::Given;
 use std::alloc::{AllocError, Global};
+use step_rules::{negated, with_operand};
 use step_table::{Step, combine, pair};
-use xfrac::{PairOp, whole};
+use xfrac::PairOp;
 
 /// The minus of a scalar or a vector. The only error is want of memory.
 pub fn negation(alloc: Global, given: Given) -> Result<Given, AllocError>
@@ -21,12 +20,6 @@ pub fn negation(alloc: Global, given: Given) -> Result<Given, AllocError>
         Given::Scalar(step) => Ok(Given::Scalar(negated(alloc, &step)?)),
         other => Ok(Given::Vector(negated(alloc, &other.into_step(alloc)?)?)),
     }
-}
-
-fn negated(alloc: Global, step: &Step) -> Result<Step, AllocError>
-    ensures { IfOk result (λ s. s ≡ mapped Element.Neg zero_number zero_number step.now) }
-{
-    map_rows(alloc, step, Element::Neg, &whole(0), &whole(0))
 }
 
 /// An arithmetic operation or a comparison. The only error is want of memory.

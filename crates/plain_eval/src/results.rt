@@ -1,5 +1,5 @@
 //! The result of a query over a grid.
-ghost use Rattle.plain_eval.specs.Ranked.{order_of};
+ghost use Rattle.step_rules.specs.Ranked.{order_of};
 ghost use Rattle.plain_eval.specs.Ready.{ArePatternsKept};
 ghost use Rattle.plain_eval.specs.Walks.{IsWalked};
 ghost use Rattle.promql_meaning.specs.Conditions.{AreMet, needs_of, needs_over};
@@ -15,17 +15,15 @@ ghost use Rattle.step_table.specs.Groups.{gathered};
 ghost use Rattle.step_table.specs.Unions.{united};
 
 use crate::evaluating::at;
-use crate::givens::no_marks;
-use crate::orders::{ByValue, in_order, root_order};
-use crate::points::instants_up_to;
 use label_set::{Items, Labels};
 use match_rule::Patterns;
-use promql_meaning::{Answer, Outcome, Point, ResultSeries};
+use promql_meaning::{Answer, Outcome, Point, ResultSeries, no_marks};
 use promql_type::Typed;
 use sample_store::Store;
 use std::alloc::{AllocError, Global};
 use std::collections::BTreeMap;
 use std::sync::ledger::Ledger;
+use step_rules::{ByValue, in_order, instants_up_to, root_order};
 use step_table::{Marks, Step, add};
 use ticks::{Grid, Ms, Work};
 

@@ -1,20 +1,21 @@
 //! What selectors give, read from the store.
 ghost use Rattle.match_rule.specs.Patterns.{HaveTheirPatterns};
 ghost use Rattle.plain_eval.specs.Numbered.{fresh_until, last_until, row_numbered, window_numbered};
-ghost use Rattle.promql_meaning.specs.Selecting.{base_of, fresh as fresh_value, fresh_sample, lookback, newest, newest_row, passing, series_window, window, window_row};
+ghost use Rattle.promql_meaning.specs.Selecting.{base_of, fresh as fresh_value, fresh_sample, lookback, newest, newest_row, passing, series_window, window};
 ghost use Rattle.sample_store.specs.Samples.{IsRising, Names, Samples};
 ghost use Rattle.std.specs.List.{filter_map};
 ghost use Rattle.std.specs.Option.{option_to_list};
 ghost use Rattle.std.specs.Prelude.{◌≡◌, ◌<◌, ◌++◌, ◌-ℤ◌, Some, length, slice_get, IfOk, OnOk};
 ghost use Rattle.ticks.specs.Walks.{IsTime};
 
-use label_set::{Items, Labels, Rule};
+use label_set::{Items, Rule};
 use match_rule::Patterns;
 use promql_ast::{Fixed, Moment};
 use promql_meaning::{Stamped, WindowRow};
 use sample_store::{Cursor, Store};
 use std::alloc::{AllocError, Global};
 use std::sync::ledger::Ledger;
+use step_rules::{earlier, window_of};
 use ticks::{Grid, Ms, Work};
 use xfrac::{Held, XFrac};
 
@@ -40,14 +41,6 @@ pub fn moment_at(moment: &Moment, span: &Grid, t: Ms) -> Ms
 {
     let base = base_at(moment.fixed, span, t);
     Ms(base.0 - moment.offset.0)
-}
-
-/// The time that is a while before a moment.
-pub fn earlier(m: Ms, span: Ms) -> Ms
-    requires { IsTime (m.0 -ℤ span.0) }
-    ensures { result ≡ record { 0 = m.0 -ℤ span.0 } }
-{
-    Ms(m.0 - span.0)
 }
 
 /// The value of a sample, unless it is a marker of staleness.
@@ -206,16 +199,6 @@ fn samples_at<W: Ledger>(
 {
     let cursor = store.seek(s, earlier(m, range), work);
     fresh_until(alloc, cursor, m, work)
-}
-
-/// Samples under their labels, if there are some.
-pub fn window_of(labels: Labels, samples: Items<(Ms, XFrac)>) -> Option<WindowRow>
-    ensures { result ≡ window_row labels samples }
-{
-    if samples.as_slice().is_empty() {
-        return None;
-    }
-    Some(WindowRow { labels, samples })
 }
 
 /// The windows of a selector at a moment, in the order of labels. The only error is want of memory.

@@ -16,7 +16,8 @@ use Rattle.plain_eval.specs.Ready.{IsKeptWhole, IsReady}
 use Rattle.plain_eval.proofs.Children.{depth_Paren, depth_Negate, depth_Subquery, depth_Call, depth_Aggregate, depth_item, ready_Paren, ready_Negate, ready_Call, ready_Aggregate, ready_Pair, ready_Set}
 use Rattle.plain_eval.proofs.Called.{call_framed, call_kept, subquery_ready}
 use Rattle.plain_eval.proofs.Meanings.{depths_Pair, depths_Set, means_Pair, means_Set, means_Subquery}
-use Rattle.plain_eval.proofs.Rests.{next_holds, item_holds, given_more, rows_more, marks_more}
+use Rattle.plain_eval.proofs.Rests.{given_more, rows_more, marks_more}
+use Rattle.step_rules.specs.Rests.{next_holds, item_holds}
 use Rattle.plain_eval.proofs.evaluating.+evaluation.Goals as goal
 
 pub value_at-value_at-requires : goal.value_at-value_at-requires

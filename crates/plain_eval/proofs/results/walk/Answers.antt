@@ -8,7 +8,7 @@ use Rattle.promql_meaning.specs.Meaning.{meaning_step}
 use Rattle.promql_meaning.specs.Results.{all_marks, first_stop, grid_times, stop_at}
 use Rattle.step_table.specs.Timed.{steps_over}
 use Rattle.promql_meaning.specs.Selecting.{asked_over}
-use Rattle.plain_eval.proofs.Instants.{grid_instants}
+use Rattle.step_rules.specs.Instants.{grid_instants}
 use Rattle.plain_eval.proofs.Walking.{at_instant, few, goes_on, marks_more, met_here, none_yet, points_more, stops_here}
 use Rattle.plain_eval.proofs.results.walk.Goals as goal
 

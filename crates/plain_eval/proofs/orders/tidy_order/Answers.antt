@@ -1,6 +1,0 @@
-use Rattle.std.proofs.Common.{◌∙◌}
-use Rattle.plain_eval.proofs.Sorting.{tidy_is}
-use Rattle.plain_eval.proofs.orders.tidy_order.Goals as goal
-
-pub returns : goal.returns
-returns c = c.value_order.ensures ∙ tidy_is c.args.down c.args.a.now c.args.b.now c.is_number.ensures c.is_number-2.ensures

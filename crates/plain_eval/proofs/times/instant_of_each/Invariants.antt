@@ -1,7 +1,0 @@
-use Rattle.std.proofs.Common.{◌≡◌, take}
-use Rattle.std.specs.Prelude.{map}
-use Rattle.promql_meaning.specs.Elements.{instant_outcome}
-use Rattle.plain_eval.proofs.times.instant_of_each.Given as goal
-
-abbrev pub invariant-loop-row : goal.invariant-loop-row
-invariant-loop-row l = l.outcomes ≡ map (instant_outcome l.t.0) (take l.row-index l.row-items)

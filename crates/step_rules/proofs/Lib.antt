@@ -1,0 +1,13 @@
+pub mod Absent
+pub mod Bounds
+pub mod Each
+pub mod Instants
+pub mod Joined
+pub mod Merging
+pub mod Noted
+pub mod Raising
+pub mod Replaced
+pub mod Sorting
+pub mod Stable
+pub mod Templated
+pub mod Turns

@@ -1,0 +1,7 @@
+pub mod Absent
+pub mod Counts
+pub mod Frames
+pub mod Instants
+pub mod Joined
+pub mod Ranked
+pub mod Rests
