@@ -31,7 +31,7 @@ use Rattle.step_table.specs.declared.outcomes.Outcome.{Outcome}
 use Rattle.step_table.specs.declared.step.Row.{Row}
 use Rattle.step_table.specs.declared.step.Step.{Step}
 use Rattle.promql_meaning.specs.Aggregations.{aggregated, group_outcome, keyed_values}
-use Rattle.promql_meaning.specs.Givens.{step_of_rows}
+use Rattle.step_table.specs.Sets.{step_of_rows}
 use Rattle.promql_meaning.specs.Laws.{SumsOfSums}
 use Rattle.promql_meaning.specs.Orders.{ungrouped}
 use Rattle.promql_meaning.specs.Outcomes.{with_notes}

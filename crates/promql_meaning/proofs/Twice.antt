@@ -15,7 +15,7 @@ use Rattle.step_table.specs.WellFormed.{IsTable}
 use Rattle.step_table.specs.declared.step.Row.{Row}
 use Rattle.step_table.specs.declared.step.Step.{Step}
 use Rattle.promql_meaning.specs.Elements.{element_outcome, mapped, nameless}
-use Rattle.promql_meaning.specs.Givens.{step_of_rows}
+use Rattle.step_table.specs.Sets.{step_of_rows}
 use Rattle.promql_meaning.specs.Laws.{MinusTwice, unnamed_row}
 use Rattle.promql_meaning.specs.Meaning.{zero_number}
 

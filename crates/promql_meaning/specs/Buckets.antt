@@ -10,6 +10,7 @@ use Rattle.frac_text.specs.Readings.{literal_answer, turned}
 use Rattle.frac_text.specs.declared.refusal.NumberRefusal.{NumberRefusal}
 use Rattle.frac_text.specs.declared.refusal.NumberRefusal.TheVariants.{BadNumber}
 use Rattle.window_fn.specs.Aggregates.{total}
+use Rattle.window_fn.specs.Slopes.{is_finite}
 use Rattle.xfrac.specs.Arithmetic.{arithmetic, whole_number}
 use Rattle.xfrac.specs.Kinds.{is_not_a_number, is_positive_infinity, is_zero}
 use Rattle.xfrac.specs.Order.{compares, total_order}
@@ -18,7 +19,7 @@ use Rattle.xfrac.specs.declared.value.ArithOp.TheVariants.{Add, Sub, Mul, Div}
 use Rattle.xfrac.specs.declared.value.CompareOp.TheVariants.{Lt, Le, Gt, Ge}
 use Rattle.xfrac.specs.declared.value.NumFault.{NumFault}
 use Rattle.xfrac.specs.declared.value.XFrac.{XFrac}
-use Rattle.xfrac.specs.declared.value.XFrac.TheVariants.{Fin, PosInf, NegInf, NaN}
+use Rattle.xfrac.specs.declared.value.XFrac.TheVariants.{PosInf, NegInf, NaN}
 use Rattle.step_table.specs.Groups.{Names, gathered}
 use Rattle.step_table.specs.Operators.{some_value}
 use Rattle.step_table.specs.Outcomes.{taken, settled}
@@ -69,10 +70,6 @@ bound_note row = noted (bound_of row)
     noted (Some bound) = None
 
 -- ---- the buckets of one histogram
-
-abbrev pub is_finite : XFrac → Bool
-is_finite (Fin f) = true
-is_finite _ = false
 
 abbrev pub are_finite : List Bucket → Bool
 are_finite buckets = list_all (λ (b : Bucket). is_finite b.count) buckets

@@ -11,7 +11,7 @@ use Rattle.step_table.specs.Outcomes.{keyed, taken}
 use Rattle.step_table.specs.declared.outcomes.Outcome.{Outcome}
 use Rattle.step_table.specs.declared.step.Row.{Row}
 use Rattle.step_table.specs.declared.step.Step.{Step}
-use Rattle.promql_meaning.specs.Givens.{step_of_rows}
+use Rattle.step_table.specs.Sets.{step_of_rows}
 use Rattle.promql_meaning.specs.Ranks.{kept_labels}
 
 -- labels with a value under a name, in place of the one that is there; an empty value takes it out. There are none where they

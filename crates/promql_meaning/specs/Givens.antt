@@ -1,6 +1,7 @@
 -- What an expression gives at an instant, by its type: a scalar, a vector, windows or words. (Prometheus querying,
 -- "Expression language data types".)
 use Rattle.std.specs.Prelude.{ℕ, List, [], ◌∷◌, map, Option, None, Some}
+use Rattle.step_table.specs.Sets.{step_of_rows}
 use Rattle.step_table.specs.Unions.{united}
 use Rattle.step_table.specs.declared.marks.Marks.{Marks}
 use Rattle.step_table.specs.declared.step.Row.{Row}
@@ -12,9 +13,6 @@ use Rattle.promql_meaning.specs.declared.given.Stamped.{Stamped}
 
 abbrev pub no_marks : Marks
 no_marks = record { fatal = []; notes = [] }
-
-abbrev pub step_of_rows : List Row → Marks → Step
-step_of_rows rows marks = record { table = record { rows = rows }; marks = marks }
 
 -- no rows
 abbrev pub barren : Marks → Step

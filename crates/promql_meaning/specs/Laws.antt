@@ -17,7 +17,7 @@ use Rattle.step_table.specs.declared.step.Row.{Row}
 use Rattle.step_table.specs.declared.step.Step.{Step}
 use Rattle.promql_meaning.specs.Aggregations.{aggregated}
 use Rattle.promql_meaning.specs.Elements.{mapped, nameless}
-use Rattle.promql_meaning.specs.Givens.{step_of_rows}
+use Rattle.step_table.specs.Sets.{step_of_rows}
 use Rattle.promql_meaning.specs.Meaning.{meaning, meaning_step, zero_number}
 use Rattle.promql_meaning.specs.Orders.{ungrouped}
 use Rattle.promql_meaning.specs.Ranks.{kept_labels, ranked}

@@ -30,7 +30,8 @@ use Rattle.promql_meaning.specs.Absences.{absence}
 use Rattle.promql_meaning.specs.Aggregations.{aggregated}
 use Rattle.promql_meaning.specs.Buckets.{bucket_quantiles}
 use Rattle.promql_meaning.specs.Elements.{mapped, operated_rows, time_step, timestamps}
-use Rattle.promql_meaning.specs.Givens.{barren, by_value, no_marks, scalar_step, step_of, step_of_rows, value_in, with_scalar, with_scalars, words_of}
+use Rattle.promql_meaning.specs.Givens.{barren, by_value, no_marks, scalar_step, step_of, value_in, with_scalar, with_scalars, words_of}
+use Rattle.step_table.specs.Sets.{step_of_rows}
 use Rattle.promql_meaning.specs.Ranges.{windowed}
 use Rattle.promql_meaning.specs.Relabels.{label_joined, label_replaced}
 use Rattle.promql_meaning.specs.Selecting.{Asked, moment_of, selected, selected_windows}

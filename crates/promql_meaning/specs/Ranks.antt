@@ -15,7 +15,8 @@ use Rattle.step_table.specs.Unions.{with_fatal}
 use Rattle.step_table.specs.declared.marks.Mark.TheVariants.{Overflow}
 use Rattle.step_table.specs.declared.step.Row.{Row}
 use Rattle.step_table.specs.declared.step.Step.{Step}
-use Rattle.promql_meaning.specs.Givens.{barren, step_of_rows}
+use Rattle.promql_meaning.specs.Givens.{barren}
+use Rattle.step_table.specs.Sets.{step_of_rows}
 
 -- the labels of a row's group: the listed ones, or all but the listed and the metric's name
 abbrev pub kept_labels : Grouping → Names → Names

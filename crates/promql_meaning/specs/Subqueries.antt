@@ -5,8 +5,7 @@ use Rattle.std.specs.List.{filter_map}
 use Rattle.ticks.specs.Grids.{step_count}
 use Rattle.ticks.specs.declared.moment.Ms.{Ms}
 use Rattle.step_table.specs.Groups.{Names, gathered}
-use Rattle.step_table.specs.Timed.{StepAt, marks_of_steps, rows_of_steps, timed}
-use Rattle.step_table.specs.Unions.{united}
+use Rattle.step_table.specs.Timed.{StepAt, marks_of_steps, rows_of_steps, steps_over}
 use Rattle.step_table.specs.declared.marks.Marks.{Marks}
 use Rattle.step_table.specs.declared.step.Step.{Step}
 use Rattle.xfrac.specs.declared.value.XFrac.{XFrac}
@@ -41,13 +40,11 @@ as_times us = map (λ (u : ℤ). record { 0 = u }) us
 
 -- the rows of all instants, each beside its instant
 abbrev pub rows_over : (ℤ → Step) → List Ms → List (Names × (Ms × XFrac))
-rows_over meaning [] = []
-rows_over meaning (u ∷ us) = timed u (meaning u.0) ++ rows_over meaning us
+rows_over meaning us = rows_of_steps (steps_over meaning us)
 
--- the notes and marks of all instants together
+-- the notes and marks of all instants, together with others
 abbrev pub marks_over : (ℤ → Step) → Marks → List Ms → Marks
-marks_over meaning marks [] = marks
-marks_over meaning marks (u ∷ us) = marks_over meaning (united marks (meaning u.0).marks) us
+marks_over meaning marks us = marks_of_steps marks (steps_over meaning us)
 
 abbrev pub group_window : Names × List (Ms × XFrac) → Option WindowRow
 group_window group = window_row group.0 group.1
@@ -63,11 +60,4 @@ points_of_steps range m steps =
 
 -- the windows of a subquery at a moment: at the multiples of its step in the range up to it, what the inner expression means
 abbrev pub points_of : (ℤ → Step) → Ms → Ms → ℤ → Windows
-points_of inner range step m =
-    record {
-      moment = record { 0 = m };
-      range = range;
-      rules = [];
-      rows = gathered_windows (rows_over inner (as_times (multiples m range.0 step.0)));
-      marks = marks_over inner no_marks (as_times (multiples m range.0 step.0));
-    }
+points_of inner range step m = points_of_steps range m (steps_over inner (as_times (multiples m range.0 step.0)))

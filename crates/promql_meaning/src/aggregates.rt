@@ -10,7 +10,7 @@ use crate::ranks::ranked;
 use func_table::Aggregate;
 use label_set::{Grouping, Items, Labels};
 use std::alloc::{AllocError, Global};
-use step_table::{Note, Outcome, Row, Step, gather, taken};
+use step_table::{Note, Outcome, Row, Step, gather, some_value, taken};
 use window_fn::aggregates::{average, count, greatest, least, total, variance};
 use window_fn::{WindowFault, quantile};
 use xfrac::{NumFault, XFrac, whole};
@@ -111,15 +111,6 @@ fn aggregate(
         Aggregate::Stdvar => Ok(some_value(variance(values))),
         Aggregate::Quantile => quantile_of(alloc, q, values),
         Aggregate::TopK | Aggregate::BottomK | Aggregate::CountValues => Ok(Ok(None)),
-    }
-}
-
-fn some_value(answer: Result<XFrac, NumFault>) -> Result<Option<XFrac>, NumFault>
-    ensures { result ≡ value_or_fault answer }
-{
-    match answer {
-        Ok(value) => Ok(Some(value)),
-        Err(fault) => Err(fault),
     }
 }
 

@@ -2,14 +2,13 @@ ghost use Rattle.frac_text.specs.Spellings.{spelling};
 ghost use Rattle.label_set.specs.Labels.{is_named as is_named_name};
 ghost use Rattle.promql_meaning.specs.Countings.{counted, counted_labels as labels_counted, counting_outcome as outcome_of_counting, is_left_out as is_left_out_label, tallied};
 ghost use Rattle.std.specs.Prelude.{◌≡◌, string_bytes, IfOk};
-ghost use Rattle.step_table.specs.Outcomes.{keyed};
 
 use crate::groups::group_labels;
-use crate::limits::{labelled, labels_with};
+use crate::limits::labels_with;
 use frac_text::write_number;
 use label_set::{Grouping, Items, Labels, METRIC_NAME, Text};
 use std::alloc::{AllocError, Global};
-use step_table::{Outcome, Row, Step, Table, gather, taken};
+use step_table::{Outcome, Row, Step, Table, by_labels, gather, labelled, taken};
 use xfrac::laws::is_number;
 use xfrac::{XFrac, whole};
 
@@ -99,15 +98,4 @@ fn tallied(alloc: Global, step: Step) -> Result<Step, AllocError>
         table: Table { rows },
         marks,
     })
-}
-
-/// The rows, each beside its labels.
-fn by_labels(alloc: Global, rows: Items<Row>) -> Result<Items<(Labels, Row)>, AllocError>
-    ensures { IfOk result (λ pairs. pairs ≡ keyed rows) }
-{
-    let mut pairs = Items::new(alloc);
-    for row in rows.into_vec() {
-        pairs.push((row.labels.copy()?, row))?;
-    }
-    Ok(pairs)
 }

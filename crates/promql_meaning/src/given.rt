@@ -1,9 +1,9 @@
-ghost use Rattle.promql_meaning.specs.Givens.{barren, no_marks, step_of, step_of_rows, unstamped};
+ghost use Rattle.promql_meaning.specs.Givens.{barren, no_marks, step_of, unstamped};
 ghost use Rattle.std.specs.Prelude.{◌≡◌, map, IfOk};
 
 use label_set::{Items, Labels, Rule, Text};
 use std::alloc::{AllocError, Global};
-use step_table::{Marks, Row, Step, Table};
+use step_table::{Marks, Row, Step, step_of_rows};
 use ticks::Ms;
 use xfrac::XFrac;
 
@@ -93,16 +93,6 @@ pub fn no_marks(alloc: Global) -> Marks
     Marks {
         fatal: Items::new(alloc),
         notes: Items::new(alloc),
-    }
-}
-
-/// A table of these rows, with these marks.
-pub fn step_of_rows(rows: Items<Row>, marks: Marks) -> Step
-    ensures { result ≡ step_of_rows rows marks }
-{
-    Step {
-        table: Table { rows },
-        marks,
     }
 }
 

@@ -2,28 +2,10 @@
 ghost use Rattle.label_set.specs.Labels.{set_refusal, with_value, without};
 ghost use Rattle.promql_meaning.specs.Countings.{with_label};
 ghost use Rattle.std.specs.Prelude.{◌≡◌, ◌∷◌, [], false, true, is_some, IfOk, MatchBool};
-ghost use Rattle.step_table.specs.Matching.{labelled as with_labels};
 
 use label_set::{Items, Labels, Text};
 use std::alloc::{AllocError, Global};
-use step_table::{Outcome, not_taken};
-use xfrac::{NumFault, XFrac};
-
-/// A value under its labels; labels that would pass the limits are the fault Overflow, under no labels.
-pub fn labelled(alloc: Global, labels: Option<Labels>, value: XFrac) -> Outcome
-    ensures { result ≡ with_labels labels value }
-{
-    match labels {
-        Some(labels) => Outcome {
-            labels,
-            value: Ok(Some(value)),
-        },
-        None => Outcome {
-            labels: Labels::empty(alloc),
-            value: Err(NumFault::Overflow),
-        },
-    }
-}
+use step_table::not_taken;
 
 /// The labels with a value under a name, in place of the one that is there; an empty value takes it out. There are none
 /// where the name is empty or they would pass the limits of labels. The only error is want of memory.

@@ -1,12 +1,9 @@
 ghost use Rattle.promql_meaning.specs.Outcomes.{is_outside as is_outside_unit, range_notes, range_notes_of, with_notes};
 ghost use Rattle.std.specs.Prelude.{◌≡◌, IfOk};
-ghost use Rattle.step_table.specs.Orders.{note_cmp};
-ghost use Rattle.step_table.specs.Unions.{set_of};
 
 use label_set::Items;
 use std::alloc::{AllocError, Global};
-use std::collections::BTreeSet;
-use step_table::{Marks, Note};
+use step_table::{Marks, Note, as_set};
 use xfrac::{CompareOp, XFrac, compare, is_nan, whole};
 
 /// The marks and notes, with the notes of a list in any order. The only error is want of memory.
@@ -16,31 +13,10 @@ pub fn with_notes(alloc: Global, marks: Marks, notes: Items<Note>) -> Result<Mar
     let mut marks = marks;
     let more = Marks {
         fatal: Items::new(alloc),
-        notes: in_order(alloc, once(alloc, notes)?)?,
+        notes: as_set(alloc, notes)?,
     };
     marks.unite(&more)?;
     Ok(marks)
-}
-
-/// The notes of a list, each once.
-fn once(alloc: Global, notes: Items<Note>) -> Result<BTreeSet<Note>, AllocError>
-    ensures { IfOk result (λ set. set.keys ≡ set_of note_cmp notes) }
-{
-    let mut set = BTreeSet::new(alloc);
-    for note in notes.into_vec() {
-        set.insert(note)?;
-    }
-    Ok(set)
-}
-
-fn in_order(alloc: Global, notes: BTreeSet<Note>) -> Result<Items<Note>, AllocError>
-    ensures { IfOk result (λ list. list ≡ notes.keys) }
-{
-    let mut list = Items::new(alloc);
-    for note in notes {
-        list.push(note)?;
-    }
-    Ok(list)
 }
 
 /// Whether a quantile is NaN, below 0 or above 1.

@@ -80,7 +80,7 @@ fn if_within(n: u128) -> Option<u64>
 }
 
 /// Up or down; NaN comes last in both.
-fn value_order(down: bool, a: &XFrac, b: &XFrac) -> Ordering
+pub fn value_order(down: bool, a: &XFrac, b: &XFrac) -> Ordering
     ensures { result ≡ value_order down a.now b.now }
 {
     if down && !(is_nan(a) || is_nan(b)) {

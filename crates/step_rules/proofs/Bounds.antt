@@ -17,7 +17,8 @@ use Rattle.xfrac.specs.declared.value.XFrac.TheVariants.{Fin, PosInf, NegInf, Na
 use Rattle.step_table.specs.declared.marks.Note.TheVariants.{BadBucket}
 use Rattle.step_table.specs.declared.step.Row.{Row}
 use Rattle.promql_meaning.specs.declared.buckets.Bucket.{Bucket}
-use Rattle.promql_meaning.specs.Buckets.{are_finite, at_rank, bound_note, bound_of, bound_or, bound_text, histogram_quantile, is_finite, is_fixed, is_fixed_of, is_whole, last_count, merged, quantile_of_merged, signed_number}
+use Rattle.promql_meaning.specs.Buckets.{are_finite, at_rank, bound_note, bound_of, bound_or, bound_text, histogram_quantile, is_fixed, is_fixed_of, is_whole, last_count, merged, quantile_of_merged, signed_number}
+use Rattle.window_fn.specs.Slopes.{is_finite}
 use Rattle.promql_meaning.specs.Outcomes.{is_outside}
 use Rattle.step_rules.specs.Rests.{drop_item}
 

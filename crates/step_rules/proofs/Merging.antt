@@ -30,7 +30,8 @@ use Rattle.step_table.specs.Orders.{note_cmp}
 use Rattle.step_table.specs.Unions.{set_of}
 use Rattle.step_table.specs.declared.marks.Note.TheVariants.{QuantileRange}
 use Rattle.promql_meaning.specs.declared.buckets.Bucket.{Bucket}
-use Rattle.promql_meaning.specs.Buckets.{each_of, is_finite, merged, merged_at}
+use Rattle.promql_meaning.specs.Buckets.{each_of, merged, merged_at}
+use Rattle.window_fn.specs.Slopes.{is_finite}
 use Rattle.promql_meaning.specs.NumberOrder.{tidy, tidy-same, values_total}
 use Rattle.step_rules.specs.Counts.{bound_order, number_order}
 use Rattle.step_rules.proofs.Stable.{Rises, all_above, rises_tail}

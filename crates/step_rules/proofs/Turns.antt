@@ -12,7 +12,8 @@ use Rattle.xfrac.specs.Order.{total_order}
 use Rattle.xfrac.specs.declared.value.NumFault.{NumFault}
 use Rattle.xfrac.specs.declared.value.XFrac.{XFrac}
 use Rattle.promql_meaning.specs.declared.buckets.Bucket.{Bucket}
-use Rattle.promql_meaning.specs.Buckets.{are_finite, is_finite, merged}
+use Rattle.promql_meaning.specs.Buckets.{are_finite, merged}
+use Rattle.window_fn.specs.Slopes.{is_finite}
 use Rattle.step_rules.specs.Counts.{AreCounts, IsCount}
 use Rattle.step_rules.proofs.Merging.{Finite, Numbers, all_joined, below, joined_same, merged_is, one_bound, prefix_number, then_all, then_fault, then_more, total_finite, with_first}
 use Rattle.step_rules.proofs.Stable.{Rises, rises_from}

@@ -14,7 +14,7 @@ use Rattle.xfrac.specs.declared.value.XFrac.{XFrac}
 use Rattle.step_table.specs.Orders.{note_cmp}
 use Rattle.step_table.specs.declared.marks.Note.TheVariants.{QuantileRange}
 use Rattle.promql_meaning.specs.declared.buckets.Bucket.{Bucket}
-use Rattle.promql_meaning.specs.Buckets.{is_finite}
+use Rattle.window_fn.specs.Slopes.{is_finite}
 use Rattle.promql_meaning.specs.NumberOrder.{tidy}
 
 -- a finite number of the type

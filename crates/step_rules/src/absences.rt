@@ -7,10 +7,10 @@ ghost use Rattle.step_table.specs.Operators.{all_put};
 ghost use Rattle.step_table.specs.Unions.{set_of};
 
 use label_set::{Items, Labels, METRIC_NAME, Rule, RuleKind, Text};
-use promql_meaning::{barren, labelled};
+use promql_meaning::barren;
 use std::alloc::{AllocError, Global};
 use std::collections::BTreeSet;
-use step_table::{Marks, Step, put_one, taken};
+use step_table::{Marks, Step, labelled, put_one, taken};
 use xfrac::whole;
 
 /// One row 1 where there are no rows, under the labels that the rules of a selector tell; without a selector there are no

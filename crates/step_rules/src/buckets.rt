@@ -1,14 +1,14 @@
 //! histogram_quantile.
 ghost use Rattle.frac_text.specs.Readings.{turned};
 ghost use Rattle.step_rules.specs.Counts.{AreCounts, bound_order, count_above, point_along};
-ghost use Rattle.promql_meaning.specs.Buckets.{are_finite, at_rank, bound_note, bound_or, bucket_of, bucket_quantiles, falls, fixed_note, histogram_outcome, histogram_quantile, histograms, interpolated, is_finite, is_fixed, is_whole, last_count, merged, quantile_of_merged, quantile_of_rising, raised, signed_number, within_bucket};
+ghost use Rattle.promql_meaning.specs.Buckets.{are_finite, at_rank, bound_note, bound_or, bucket_of, bucket_quantiles, falls, fixed_note, histogram_outcome, histogram_quantile, histograms, interpolated, is_fixed, is_whole, last_count, merged, quantile_of_merged, quantile_of_rising, raised, signed_number, within_bucket};
+ghost use Rattle.window_fn.specs.Slopes.{is_finite};
 ghost use Rattle.promql_meaning.specs.Outcomes.{is_outside as is_outside_unit};
 ghost use Rattle.std.specs.List.{All, filter_map, prefix_len};
 ghost use Rattle.std.specs.BTreeMap.{is_at};
 ghost use Rattle.std.specs.Option.{option_to_list};
 ghost use Rattle.std.specs.Prelude.{◌≡◌, ◌≤◌, ◌<◌, ◌++◌, ◌∷◌, ◌&&◌, [], true, length, map, IfOk, OnOk, Ok, None, Some, false, if◌then◌else◌};
 ghost use Rattle.std.specs.Result.{result_ok};
-ghost use Rattle.step_table.specs.Operators.{some_value};
 ghost use Rattle.step_table.specs.declared.marks.Note.{Note};
 ghost use Rattle.window_fn.specs.Aggregates.{total};
 ghost use Rattle.xfrac.specs.Arithmetic.{whole_number};
@@ -22,7 +22,8 @@ use promql_meaning::{Bucket, is_outside, range_notes, with_notes, without_label}
 use std::alloc::{AllocError, Global};
 use std::cmp::Ordering;
 use std::collections::BTreeMap;
-use step_table::{Note, Outcome, Row, Step, gather, settled, taken, without_name};
+use step_table::{Note, Outcome, Row, Step, gather, settled, some_value, taken, without_name};
+use window_fn::is_finite;
 use window_fn::aggregates::total;
 use xfrac::laws::{is_number, order_is_total};
 use xfrac::{
@@ -164,15 +165,6 @@ fn add_fixed_note(notes: &mut Items<Note>, fixed: bool) -> Result<(), AllocError
     }
 }
 
-fn some_value(answer: Result<XFrac, NumFault>) -> Result<Option<XFrac>, NumFault>
-    ensures { result ≡ some_value answer }
-{
-    match answer {
-        Ok(value) => Ok(Some(value)),
-        Err(fault) => Err(fault),
-    }
-}
-
 /// The quantile of a histogram, and whether its counts were raised on the way.
 #[derive(Drop)]
 pub struct Quantile {
@@ -238,12 +230,6 @@ fn are_finite(buckets: &[Bucket]) -> bool
         }
     }
     true
-}
-
-fn is_finite(v: &XFrac) -> bool
-    ensures { result ≡ is_finite v.now }
-{
-    matches!(v, XFrac::Fin(_))
 }
 
 // ---- the buckets of each bound

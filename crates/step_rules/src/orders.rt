@@ -2,7 +2,6 @@
 ghost use Rattle.step_rules.specs.Ranked.{IsRanked, order_of, ranked_below, ranked_order};
 ghost use Rattle.promql_meaning.specs.NumberOrder.{tidy_order};
 ghost use Rattle.promql_meaning.specs.Orders.{aggregate_order, call_order, in_order, root_order, value_of_series};
-ghost use Rattle.promql_meaning.specs.Ranks.{value_order};
 ghost use Rattle.std.specs.List.{All};
 ghost use Rattle.std.specs.Option.{option_map};
 ghost use Rattle.std.specs.Prelude.{◌≡◌, [], Some, true, false, fold, map, IfOk};
@@ -12,11 +11,11 @@ ghost use Rattle.xfrac.specs.Laws.{IsNumber};
 use func_table::{Aggregate, Func};
 use label_set::{Grouping, Items, Labels};
 use promql_ast::{Expr, Node};
-use promql_meaning::ResultSeries;
+use promql_meaning::{ResultSeries, value_order};
 use std::alloc::{AllocError, Global};
 use std::cmp::Ordering;
 use xfrac::laws::{is_number, order_is_total};
-use xfrac::{XFrac, cmp_total, is_nan};
+use xfrac::XFrac;
 
 /// By value up or down, within the groups of a grouping.
 #[derive(Drop)]
@@ -193,16 +192,6 @@ fn tidy_order(down: bool, a: &XFrac, b: &XFrac) -> Ordering
     is_number(a);
     is_number(b);
     value_order(down, a, b)
-}
-
-fn value_order(down: bool, a: &XFrac, b: &XFrac) -> Ordering
-    ensures { result ≡ value_order down a.now b.now }
-{
-    if down && !(is_nan(a) || is_nan(b)) {
-        cmp_total(b, a)
-    } else {
-        cmp_total(a, b)
-    }
 }
 
 /// The value of a series of an instant, which has one point.

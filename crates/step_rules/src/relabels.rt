@@ -8,9 +8,9 @@ ghost use Rattle.std.specs.Prelude.{◌≡◌, List, ℕ, true, Some, map, slice
 use crate::templates::expanded;
 use label_set::{Items, Labels, PatternId, Text};
 use match_rule::{Patterns, Spans};
-use promql_meaning::{labelled, labels_with};
+use promql_meaning::labels_with;
 use std::alloc::{AllocError, Global};
-use step_table::{Outcome, Row, Step, settled, taken};
+use step_table::{Outcome, Row, Step, labelled, settled, taken};
 
 /// What label_replace is asked for; the pattern is one of `Patterns::whole`.
 #[derive(Drop)]

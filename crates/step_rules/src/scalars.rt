@@ -4,9 +4,9 @@ ghost use Rattle.promql_meaning.specs.Meaning.{as_scalar, value_of_one};
 ghost use Rattle.std.specs.Prelude.{◌≡◌, IfOk};
 
 use label_set::{Items, Labels};
-use promql_meaning::{no_marks, step_of_rows};
+use promql_meaning::no_marks;
 use std::alloc::{AllocError, Global};
-use step_table::{Marks, Row, Step};
+use step_table::{Marks, Row, Step, step_of_rows};
 use xfrac::XFrac;
 
 /// A table of one row without labels. The only error is want of memory.

@@ -17,7 +17,7 @@ use Rattle.step_table.specs.Gathering.{settled_table}
 use Rattle.step_table.specs.Matching.{signature_of}
 use Rattle.step_table.specs.OrderLaws.{mark_cmp_total, note_cmp_total}
 use Rattle.step_table.specs.Outcomes.{settled}
-use Rattle.step_table.specs.Sets.{combined, is_on, rows_off, step_of}
+use Rattle.step_table.specs.Sets.{combined, is_on, rows_off, step_of_rows}
 use Rattle.step_table.specs.Unions.{united}
 use Rattle.step_table.specs.WellFormed.{IsWellFormed}
 use Rattle.step_table.specs.declared.step.Row.{Row}
@@ -50,4 +50,4 @@ pub or_itself : (v : Step) (p : Pairing) → IsWellFormed v → combined v v Or 
 or_itself v p w =
     let rows : v.table.rows ++ rows_off p v.table.rows v.table.rows ≡ v.table.rows = ap (λ more. v.table.rows ++ more) (filter_none (is_on p v.table.rows) v.table.rows (all_on p v.table.rows)) ∙ append-nil v.table.rows in
     let marks : united v.marks v.marks ≡ v.marks = λ i. record { fatal = union_itself mark_cmp_total v.marks.fatal i; notes = union_itself note_cmp_total v.marks.notes i } in
-    ap settled (λ i. step_of (rows i) (marks i)) ∙ settled_table v w.rows
+    ap settled (λ i. step_of_rows (rows i) (marks i)) ∙ settled_table v w.rows

@@ -35,12 +35,12 @@ is_wanted p signatures on row =
     if on then is_among signatures (signature_of p row) else not (is_among signatures (signature_of p row))
 
 -- a step of rows and marks
-abbrev pub step_of : List Row → Marks → Step
-step_of rows marks = record { table = record { rows = rows }; marks = marks }
+abbrev pub step_of_rows : List Row → Marks → Step
+step_of_rows rows marks = record { table = record { rows = rows }; marks = marks }
 
 -- a set operator: the left rows whose signature is on the right; those whose signature isn't; or all left rows and the
 -- right rows whose signature isn't on the left, but for rows that share all labels
 abbrev pub combined : Step → Step → SetOp → Pairing → Step
-combined l r And p = step_of (rows_on p r.table.rows l.table.rows) (united l.marks r.marks)
-combined l r Unless p = step_of (rows_off p r.table.rows l.table.rows) (united l.marks r.marks)
-combined l r Or p = settled (step_of (l.table.rows ++ rows_off p l.table.rows r.table.rows) (united l.marks r.marks))
+combined l r And p = step_of_rows (rows_on p r.table.rows l.table.rows) (united l.marks r.marks)
+combined l r Unless p = step_of_rows (rows_off p r.table.rows l.table.rows) (united l.marks r.marks)
+combined l r Or p = settled (step_of_rows (l.table.rows ++ rows_off p l.table.rows r.table.rows) (united l.marks r.marks))

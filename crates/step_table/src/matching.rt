@@ -218,8 +218,8 @@ fn pair_value(op: PairOp, card: Card, many: &XFrac, one: &XFrac) -> Result<Optio
     }
 }
 
-/// A value under its labels; labels that would pass the limits are a fault.
-fn labelled(alloc: Global, labels: Option<Labels>, value: XFrac) -> Outcome
+/// A value under its labels; labels that would pass the limits are the fault Overflow, under no labels.
+pub fn labelled(alloc: Global, labels: Option<Labels>, value: XFrac) -> Outcome
     ensures { result ≡ with_labels labels value }
 {
     match labels {

@@ -1,6 +1,6 @@
 ghost use Rattle.label_set.specs.Labels.{metric_name, put_refusal, with_pair, without};
 ghost use Rattle.std.specs.Prelude.{◌≡◌, ◌≢◌, [], ◌∷◌, true, false, is_some, IfErr, IfOk, MatchBool, OnErr, if◌then◌else◌};
-ghost use Rattle.step_table.specs.Operators.{all_put, drops_name as drops_metric_name, grouped_labels, is_grouped as has_group_word, matched_labels, operated, pair_labels};
+ghost use Rattle.step_table.specs.Operators.{all_put, drops_name as drops_metric_name, grouped_labels, is_grouped as has_group_word, matched_labels, operated, pair_labels, some_value as value_or_fault};
 
 use label_set::{Card, Items, LabelRefusal, Labels, Pairing};
 use std::alloc::{AllocError, Global};
@@ -12,16 +12,23 @@ pub fn operate(op: PairOp, left: &XFrac, right: &XFrac) -> Result<Option<XFrac>,
     ensures { result ≡ operated op left.now right.now }
 {
     match op {
-        PairOp::Arith(f) => match arith(f, left, right) {
-            Ok(value) => Ok(Some(value)),
-            Err(fault) => Err(fault),
-        },
+        PairOp::Arith(f) => some_value(arith(f, left, right)),
         PairOp::Filter(c) => Ok(if compare(c, left, right) {
             Some(*left)
         } else {
             None
         }),
         PairOp::Flag(c) => Ok(Some(whole(if compare(c, left, right) { 1 } else { 0 }))),
+    }
+}
+
+/// A value that isn't missing, or its fault.
+pub fn some_value(answer: Result<XFrac, NumFault>) -> Result<Option<XFrac>, NumFault>
+    ensures { result ≡ value_or_fault answer }
+{
+    match answer {
+        Ok(value) => Ok(Some(value)),
+        Err(fault) => Err(fault),
     }
 }
 

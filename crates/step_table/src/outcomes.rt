@@ -94,8 +94,8 @@ fn is_below(a: &Row, b: &Row) -> bool
     matches!(a.labels.cmp(&b.labels), Ordering::Less)
 }
 
-/// The rows, each beside its labels.
-pub(crate) fn by_labels(alloc: Global, rows: Items<Row>) -> Result<Items<(Labels, Row)>, AllocError>
+/// The rows, each beside its labels. The only error is want of memory.
+pub fn by_labels(alloc: Global, rows: Items<Row>) -> Result<Items<(Labels, Row)>, AllocError>
     ensures { IfOk result (λ pairs. pairs ≡ keyed rows) }
 {
     let mut pairs = Items::new(alloc);

@@ -1,12 +1,11 @@
 ghost use Rattle.std.specs.Prelude.{◌≡◌, ◌++◌, IfOk, OnOk, filter, map, if◌then◌else◌};
 ghost use Rattle.label_set.specs.Labels.{labels_cmp};
 ghost use Rattle.step_table.specs.Matching.{signature_of};
-ghost use Rattle.step_table.specs.Sets.{combined, is_among, is_wanted as is_wanted_row, rows_off, rows_on, step_of as made_step};
+ghost use Rattle.step_table.specs.Sets.{combined, is_among, is_wanted as is_wanted_row, rows_off, rows_on};
 ghost use Rattle.step_table.specs.Unions.{set_of};
 
-use crate::marks::Marks;
 use crate::outcomes::settled;
-use crate::step::{Row, Step, Table};
+use crate::step::{Row, Step, step_of_rows};
 use func_table::SetOp;
 use label_set::{Items, Labels, Pairing};
 use std::alloc::{AllocError, Global};
@@ -29,21 +28,12 @@ pub fn combine(
     let left = l.table.rows.as_slice();
     let right = r.table.rows.as_slice();
     match op {
-        SetOp::And => Ok(step_of(rows_where(alloc, p, right, left, true)?, marks)),
-        SetOp::Unless => Ok(step_of(rows_where(alloc, p, right, left, false)?, marks)),
+        SetOp::And => Ok(step_of_rows(rows_where(alloc, p, right, left, true)?, marks)),
+        SetOp::Unless => Ok(step_of_rows(rows_where(alloc, p, right, left, false)?, marks)),
         SetOp::Or => {
             let rows = either(alloc, p, &l.table.rows, right)?;
-            settled(alloc, step_of(rows, marks))
+            settled(alloc, step_of_rows(rows, marks))
         }
-    }
-}
-
-fn step_of(rows: Items<Row>, marks: Marks) -> Step
-    ensures { result ≡ made_step rows marks }
-{
-    Step {
-        table: Table { rows },
-        marks,
     }
 }
 

@@ -1,4 +1,5 @@
 ghost use Rattle.std.specs.Prelude.{◌≡◌, ◌↔◌, IfOk, IsTrue};
+ghost use Rattle.step_table.specs.Sets.{step_of_rows};
 
 use crate::marks::Marks;
 use label_set::{Items, Labels};
@@ -117,5 +118,15 @@ impl Clone for Step {
 
     fn clone(&self) -> Result<Step, AllocError> {
         self.copy()
+    }
+}
+
+/// A table of these rows, with these marks.
+pub fn step_of_rows(rows: Items<Row>, marks: Marks) -> Step
+    ensures { result ≡ step_of_rows rows marks }
+{
+    Step {
+        table: Table { rows },
+        marks,
     }
 }

@@ -1,6 +1,5 @@
 ghost use Rattle.std.specs.Prelude.{◌≡◌, ◌++◌, [], ◌∷◌, true, List, IfOk, OnOk, OnErr};
 ghost use Rattle.std.specs.Set.{sorted_merge};
-ghost use Rattle.step_table.specs.Orders.{mark_cmp};
 ghost use Rattle.step_table.specs.Unions.{set_of, union, united, with_fatal};
 
 use crate::marks::{Mark, Marks};
@@ -28,7 +27,7 @@ impl Marks {
         ensures err { OnErr result (self.new ≡ self.old) }
     {
         let marks = Marks {
-            fatal: in_order(alloc, once(alloc, fatal)?)?,
+            fatal: as_set(alloc, fatal)?,
             notes: Items::new(alloc),
         };
         self.unite(&marks)
@@ -85,23 +84,23 @@ fn push_all<T: Clone + Drop>(all: &mut Items<T>, items: &[T]) -> Result<(), Allo
     Ok(())
 }
 
-/// The marks of a list, each once.
-fn once(alloc: Global, marks: Items<Mark>) -> Result<BTreeSet<Mark>, AllocError>
-    ensures { IfOk result (λ set. set.keys ≡ set_of mark_cmp marks) }
+/// The items of a list as a set: in order, and each once. The only error is want of memory.
+pub fn as_set<T: Ord + Drop>(alloc: Global, items: Items<T>) -> Result<Items<T>, AllocError>
+    ensures { IfOk result (λ set. set ≡ set_of T.cmp items) }
 {
     let mut set = BTreeSet::new(alloc);
-    for mark in marks.into_vec() {
-        set.insert(mark)?;
+    for item in items.into_vec() {
+        set.insert(item)?;
     }
-    Ok(set)
+    in_order(alloc, set)
 }
 
-fn in_order(alloc: Global, marks: BTreeSet<Mark>) -> Result<Items<Mark>, AllocError>
-    ensures { IfOk result (λ list. list ≡ marks.keys) }
+fn in_order<T: Ord + Drop>(alloc: Global, set: BTreeSet<T>) -> Result<Items<T>, AllocError>
+    ensures { IfOk result (λ list. list ≡ set.keys) }
 {
     let mut list = Items::new(alloc);
-    for mark in marks {
-        list.push(mark)?;
+    for item in set {
+        list.push(item)?;
     }
     Ok(list)
 }

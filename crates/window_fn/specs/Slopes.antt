@@ -12,6 +12,7 @@ use Rattle.window_fn.specs.declared.slopes.Moments.{Moments}
 use Rattle.window_fn.specs.Aggregates.{total, total_of_answers}
 use Rattle.window_fn.specs.Points.{begun, milliseconds}
 
+-- a fraction: no infinity and not NaN
 abbrev pub is_finite : XFrac → Bool
 is_finite (Fin f) = true
 is_finite v = false

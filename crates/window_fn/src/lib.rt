@@ -14,4 +14,5 @@ mod windows;
 
 pub use frame::{WindowFault, WindowFrame};
 pub use quantiles::quantile;
+pub use slopes::is_finite;
 pub use windows::over;

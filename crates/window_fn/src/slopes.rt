@@ -64,7 +64,8 @@ fn are_finite(values: &[XFrac]) -> bool
     values.iter().all(|v| is_finite(v))
 }
 
-fn is_finite(v: &XFrac) -> bool
+/// Whether a number is a fraction: no infinity and not NaN.
+pub fn is_finite(v: &XFrac) -> bool
     ensures { result ≡ is_finite v.now }
 {
     matches!(v, XFrac::Fin(_))

@@ -2,7 +2,7 @@ use Rattle.std.proofs.Common.{rules, ◌≡◌, ◌∙◌, subst, true}
 use Rattle.std.proofs.lemmas.List.Elements.{All-more}
 use Rattle.xfrac.specs.Laws.{IsNumber}
 use Rattle.promql_meaning.specs.declared.buckets.Bucket.{Bucket}
-use Rattle.promql_meaning.specs.Buckets.{is_finite}
+use Rattle.window_fn.specs.Slopes.{is_finite}
 use Rattle.step_rules.proofs.Bounds.{all_taken, finite_behind}
 use Rattle.step_rules.proofs.buckets.are_finite.Goals as goal
 
