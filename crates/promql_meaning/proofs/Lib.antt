@@ -1,6 +1,9 @@
 pub mod EachRow
 pub mod Filled
+pub mod Filtered
+pub mod FirstStop
 pub mod Moments
+pub mod Ordered
 pub mod Parts
 pub mod Points
 pub mod Ranked

@@ -4,6 +4,7 @@ pub mod Buckets
 pub mod Conditions
 pub mod Countings
 pub mod Elements
+pub mod Filters
 pub mod Givens
 pub mod Laws
 pub mod Meaning
@@ -15,6 +16,7 @@ pub mod RankedGroups
 pub mod Ranks
 pub mod Reaches
 pub mod Relabels
+pub mod ResultLaws
 pub mod Results
 pub mod Selecting
 pub mod Steadiness

@@ -90,13 +90,13 @@ below_nan x NegInf n h = absurd (cc)
 abbrev pub tidy_order : Bool → XFrac → XFrac → Ordering
 tidy_order down v w = value_order down (tidy v) (tidy w)
 
-module _ (equal : EqualIsSame) (reversed : OrderIsReversed) (transitive : LessIsTransitive) where
-  flipped : (a b : Bool) (o p : Ordering) → o ≡ ordering_reverse p → p ≡ ordering_reverse o → cond (not (a || b)) p o ≡ ordering_reverse (cond (not (b || a)) o p)
-  flipped true true o p e f = e
-  flipped true false o p e f = e
-  flipped false true o p e f = e
-  flipped false false o p e f = f
+pub flipped : (a b : Bool) (o p : Ordering) → o ≡ ordering_reverse p → p ≡ ordering_reverse o → cond (not (a || b)) p o ≡ ordering_reverse (cond (not (b || a)) o p)
+flipped true true o p e f = e
+flipped true false o p e f = e
+flipped false true o p e f = e
+flipped false false o p e f = f
 
+module _ (equal : EqualIsSame) (reversed : OrderIsReversed) (transitive : LessIsTransitive) where
   either_equal : (b : Bool) (o p : Ordering) (X : Type 0) → (o ≡ Equal → X) → (p ≡ Equal → X) → cond b p o ≡ Equal → X
   either_equal true o p X f g h = g h
   either_equal false o p X f g h = f h

@@ -1,11 +1,14 @@
 //! Laws of meanings that users rely on. The functions do nothing: each stands for what its contract says.
+ghost use Rattle.promql_meaning.specs.Filters.{MoreRulesFilterRows, MoreRulesFilterWindows};
 ghost use Rattle.promql_meaning.specs.Laws.{FixedSelectorStays, MeaningIsWellFormed, MinusTwice, MultiplesAreAll, OffsetIsEarlier, RanksArePart, SumOfEachRow, SumsOfSums};
+ghost use Rattle.promql_meaning.specs.ResultLaws.{FirstStopIsFirst, NoStopIsNone, NotesStand, OrderRearranges, OrderRises};
 ghost use Rattle.promql_meaning.specs.Steadiness.{MeaningStays};
 ghost use Rattle.promql_meaning.specs.Reaches.{NeedsAreMet};
 
 use step_table::laws::{steps_are_well_formed, unions_are_sets};
 use xfrac::laws::{
-    joined_sums_stand_for_both, lcm_is_least, part_overflows_whole, sum_ignores_order,
+    joined_sums_stand_for_both, lcm_is_least, order_is_total, part_overflows_whole,
+    sum_ignores_order,
 };
 
 /// The sum by a grouping that keeps all labels of each row is each row.
@@ -66,4 +69,31 @@ pub fn meanings_are_well_formed()
 /// An expression whose selectors and subqueries have fixed times means the same at each instant.
 pub fn fixed_meanings_stay()
     ensures { MeaningStays }
+{}
+
+/// The stop of an evaluation is that of the first instant at which it ends, and there is none exactly where no instant ends it.
+pub fn first_stop_is_first()
+    ensures first { FirstStopIsFirst }
+    ensures none { NoStopIsNone }
+{}
+
+/// A note stands in an answer exactly where an instant has it.
+pub fn notes_stand()
+    ensures { NotesStand }
+{
+    unions_are_sets();
+}
+
+/// The series of an answer by value are those by labels, rearranged, and none comes before the one in front of it.
+pub fn order_rises()
+    ensures rearranged { OrderRearranges }
+    ensures rises { OrderRises }
+{
+    order_is_total();
+}
+
+/// A selector of more rules gives the rows and the windows of a selector that pass the further rules.
+pub fn more_rules_filter()
+    ensures rows { MoreRulesFilterRows }
+    ensures windows { MoreRulesFilterWindows }
 {}
