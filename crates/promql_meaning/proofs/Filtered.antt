@@ -53,7 +53,7 @@ row_keeps q m s rest = by (newest m s.1)
   where
     by : (o : Option (Ms × XFrac)) → filter (λ (row : Row). q row.labels) (cons_option (option_map unstamped (option_map (λ (x : Ms × XFrac). record { labels = s.0; at = x.0; value = x.1 }) o)) rest)
         ≡ cond (q s.0) (cons_option (option_map unstamped (option_map (λ (x : Ms × XFrac). record { labels = s.0; at = x.0; value = x.1 }) o)) (filter (λ (row : Row). q row.labels) rest))
-            (filter (λ (row : Row). q row.labels) rest)
+        (filter (λ (row : Row). q row.labels) rest)
     by None = nothing_kept (q s.0) (filter (λ (row : Row). q row.labels) rest)
     by (Some x) = refl
 

@@ -115,9 +115,9 @@ module _ (reversed : OrderIsReversed) where
       let labels : labels_cmp b.labels a.labels ≡ ordering_reverse (labels_cmp a.labels b.labels) = labels_cmp_total.antisymm b.labels a.labels in
       (λ i. ordering_then (groups i) (ordering_then (values i) (labels i)))
       ∙ ap (ordering_then (ordering_reverse (labels_cmp (kept_labels order.by a.labels) (kept_labels order.by b.labels))))
-          (then_flip (value_order order.down (value_of_series a) (value_of_series b)) (labels_cmp a.labels b.labels))
+      (then_flip (value_order order.down (value_of_series a) (value_of_series b)) (labels_cmp a.labels b.labels))
       ∙ then_flip (labels_cmp (kept_labels order.by a.labels) (kept_labels order.by b.labels))
-          (ordering_then (value_order order.down (value_of_series a) (value_of_series b)) (labels_cmp a.labels b.labels))
+      (ordering_then (value_order order.down (value_of_series a) (value_of_series b)) (labels_cmp a.labels b.labels))
 
   one_way : (order : ByValue) (a b : ResultSeries) → comes_first order a b ≡ true → comes_first order b a ≡ false
   one_way order a b h = ap is_lt (series_turned order a b) ∙ lower_first (series_order order a b) h

@@ -23,8 +23,8 @@ use std::alloc::{AllocError, Global};
 use std::cmp::Ordering;
 use std::collections::BTreeMap;
 use step_table::{Note, Outcome, Row, Step, gather, settled, some_value, taken, without_name};
-use window_fn::is_finite;
 use window_fn::aggregates::total;
+use window_fn::is_finite;
 use xfrac::laws::{is_number, order_is_total};
 use xfrac::{
     ArithOp, CompareOp, NumFault, XFrac, arith, cmp_total, compare, is_nan, neg, parts, whole,

@@ -14,8 +14,8 @@ use promql_ast::{Expr, Node};
 use promql_meaning::{ResultSeries, value_order};
 use std::alloc::{AllocError, Global};
 use std::cmp::Ordering;
-use xfrac::laws::{is_number, order_is_total};
 use xfrac::XFrac;
+use xfrac::laws::{is_number, order_is_total};
 
 /// By value up or down, within the groups of a grouping.
 #[derive(Drop)]
