@@ -1,4 +1,5 @@
 pub mod Edges
+pub mod Listing
 pub mod Spelled
 pub mod Steps
 pub mod Walks

@@ -1,6 +1,7 @@
 pub mod Durations
 pub mod Edges
 pub mod Grids
+pub mod Listed
 pub mod Moments
 pub mod Pairs
 pub mod Runs

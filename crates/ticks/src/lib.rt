@@ -15,7 +15,9 @@ mod write;
 
 pub use edge::{closed_windows_have_their_edge, last_before};
 pub use grid::Grid;
-pub use laws::{durations_are_found, instants_are_numbered, spellings_are_durations};
+pub use laws::{
+    durations_are_found, instants_are_numbered, spellings_are_durations, walks_are_listed,
+};
 pub use moment::Ms;
 pub use read::read_duration;
 pub use refusal::TickRefusal;

@@ -16,8 +16,8 @@ pub struct WalkMoment {
 }
 
 impl WalkMoment {
-    /// The moment that belongs to an instant, in milliseconds.
-    fn at(&self, instant: Ms) -> i64
+    /// The moment that belongs to an instant, in milliseconds. It takes no memory.
+    pub fn at(&self, instant: Ms) -> i64
         requires { IsTime (moment_at self.now instant.0) }
         ensures { result ≡ moment_at self.now instant.0 }
     {
