@@ -1,11 +1,13 @@
 //! The tree of a query, and why a query's text is refused.
 #![tactic(auto)]
 
+mod edged;
 mod equal;
 mod laws;
 mod refusal;
 mod tree;
 
+pub use edged::{edged_trees_stay, edges_are_set, last_edge_counts};
 pub use laws::depths_are_by_nodes;
 pub use refusal::QueryRefusal;
 pub use tree::{Expr, Fixed, Moment, Node, Selector};

@@ -16,11 +16,13 @@ pub enum Fixed {
     End,
 }
 
-/// The moment that samples are taken at: the instant or a fixed time, less the offset in milliseconds.
+/// The moment that samples are taken at: the instant or a fixed time, less the offset in milliseconds. Where it is closed,
+/// the window that ends there has its left edge too, as in Prometheus 2.
 #[derive(Clone, Copy, Debug, PartialEq, Eq)]
 pub struct Moment {
     pub fixed: Option<Fixed>,
     pub offset: Ms,
+    pub closed: bool,
 }
 
 /// The series that pass all rules, which stand in the order of the text, at a moment.
