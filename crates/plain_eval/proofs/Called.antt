@@ -1,5 +1,5 @@
 -- What a ready call, subquery or selector has of what it asks for.
-use Rattle.std.proofs.Common.{◌≡◌, ◌∙◌, List, [], ◌∷◌, map, ap, sym, subst}
+use Rattle.std.proofs.Common.{◌≡◌, ◌∙◌, Bool, List, [], ◌∷◌, map, ap, sym, subst}
 use Rattle.std.specs.Prelude.{ℤ, pos, ◌-ℤ◌, ◌<ℤ◌}
 use Rattle.std.specs.List.{AllByRecursion}
 use Rattle.func_table.specs.declared.table.Func.{Func}
@@ -40,22 +40,22 @@ module _ (asked : Asked) where
   -- ---- subqueries
 
   -- the times of a subquery at a moment, and its positive step
-  pub record HasTimes (m range step : ℤ) : Type 0 where
+  pub record HasTimes (closed : Bool) (m range step : ℤ) : Type 0 where
     pub edge : IsTime (m -ℤ range)
     pub by : IsTime step
     pub positive : pos 0 <ℤ step
-    pub all : AllByRecursion IsTime (multiples m range step)
+    pub all : AllByRecursion IsTime (multiples closed m range step)
 
   pub subquery_moment : (e inner : Expr) (range step : Ms) (moment : Moment) (t : ℤ) → e.node ≡ Subquery inner range step moment → IsReady asked e t → IsTime (moment_of asked moment t)
   subquery_moment e inner range step moment t is ready = (met_Subquery asked e inner range step moment t is ready).1.0.1.1.1.0
 
-  pub subquery_times : (e inner : Expr) (range step : Ms) (moment : Moment) (t m : ℤ) → e.node ≡ Subquery inner range step moment → IsReady asked e t → m ≡ moment_of asked moment t → HasTimes m range.0 step.0
+  pub subquery_times : (e inner : Expr) (range step : Ms) (moment : Moment) (t m : ℤ) → e.node ≡ Subquery inner range step moment → IsReady asked e t → m ≡ moment_of asked moment t → HasTimes moment.closed m range.0 step.0
   subquery_times e inner range step moment t m is ready here =
       let met = met_Subquery asked e inner range step moment t is ready in
       let times = met.1.0 in
-      subst (λ u. HasTimes u range.0 step.0) (sym here) (record { edge = times.1.1.1.1.0; by = times.1.0; positive = met.0; all = met.1.1.0 })
+      subst (λ u. HasTimes moment.closed u range.0 step.0) (sym here) (record { edge = times.1.1.1.1.0; by = times.1.0; positive = met.0; all = met.1.1.0 })
 
   pub subquery_ready : (e inner : Expr) (range step : Ms) (moment : Moment) (t m : ℤ) (us : List Ms) → e.node ≡ Subquery inner range step moment → IsReady asked e t → m ≡ moment_of asked moment t
-      → us ≡ as_times (multiples m range.0 step.0) → AllByRecursion (λ (u : Ms). IsReady asked inner u.0) us
+      → us ≡ as_times (multiples moment.closed m range.0 step.0) → AllByRecursion (λ (u : Ms). IsReady asked inner u.0) us
   subquery_ready e inner range step moment t m us is ready here times =
-      subst (λ vs. AllByRecursion (λ (u : Ms). IsReady asked inner u.0) vs) (sym (times ∙ ap (λ v. as_times (multiples v range.0 step.0)) here)) (ready_Subquery asked e inner range step moment t is ready)
+      subst (λ vs. AllByRecursion (λ (u : Ms). IsReady asked inner u.0) vs) (sym (times ∙ ap (λ v. as_times (multiples moment.closed v range.0 step.0)) here)) (ready_Subquery asked e inner range step moment t is ready)

@@ -96,10 +96,10 @@ module _ (asked : Asked) where
       )
 
   pub ready_Subquery : (e inner : Expr) (range step : Ms) (moment : Moment) (t : ℤ) → e.node ≡ Subquery inner range step moment → IsReady asked e t
-      → AllByRecursion (λ (u : Ms). IsReady asked inner u.0) (as_times (multiples (moment_of asked moment t) range.0 step.0))
+      → AllByRecursion (λ (u : Ms). IsReady asked inner u.0) (as_times (multiples moment.closed (moment_of asked moment t) range.0 step.0))
   ready_Subquery e inner range step moment t is r =
       let j = fold-Subquery node_step expr_step e inner range step moment is in
-      ready_over inner (as_times (multiples (moment_of asked moment t) range.0 step.0))
+      ready_over inner (as_times (multiples moment.closed (moment_of asked moment t) range.0 step.0))
       (met_Subquery e inner range step moment t is r).1.1.1
       (front_none (judged inner).refusals (argument_refusals (Some Vector) (judged inner).operand) (sym (ap refused j) ∙ r.typed))
       (subst Kept j r.patterns)

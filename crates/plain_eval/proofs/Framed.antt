@@ -36,6 +36,7 @@ use Rattle.promql_meaning.specs.Meaning.{argument, called, given_at, meaning, ne
 use Rattle.promql_meaning.specs.Ranges.{frame_of}
 use Rattle.promql_meaning.specs.Selecting.{Asked, Samples, between, fresh_sample, passing, moment_of, series_window, window, window_row}
 use Rattle.step_rules.specs.Frames.{AreFramed}
+use Rattle.ticks.specs.Edges.{is_from}
 use Rattle.step_rules.specs.Instants.{IsIn, multiples_in}
 use Rattle.plain_eval.specs.Frames.{IsFramed}
 
@@ -53,16 +54,17 @@ fresh_in : (edge m : ℤ) (s : Ms × Held) (rest : List (Ms × XFrac)) → IsIn 
 fresh_in edge m (t, Value value) rest is all = (is, all)
 fresh_in edge m (t, Stale) rest is all = all
 
-is_in : (edge m t : ℤ) → (int_lt edge t && int_le t m) ≡ true → (edge ≤ℤ t) × (t ≤ℤ m)
-is_in edge m t h = (grind (arith, ints, h), grind (arith, ints, h))
+is_in : (closed : Bool) (edge m t : ℤ) → (is_from closed edge t && int_le t m) ≡ true → (edge ≤ℤ t) × (t ≤ℤ m)
+is_in false edge m t h = (grind (arith, ints, h), grind (arith, ints, h))
+is_in true edge m t h = (grind (arith, ints, h), grind (arith, ints, h))
 
-between_in : (edge m : ℤ) (samples : Samples) → AllByRecursion (λ (x : Ms × XFrac). IsIn edge m x.0) (filter_map fresh_sample (between edge m samples))
-between_in edge m [] = tt
-between_in edge m (s ∷ samples) =
-    elim (int_lt edge s.0.0 && int_le s.0.0 m) as (λ b. (int_lt edge s.0.0 && int_le s.0.0 m) ≡ b
-    → AllByRecursion (λ (x : Ms × XFrac). IsIn edge m x.0) (filter_map fresh_sample (if b then s ∷ between edge m samples else between edge m samples))) [
-      | true ↦ λ h. fresh_in edge m s (filter_map fresh_sample (between edge m samples)) (is_in edge m s.0.0 h) (between_in edge m samples)
-      | false ↦ λ h. between_in edge m samples
+between_in : (closed : Bool) (edge m : ℤ) (samples : Samples) → AllByRecursion (λ (x : Ms × XFrac). IsIn edge m x.0) (filter_map fresh_sample (between closed edge m samples))
+between_in closed edge m [] = tt
+between_in closed edge m (s ∷ samples) =
+    elim (is_from closed edge s.0.0 && int_le s.0.0 m) as (λ b. (is_from closed edge s.0.0 && int_le s.0.0 m) ≡ b
+    → AllByRecursion (λ (x : Ms × XFrac). IsIn edge m x.0) (filter_map fresh_sample (if b then s ∷ between closed edge m samples else between closed edge m samples))) [
+      | true ↦ λ h. fresh_in edge m s (filter_map fresh_sample (between closed edge m samples)) (is_in closed edge m s.0.0 h) (between_in closed edge m samples)
+      | false ↦ λ h. between_in closed edge m samples
     ] refl
 
 abbrev RowIn : ℤ → ℤ → WindowRow → Type 0
@@ -73,10 +75,10 @@ row_in : (edge m : ℤ) (names : Names) (samples : List (Ms × XFrac)) (rest : L
 row_in edge m names [] rest all rows = rows
 row_in edge m names (s ∷ samples) rest all rows = (all, rows)
 
-rows_in : (m range : ℤ) (series : List (Names × Samples)) → AllByRecursion (RowIn (m -ℤ range) m) (filter_map (series_window m range) series)
-rows_in m range [] = tt
-rows_in m range (one ∷ series) =
-    row_in (m -ℤ range) m one.0 (window m range one.1) (filter_map (series_window m range) series) (between_in (m -ℤ range) m one.1) (rows_in m range series)
+rows_in : (closed : Bool) (m range : ℤ) (series : List (Names × Samples)) → AllByRecursion (RowIn (m -ℤ range) m) (filter_map (series_window closed m range) series)
+rows_in closed m range [] = tt
+rows_in closed m range (one ∷ series) =
+    row_in (m -ℤ range) m one.0 (window closed m range one.1) (filter_map (series_window closed m range) series) (between_in closed (m -ℤ range) m one.1) (rows_in closed m range series)
 
 -- ---- frames
 
@@ -189,9 +191,10 @@ windows_in : (edge m : ℤ) (items : List (Names × (Ms × XFrac))) → AllByRec
 unfolding gathered
 windows_in edge m items all = groups_in edge m items (names_among items) all
 
-points_in : (inner : ℤ → Step) (range step : Ms) (m : ℤ) → pos 0 <ℤ step.0 → AllByRecursion (RowIn (m -ℤ range.0) m) (points_of inner range step m).rows
-points_in inner range step m positive =
-    windows_in (m -ℤ range.0) m (rows_over inner (as_times (multiples m range.0 step.0))) (items_in (m -ℤ range.0) m inner (as_times (multiples m range.0 step.0)) (multiples_in m range.0 step.0 positive))
+points_in : (closed : Bool) (inner : ℤ → Step) (range step : Ms) (m : ℤ) → pos 0 <ℤ step.0 → AllByRecursion (RowIn (m -ℤ range.0) m) (points_of closed inner range step m).rows
+points_in closed inner range step m positive =
+    windows_in (m -ℤ range.0) m (rows_over inner (as_times (multiples closed m range.0 step.0)))
+    (items_in (m -ℤ range.0) m inner (as_times (multiples closed m range.0 step.0)) (multiples_in closed m range.0 step.0 positive))
 
 -- ---- a tree
 
@@ -230,10 +233,10 @@ module _ (asked : Asked) where
   level (Node-F.Range selector range) t met =
       let times = met.1.0 in
       let m = moment_of asked selector.moment t in
-      framed_by t _ times.0 times.1.0 times.1.1.0 (rows_in m range.0 (passing asked.samples asked.kept selector.rules))
+      framed_by t _ times.0 times.1.0 times.1.1.0 (rows_in selector.moment.closed m range.0 (passing asked.samples asked.kept selector.rules))
   level (Node-F.Subquery e range step moment) t met =
       let times = met.1.0 in
-      framed_by t _ times.0 times.1.1.1.0 times.1.1.1.1.0 (points_in (λ u. step_of (meaning asked e.0 u)) range step (moment_of asked moment t) met.0)
+      framed_by t _ times.0 times.1.1.1.0 times.1.1.1.1.0 (points_in moment.closed (λ u. step_of (meaning asked e.0 u)) range step (moment_of asked moment t) met.0)
   level (Node-F.Call f items) t met = called_framed t f _
   level (Node-F.Aggregate f by items) t met = tt
   level (Node-F.Pair op a b pairing) t met = operation_framed t op pairing (meaning asked a.0 t) (meaning asked b.0 t)

@@ -53,14 +53,14 @@ module _ (asked : Asked) (e : Expr) (t : ℤ) where
 
   -- windows at the multiples of a step, where the moment and what came at each of them are known
   pub means_Subquery : (inner : Expr) (range step : Ms) (moment : Moment) (m : Ms) (us : List Ms) (rows : List (Names × (Ms × XFrac))) (marks : Marks) → e.node ≡ Subquery inner range step moment
-      → m.0 ≡ moment_of asked moment t → us ≡ as_times (multiples m.0 range.0 step.0) → rows ≡ rows_over (meaning_step asked inner) us → marks ≡ marks_over (meaning_step asked inner) no_marks us
+      → m.0 ≡ moment_of asked moment t → us ≡ as_times (multiples moment.closed m.0 range.0 step.0) → rows ≡ rows_over (meaning_step asked inner) us → marks ≡ marks_over (meaning_step asked inner) no_marks us
       → given.Windows (record { moment = m; range = range; rules = []; rows = gathered_windows rows; marks = marks }) ≡ meaning asked e t
   means_Subquery inner range step moment m us rows marks is here times read united =
       let meant = meaning_step asked inner in
       let W : ℤ → List (Names × (Ms × XFrac)) → Marks → Given = λ u rs ms. given.Windows (record { moment = record { 0 = u }; range = range; rules = []; rows = gathered_windows rs; marks = ms }) in
       let last = at_t (Node-F.Subquery (meaning asked inner) range step moment) (fold-Subquery (node_meaning asked) (λ e. e.node) e inner range step moment is) in
-      ap (λ rs. W m.0 rs marks) (read ∙ ap (rows_over meant) times) ∙ ap (λ ms. W m.0 (rows_over meant (as_times (multiples m.0 range.0 step.0))) ms) (united ∙ ap (marks_over meant no_marks) times)
-      ∙ ap (λ u. W u (rows_over meant (as_times (multiples u range.0 step.0))) (marks_over meant no_marks (as_times (multiples u range.0 step.0)))) here ∙ last
+      ap (λ rs. W m.0 rs marks) (read ∙ ap (rows_over meant) times) ∙ ap (λ ms. W m.0 (rows_over meant (as_times (multiples moment.closed m.0 range.0 step.0))) ms) (united ∙ ap (marks_over meant no_marks) times)
+      ∙ ap (λ u. W u (rows_over meant (as_times (multiples moment.closed u range.0 step.0))) (marks_over meant no_marks (as_times (multiples moment.closed u range.0 step.0)))) here ∙ last
 
   pub means_Call : (f : Func) (items : List Expr) (givens : List Given) → e.node ≡ Call f items → givens ≡ given_at (map (meaning asked) items) t → called f givens t ≡ meaning asked e t
   means_Call f items givens is all =

@@ -14,6 +14,7 @@ use Rattle.label_set.specs.declared.rules.Rule.{Rule}
 use Rattle.label_set.specs.Labels.{labels_cmp}
 use Rattle.match_rule.specs.Patterns.{labels_pass}
 use Rattle.sample_store.specs.Samples.{AllSeries, IsRising, IsSelected, Names, Samples, by_labels, chosen, later_than}
+use Rattle.ticks.specs.Edges.{before, is_from, is_from-later}
 use Rattle.ticks.specs.declared.moment.Ms.{Ms}
 use Rattle.xfrac.specs.declared.value.Held.{Held}
 use Rattle.xfrac.specs.declared.value.XFrac.{XFrac}
@@ -99,13 +100,15 @@ le_not a b = elim (int_lt b a) as (λ c. int_lt b a ≡ c → int_le a b ≡ not
   | false ↦ λ h. grind (arith, ints, h)
 ] refl
 
--- the samples of a range are those behind its edge, up to its moment
-pub of_range : (edge : Ms) (m : ℤ) (samples : Samples) → until m (later_than edge samples) ≡ between edge.0 m samples
-of_range edge m [] = refl
-of_range edge m (s ∷ samples) =
-    let rest = of_range edge m samples in
-    elim (int_lt edge.0 s.0.0) as (λ b. until m (if b then s ∷ later_than edge samples else later_than edge samples)
-    ≡ (if b && int_le s.0.0 m then s ∷ between edge.0 m samples else between edge.0 m samples))
+-- the samples of a range are those behind its edge, or on it where it is closed, up to its moment
+pub of_range : (closed : Bool) (edge m : ℤ) (samples : Samples) → until m (later_than (record { 0 = before closed edge }) samples) ≡ between closed edge m samples
+of_range closed edge m [] = refl
+of_range closed edge m (s ∷ samples) =
+    let rest = of_range closed edge m samples in
+    let last : Ms = record { 0 = before closed edge } in
+    ap (λ b. until m (if b then s ∷ later_than last samples else later_than last samples)) (sym (is_from-later closed edge s.0.0))
+    ∙ elim (is_from closed edge s.0.0) as (λ b. until m (if b then s ∷ later_than last samples else later_than last samples)
+    ≡ (if b && int_le s.0.0 m then s ∷ between closed edge m samples else between closed edge m samples))
     [ true ↦ rw (le_not s.0.0 m, rest) refl | false ↦ rest ]
 
 -- ---- the series of numbers

@@ -1,5 +1,5 @@
 -- The rows of series by their numbers. (Our own.)
-use Rattle.std.specs.Prelude.{ℕ, ℤ, not, List, Option, None, slice_get, int_lt, filter}
+use Rattle.std.specs.Prelude.{ℕ, ℤ, Bool, not, List, Option, None, slice_get, int_lt, filter}
 use Rattle.std.specs.List.{filter_map, last_or}
 use Rattle.std.specs.Option.{option_and_then}
 use Rattle.ticks.specs.declared.moment.Ms.{Ms}
@@ -21,8 +21,8 @@ abbrev pub fresh_until : ℤ → Samples → List (Ms × XFrac)
 fresh_until m samples = filter_map fresh_sample (until m samples)
 
 -- the row of the series with a number, and its window
-abbrev pub row_numbered : ℤ → AllSeries → ℕ → Option Stamped
-row_numbered m all number = option_and_then (newest_row m) (slice_get all number)
+abbrev pub row_numbered : Bool → ℤ → AllSeries → ℕ → Option Stamped
+row_numbered closed m all number = option_and_then (newest_row closed m) (slice_get all number)
 
-abbrev pub window_numbered : ℤ → ℤ → AllSeries → ℕ → Option WindowRow
-window_numbered m range all number = option_and_then (series_window m range) (slice_get all number)
+abbrev pub window_numbered : Bool → ℤ → ℤ → AllSeries → ℕ → Option WindowRow
+window_numbered closed m range all number = option_and_then (series_window closed m range) (slice_get all number)

@@ -102,7 +102,7 @@ fn value_at<W: Ledger>(
             moment,
         } => {
             let m = moment_in(query, moment, t);
-            let us = multiples(alloc, m, *range, *step)?;
+            let us = multiples(alloc, m, moment.closed, *range, *step)?;
             let points = points_at(alloc, query, inner.get(), us.as_slice(), patterns, work)?;
             Ok(Given::Windows(windows_over(alloc, m, *range, points)?))
         }
@@ -196,7 +196,15 @@ fn selected<W: Ledger>(
     ensures same { patterns.new ≡ patterns.old }
 {
     let m = moment_in(query, &selector.moment, t);
-    let rows = newest_rows(alloc, query.store, &selector.rules, patterns, m, work)?;
+    let rows = newest_rows(
+        alloc,
+        query.store,
+        &selector.rules,
+        patterns,
+        m,
+        selector.moment.closed,
+        work,
+    )?;
     Ok(Given::Selected(Selection {
         rules: selector.rules.copy()?,
         rows,
@@ -225,6 +233,7 @@ fn windows<W: Ledger>(
         range,
         patterns,
         moment,
+        selector.moment.closed,
         work,
     )?;
     Ok(Given::Windows(Windows {

@@ -6,6 +6,7 @@ ghost use Rattle.sample_store.specs.Samples.{IsRising, Names, Samples};
 ghost use Rattle.std.specs.List.{filter_map};
 ghost use Rattle.std.specs.Option.{option_to_list};
 ghost use Rattle.std.specs.Prelude.{◌≡◌, ◌<◌, ◌++◌, ◌-ℤ◌, Some, length, slice_get, IfOk, OnOk};
+ghost use Rattle.ticks.specs.Edges.{before};
 ghost use Rattle.ticks.specs.Walks.{IsTime};
 
 use label_set::{Items, Rule};
@@ -16,10 +17,11 @@ use sample_store::{Cursor, Store};
 use std::alloc::{AllocError, Global};
 use std::sync::ledger::Ledger;
 use step_rules::{earlier, window_of};
-use ticks::{Grid, Ms, Work};
+use ticks::{Grid, Ms, Work, last_before};
 use xfrac::{Held, XFrac};
 
-/// How far back an instant selector looks for a sample, in milliseconds; a sample just that old is too old.
+/// How far back an instant selector looks for a sample, in milliseconds; a sample just that old is taken where the window is
+/// closed on the left.
 const LOOKBACK: Ms = Ms(300_000);
 
 /// The fixed time, if there is one, or the instant.
@@ -79,13 +81,27 @@ fn last_until<W: Ledger>(cursor: Cursor<'_>, m: Ms, work: &mut Work<W>) -> Optio
     last
 }
 
+/// The last time before a range that ends at a moment.
+fn before_range(m: Ms, range: Ms, closed: bool) -> Ms
+    requires { IsTime (m.0 -ℤ range.0) }
+    ensures { result ≡ record { 0 = before closed (m.0 -ℤ range.0) } }
+{
+    last_before(earlier(m, range), closed)
+}
+
 /// The newest sample of a series at a moment.
-fn newest<W: Ledger>(store: &Store, s: u32, m: Ms, work: &mut Work<W>) -> Option<(Ms, XFrac)>
+fn newest<W: Ledger>(
+    store: &Store,
+    s: u32,
+    m: Ms,
+    closed: bool,
+    work: &mut Work<W>,
+) -> Option<(Ms, XFrac)>
     requires there { s < length store.now }
     requires edge { IsTime (m.0 -ℤ lookback) }
-    ensures { (one : Names × Samples) → slice_get store.now s ≡ Some one → result ≡ newest m.0 one.1 }
+    ensures { (one : Names × Samples) → slice_get store.now s ≡ Some one → result ≡ newest closed m.0 one.1 }
 {
-    let cursor = store.seek(s, earlier(m, LOOKBACK), work);
+    let cursor = store.seek(s, before_range(m, LOOKBACK, closed), work);
     last_until(cursor, m, work)
 }
 
@@ -94,13 +110,14 @@ fn row_at<W: Ledger>(
     store: &Store,
     s: u32,
     m: Ms,
+    closed: bool,
     work: &mut Work<W>,
 ) -> Result<Option<Stamped>, AllocError>
     requires there { s < length store.now }
     requires edge { IsTime (m.0 -ℤ lookback) }
-    ensures { IfOk result (λ row. row ≡ row_numbered m.0 store.now s) }
+    ensures { IfOk result (λ row. row ≡ row_numbered closed m.0 store.now s) }
 {
-    match newest(store, s, m, work) {
+    match newest(store, s, m, closed, work) {
         Some((at, value)) => Ok(Some(Stamped {
             labels: store.labels(s).copy()?,
             at,
@@ -127,17 +144,18 @@ pub fn newest_rows<W: Ledger>(
     rules: &Items<Rule>,
     patterns: &mut Patterns,
     m: Ms,
+    closed: bool,
     work: &mut Work<W>,
 ) -> Result<Items<Stamped>, AllocError>
     requires edge { IsTime (m.0 -ℤ lookback) }
     requires patterns { HaveTheirPatterns patterns.old rules.now }
-    ensures rows { IfOk result (λ rows. rows ≡ filter_map (newest_row m.0) (passing store.now patterns.old rules.now)) }
+    ensures rows { IfOk result (λ rows. rows ≡ filter_map (newest_row closed m.0) (passing store.now patterns.old rules.now)) }
     ensures same { patterns.new ≡ patterns.old }
 {
     let places = store.select(rules, patterns, work)?;
     let mut rows = Items::new(alloc);
     for s in places.as_slice() {
-        let row = row_at(store, *s, m, work)?;
+        let row = row_at(store, *s, m, closed, work)?;
         add_row(&mut rows, row)?;
     }
     Ok(rows)
@@ -171,13 +189,14 @@ fn window_at<W: Ledger>(
     s: u32,
     range: Ms,
     m: Ms,
+    closed: bool,
     work: &mut Work<W>,
 ) -> Result<Option<WindowRow>, AllocError>
     requires there { s < length store.now }
     requires edge { IsTime (m.0 -ℤ range.0) }
-    ensures { IfOk result (λ row. row ≡ window_numbered m.0 range.0 store.now s) }
+    ensures { IfOk result (λ row. row ≡ window_numbered closed m.0 range.0 store.now s) }
 {
-    let samples = samples_at(alloc, store, s, range, m, work)?;
+    let samples = samples_at(alloc, store, s, range, m, closed, work)?;
     if samples.as_slice().is_empty() {
         return Ok(None);
     }
@@ -191,13 +210,14 @@ fn samples_at<W: Ledger>(
     s: u32,
     range: Ms,
     m: Ms,
+    closed: bool,
     work: &mut Work<W>,
 ) -> Result<Items<(Ms, XFrac)>, AllocError>
     requires there { s < length store.now }
     requires edge { IsTime (m.0 -ℤ range.0) }
-    ensures { IfOk result (λ samples. (one : Names × Samples) → slice_get store.now s ≡ Some one → samples ≡ window m.0 range.0 one.1) }
+    ensures { IfOk result (λ samples. (one : Names × Samples) → slice_get store.now s ≡ Some one → samples ≡ window closed m.0 range.0 one.1) }
 {
-    let cursor = store.seek(s, earlier(m, range), work);
+    let cursor = store.seek(s, before_range(m, range, closed), work);
     fresh_until(alloc, cursor, m, work)
 }
 
@@ -209,17 +229,18 @@ pub fn window_rows<W: Ledger>(
     range: Ms,
     patterns: &mut Patterns,
     m: Ms,
+    closed: bool,
     work: &mut Work<W>,
 ) -> Result<Items<WindowRow>, AllocError>
     requires edge { IsTime (m.0 -ℤ range.0) }
     requires patterns { HaveTheirPatterns patterns.old rules.now }
-    ensures rows { IfOk result (λ rows. rows ≡ filter_map (series_window m.0 range.0) (passing store.now patterns.old rules.now)) }
+    ensures rows { IfOk result (λ rows. rows ≡ filter_map (series_window closed m.0 range.0) (passing store.now patterns.old rules.now)) }
     ensures same { patterns.new ≡ patterns.old }
 {
     let places = store.select(rules, patterns, work)?;
     let mut rows = Items::new(alloc);
     for s in places.as_slice() {
-        let row = window_at(alloc, store, *s, range, m, work)?;
+        let row = window_at(alloc, store, *s, range, m, closed, work)?;
         add_row(&mut rows, row)?;
     }
     Ok(rows)

@@ -46,10 +46,10 @@ nothing_kept : {Y : Type 0} (b : Bool) (rest : List Y) → rest ≡ cond b rest 
 nothing_kept true rest = refl
 nothing_kept false rest = refl
 
-row_keeps : (q : Names → Bool) (m : ℤ) (s : Series) (rest : List Row)
-    → filter (λ (row : Row). q row.labels) (cons_option (option_map unstamped (newest_row m s)) rest)
-    ≡ cond (q s.0) (cons_option (option_map unstamped (newest_row m s)) (filter (λ (row : Row). q row.labels) rest)) (filter (λ (row : Row). q row.labels) rest)
-row_keeps q m s rest = by (newest m s.1)
+row_keeps : (q : Names → Bool) (closed : Bool) (m : ℤ) (s : Series) (rest : List Row)
+    → filter (λ (row : Row). q row.labels) (cons_option (option_map unstamped (newest_row closed m s)) rest)
+    ≡ cond (q s.0) (cons_option (option_map unstamped (newest_row closed m s)) (filter (λ (row : Row). q row.labels) rest)) (filter (λ (row : Row). q row.labels) rest)
+row_keeps q closed m s rest = by (newest closed m s.1)
   where
     by : (o : Option (Ms × XFrac)) → filter (λ (row : Row). q row.labels) (cons_option (option_map unstamped (option_map (λ (x : Ms × XFrac). record { labels = s.0; at = x.0; value = x.1 }) o)) rest)
         ≡ cond (q s.0) (cons_option (option_map unstamped (option_map (λ (x : Ms × XFrac). record { labels = s.0; at = x.0; value = x.1 }) o)) (filter (λ (row : Row). q row.labels) rest))
@@ -57,24 +57,24 @@ row_keeps q m s rest = by (newest m s.1)
     by None = nothing_kept (q s.0) (filter (λ (row : Row). q row.labels) rest)
     by (Some x) = refl
 
-window_keeps : (q : Names → Bool) (m range : ℤ) (s : Series) (rest : List WindowRow)
-    → filter (λ (row : WindowRow). q row.labels) (cons_option (series_window m range s) rest)
-    ≡ cond (q s.0) (cons_option (series_window m range s) (filter (λ (row : WindowRow). q row.labels) rest)) (filter (λ (row : WindowRow). q row.labels) rest)
-window_keeps q m range s rest = by (window m range s.1)
+window_keeps : (q : Names → Bool) (closed : Bool) (m range : ℤ) (s : Series) (rest : List WindowRow)
+    → filter (λ (row : WindowRow). q row.labels) (cons_option (series_window closed m range s) rest)
+    ≡ cond (q s.0) (cons_option (series_window closed m range s) (filter (λ (row : WindowRow). q row.labels) rest)) (filter (λ (row : WindowRow). q row.labels) rest)
+window_keeps q closed m range s rest = by (window closed m range s.1)
   where
     by : (samples : List (Ms × XFrac)) → filter (λ (row : WindowRow). q row.labels) (cons_option (window_row s.0 samples) rest)
         ≡ cond (q s.0) (cons_option (window_row s.0 samples) (filter (λ (row : WindowRow). q row.labels) rest)) (filter (λ (row : WindowRow). q row.labels) rest)
     by [] = nothing_kept (q s.0) (filter (λ (row : WindowRow). q row.labels) rest)
     by (x ∷ samples) = refl
 
-unstamped_rows : (m : ℤ) (series : AllSeries) → map unstamped (newest_rows m series) ≡ filter_map (λ (s : Series). option_map unstamped (newest_row m s)) series
-unstamped_rows m [] = refl
-unstamped_rows m (s ∷ series) = by (newest m s.1)
+unstamped_rows : (closed : Bool) (m : ℤ) (series : AllSeries) → map unstamped (newest_rows closed m series) ≡ filter_map (λ (s : Series). option_map unstamped (newest_row closed m s)) series
+unstamped_rows closed m [] = refl
+unstamped_rows closed m (s ∷ series) = by (newest closed m s.1)
   where
-    by : (o : Option (Ms × XFrac)) → map unstamped (cons_option (option_map (λ (x : Ms × XFrac). record { labels = s.0; at = x.0; value = x.1 }) o) (newest_rows m series))
-        ≡ cons_option (option_map unstamped (option_map (λ (x : Ms × XFrac). record { labels = s.0; at = x.0; value = x.1 }) o)) (filter_map (λ (x : Series). option_map unstamped (newest_row m x)) series)
-    by None = unstamped_rows m series
-    by (Some x) = ap (λ rows. record { labels = s.0; value = x.1 } ∷ rows) (unstamped_rows m series)
+    by : (o : Option (Ms × XFrac)) → map unstamped (cons_option (option_map (λ (x : Ms × XFrac). record { labels = s.0; at = x.0; value = x.1 }) o) (newest_rows closed m series))
+        ≡ cons_option (option_map unstamped (option_map (λ (x : Ms × XFrac). record { labels = s.0; at = x.0; value = x.1 }) o)) (filter_map (λ (x : Series). option_map unstamped (newest_row closed m x)) series)
+    by None = unstamped_rows closed m series
+    by (Some x) = ap (λ rows. record { labels = s.0; value = x.1 } ∷ rows) (unstamped_rows closed m series)
 
 -- ---- selectors
 
@@ -85,12 +85,12 @@ module _ (samples : AllSeries) (kept : List (Bool × List ℕ)) (rules more : Li
       (λ s. list_all-append (λ (rule : Rule). kind_passes kept rule.kind (value_of s.0 rule.label)) rules more) (by_labels samples)
 
 pub rows_filtered : MoreRulesFilterRows
-rows_filtered samples kept rules more m =
-    unstamped_rows m (passing samples kept (rules ++ more)) ∙ ap (filter_map (λ (s : Series). option_map unstamped (newest_row m s))) (passing_more samples kept rules more)
-    ∙ made_filtered (labels_pass kept more) (λ (row : Row). row.labels) (λ (s : Series). option_map unstamped (newest_row m s)) (row_keeps (labels_pass kept more) m) (passing samples kept rules)
-    ∙ ap (filter (λ (row : Row). labels_pass kept more row.labels)) (sym (unstamped_rows m (passing samples kept rules)))
+rows_filtered samples kept rules more closed m =
+    unstamped_rows closed m (passing samples kept (rules ++ more)) ∙ ap (filter_map (λ (s : Series). option_map unstamped (newest_row closed m s))) (passing_more samples kept rules more)
+    ∙ made_filtered (labels_pass kept more) (λ (row : Row). row.labels) (λ (s : Series). option_map unstamped (newest_row closed m s)) (row_keeps (labels_pass kept more) closed m) (passing samples kept rules)
+    ∙ ap (filter (λ (row : Row). labels_pass kept more row.labels)) (sym (unstamped_rows closed m (passing samples kept rules)))
 
 pub windows_filtered : MoreRulesFilterWindows
-windows_filtered samples kept rules more m range =
-    ap (filter_map (series_window m range)) (passing_more samples kept rules more)
-    ∙ made_filtered (labels_pass kept more) (λ (row : WindowRow). row.labels) (series_window m range) (window_keeps (labels_pass kept more) m range) (passing samples kept rules)
+windows_filtered samples kept rules more closed m range =
+    ap (filter_map (series_window closed m range)) (passing_more samples kept rules more)
+    ∙ made_filtered (labels_pass kept more) (λ (row : WindowRow). row.labels) (series_window closed m range) (window_keeps (labels_pass kept more) closed m range) (passing samples kept rules)

@@ -3,6 +3,7 @@ pub mod Few
 pub mod Filled
 pub mod Filtered
 pub mod FirstStop
+pub mod LeftEdges
 pub mod Moments
 pub mod Ordered
 pub mod Parts

@@ -17,7 +17,7 @@ use Rattle.std.specs.List.{filter_map}
 
 -- the selector's samples at a moment
 at_moment : Asked → Selector → ℤ → Given
-at_moment asked selector m = Selected (record { rules = selector.rules; rows = filter_map (newest_row m) (passing asked.samples asked.kept selector.rules) })
+at_moment asked selector m = Selected (record { rules = selector.rules; rows = filter_map (newest_row selector.moment.closed m) (passing asked.samples asked.kept selector.rules) })
 
 by_moment : (asked : Asked) (e : Expr) (selector : Selector) (t : ℤ) → e.node ≡ Select selector → meaning asked e t ≡ at_moment asked selector (moment_of asked selector.moment t)
 unfolding at_moment

@@ -1,6 +1,6 @@
 -- The points of a subquery are the multiples of its step in its range.
 use Rattle.std.proofs.Common.{◌≡◌, ◌∙◌, ℕ, zero, suc, ◌+◌, ◌-◌, ◌*◌, ◌/◌, ◌<◌, ◌≤◌, true, false, [], ◌∷◌, length, refl, sym, ap, subst, arith, add-one, inl, inr}
-use Rattle.std.specs.Prelude.{◌%◌, ℤ, pos, negsuc, ◌+ℤ◌, ◌-ℤ◌, ◌*ℤ◌, ◌<ℤ◌, ◌≤ℤ◌, int_lt, unsigned_abs, if◌then◌else◌}
+use Rattle.std.specs.Prelude.{◌%◌, Bool, ℤ, pos, negsuc, ◌+ℤ◌, ◌-ℤ◌, ◌*ℤ◌, ◌<ℤ◌, ◌≤ℤ◌, int_lt, unsigned_abs, if◌then◌else◌}
 use Rattle.std.specs.Int.{int_rem_euclid}
 use Rattle.std.specs.List.{AllByRecursion, Contains}
 use Rattle.std.proofs.lemmas.Bool.{cases_lt}
@@ -8,9 +8,10 @@ use Rattle.std.proofs.lemmas.Int.{ints}
 use Rattle.std.proofs.lemmas.List.Elements.{All-contains, All-from_recursion}
 use Rattle.std.proofs.lemmas.Nat.{div-add-mod', le-div}
 use Rattle.std.proofs.Math.Nat.{div-mul-le_self, mod-lt, mul-le-mul_right}
+use Rattle.ticks.specs.Edges.{IsFrom, before, before-near, from-later, later-from}
 use Rattle.ticks.specs.Steps.{IsMultiple}
 use Rattle.promql_meaning.specs.Laws.{IsMultipleIn, MultiplesAreAll}
-use Rattle.promql_meaning.specs.Subqueries.{instants, instants_up_to, multiple_after, multiples}
+use Rattle.promql_meaning.specs.Subqueries.{first_multiple, instants, instants_up_to, multiple_after, multiples}
 
 -- ---- multiples
 
@@ -37,6 +38,17 @@ pub rem_in : (z : ℤ) (s : ℕ) → 0 < s → (pos 0 ≤ℤ int_rem_euclid z (p
 rem_in (pos a) s some = let b : a % s < s = mod-lt a some in (omega (arith, ints), omega (arith, ints, b))
 rem_in (negsuc a) s some = let b : a % s < s = mod-lt a some in (omega (arith, ints, b), omega (arith, ints, b))
 
+-- the first multiple of a range is behind its edge, or on it where it is closed
+pub first_from : (closed : Bool) (edge : ℤ) (s : ℕ) → 0 < s → IsFrom closed edge (first_multiple closed (pos s) edge)
+first_from closed edge s some =
+    let r = rem_in (before closed edge) s some in
+    let r1 : int_rem_euclid (before closed edge) (pos s) <ℤ pos s = r.1 in
+    later-from closed edge (first_multiple closed (pos s) edge) (omega (arith, ints, r1))
+
+-- later times are behind it too
+from-on : (closed : Bool) (edge t u : ℤ) → IsFrom closed edge t → t ≤ℤ u → IsFrom closed edge u
+from-on closed edge t u is le = let h = from-later closed edge t is in later-from closed edge u (omega (arith, ints, h, le))
+
 -- ---- what instants are there
 
 there : (first : ℤ) (s n k : ℕ) → k < n → Contains (instants first (pos s) n) (first +ℤ pos (k * s))
@@ -47,22 +59,22 @@ there first s (suc n) (suc k) less =
     let e : (first +ℤ pos s) +ℤ pos (k * s) ≡ first +ℤ pos (suc k * s) = omega (arith, ints) in
     subst (Contains (first ∷ instants (first +ℤ pos s) (pos s) n)) e (suc later.0, (let l : later.0 < length (instants (first +ℤ pos s) (pos s) n) = later.1 in omega (arith, l)), later.2)
 
-module _ (edge m : ℤ) (s : ℕ) where
-  all_in : (first : ℤ) (n : ℕ) → edge <ℤ first → (first +ℤ pos (n * s)) ≤ℤ m → IsMultiple (pos s) first → AllByRecursion (IsMultipleIn edge m (pos s)) (instants first (pos s) (suc n))
-  all_in first zero behind last is = (record { behind = behind; up_to = omega (arith, ints, last); multiple = is }, tt)
+module _ (closed : Bool) (edge m : ℤ) (s : ℕ) where
+  all_in : (first : ℤ) (n : ℕ) → IsFrom closed edge first → (first +ℤ pos (n * s)) ≤ℤ m → IsMultiple (pos s) first → AllByRecursion (IsMultipleIn closed edge m (pos s)) (instants first (pos s) (suc n))
+  all_in first zero behind last is = (record { from_edge = behind; up_to = omega (arith, ints, last); multiple = is }, tt)
   all_in first (suc n) behind last (k, is) = (
-    record { behind = behind; up_to = omega (arith, ints, last); multiple = (k, is) },
-    all_in (first +ℤ pos s) n (omega (arith, ints, behind)) (omega (arith, ints, last)) (subst (λ z. IsMultiple (pos s) (z +ℤ pos s)) (sym is) (next_multiple k s)),
+    record { from_edge = behind; up_to = omega (arith, ints, last); multiple = (k, is) },
+    all_in (first +ℤ pos s) n (from-on closed edge first (first +ℤ pos s) behind (omega (arith, ints))) (omega (arith, ints, last)) (subst (λ z. IsMultiple (pos s) (z +ℤ pos s)) (sym is) (next_multiple k s)),
   )
 
-  pub all_up_to : (first : ℤ) → 0 < s → edge <ℤ first → IsMultiple (pos s) first → AllByRecursion (IsMultipleIn edge m (pos s)) (instants_up_to first m (pos s))
+  pub all_up_to : (first : ℤ) → 0 < s → IsFrom closed edge first → IsMultiple (pos s) first → AllByRecursion (IsMultipleIn closed edge m (pos s)) (instants_up_to first m (pos s))
   all_up_to first some behind is =
-      elim (int_lt m first) as (λ b. int_lt m first ≡ b → AllByRecursion (IsMultipleIn edge m (pos s)) (if b then [] else instants first (pos s) (unsigned_abs (m -ℤ first) / s + 1))) [
+      elim (int_lt m first) as (λ b. int_lt m first ≡ b → AllByRecursion (IsMultipleIn closed edge m (pos s)) (if b then [] else instants first (pos s) (unsigned_abs (m -ℤ first) / s + 1))) [
         | true ↦ λ h. tt
         | false ↦ λ h.
             let span : pos (unsigned_abs (m -ℤ first)) ≡ m -ℤ first = omega (arith, ints, h) in
             let within : unsigned_abs (m -ℤ first) / s * s ≤ unsigned_abs (m -ℤ first) = div-mul-le_self (unsigned_abs (m -ℤ first)) s in
-            subst (λ c. AllByRecursion (IsMultipleIn edge m (pos s)) (instants first (pos s) c)) (sym (add-one (unsigned_abs (m -ℤ first) / s))) (all_in first (unsigned_abs (m -ℤ first) / s) behind (omega (arith, ints, within, span)) is)
+            subst (λ c. AllByRecursion (IsMultipleIn closed edge m (pos s)) (instants first (pos s) c)) (sym (add-one (unsigned_abs (m -ℤ first) / s))) (all_in first (unsigned_abs (m -ℤ first) / s) behind (omega (arith, ints, within, span)) is)
       ] refl
 
 -- ---- each multiple is there
@@ -88,9 +100,9 @@ ahead s (negsuc j) (negsuc k) u first e f less =
           (i, (let g : k * s ≡ j * s + i * s = ap (λ z. z * s) is ∙ (let d : (j + i) * s ≡ j * s + i * s = omega arith in d) in omega (arith, ints, e, f, g)))
     ]
 
-each_there : (edge m u first : ℤ) (s : ℕ) → 0 < s → first ≤ℤ (edge +ℤ pos s) → IsMultiple (pos s) first → IsMultipleIn edge m (pos s) u → Contains (instants_up_to first m (pos s)) u
-each_there edge m u first s some near (k, f) is =
-    let a = ahead s is.multiple.0 k u first is.multiple.1 f (let b : edge <ℤ u = is.behind in omega (arith, ints, near, b)) in
+each_there : (closed : Bool) (edge m u first : ℤ) (s : ℕ) → 0 < s → first ≤ℤ (before closed edge +ℤ pos s) → IsMultiple (pos s) first → IsMultipleIn closed edge m (pos s) u → Contains (instants_up_to first m (pos s)) u
+each_there closed edge m u first s some near (k, f) is =
+    let a = ahead s is.multiple.0 k u first is.multiple.1 f (let b = from-later closed edge u is.from_edge in omega (arith, ints, near, b)) in
     let up : u ≤ℤ m = is.up_to in
     let e : u ≡ first +ℤ pos (a.0 * s) = a.1 in
     elim (int_lt m first) as (λ b. int_lt m first ≡ b → Contains (if b then [] else instants first (pos s) (unsigned_abs (m -ℤ first) / s + 1)) u) [
@@ -102,14 +114,13 @@ each_there edge m u first s some near (k, f) is =
     ] refl
 
 pub points_all : MultiplesAreAll
-points_all m range (pos s) u positive =
+points_all closed m range (pos s) u positive =
     let some : 0 < s = omega (arith, ints, positive) in
     let edge : ℤ = m -ℤ range in
-    let rem = rem_in edge s some in
-    let r0 : pos 0 ≤ℤ int_rem_euclid edge (pos s) = rem.0 in
-    let r1 : int_rem_euclid edge (pos s) <ℤ pos s = rem.1 in
-    let is : IsMultiple (pos s) (multiple_after (pos s) edge) = after_is_multiple edge s some in (
-      λ inside. All-contains (IsMultipleIn edge m (pos s)) (multiples m range (pos s)) u (All-from_recursion (IsMultipleIn edge m (pos s)) (multiples m range (pos s)) (all_up_to edge m s (multiple_after (pos s) edge) some (omega (arith, ints, r1)) is)) inside,
-      λ wanted. each_there edge m u (multiple_after (pos s) edge) s some (omega (arith, ints, r0)) is wanted,
+    let rem = rem_in (before closed edge) s some in
+    let r0 : pos 0 ≤ℤ int_rem_euclid (before closed edge) (pos s) = rem.0 in
+    let is : IsMultiple (pos s) (first_multiple closed (pos s) edge) = after_is_multiple (before closed edge) s some in (
+      λ inside. All-contains (IsMultipleIn closed edge m (pos s)) (multiples closed m range (pos s)) u (All-from_recursion (IsMultipleIn closed edge m (pos s)) (multiples closed m range (pos s)) (all_up_to closed edge m s (first_multiple closed (pos s) edge) some (first_from closed edge s some) is)) inside,
+      λ wanted. each_there closed edge m u (first_multiple closed (pos s) edge) s some (omega (arith, ints, r0)) is wanted,
     )
-points_all m range (negsuc s) u positive = absurd (omega (arith, ints, positive))
+points_all closed m range (negsuc s) u positive = absurd (omega (arith, ints, positive))

@@ -1,6 +1,6 @@
 -- What a tree needs, from what its parts are.
 use Rattle.std.proofs.Common.{ℕ, zero, suc, ◌+◌, ◌*◌, ◌≤◌, List, [], ◌∷◌, ◌++◌, map, sym, subst, arith}
-use Rattle.std.specs.Prelude.{◌^◌, max, ℤ, pos, negsuc, neg_ℤ, ◌-ℤ◌, ◌<ℤ◌, ◌≤ℤ◌, Option, None, Some}
+use Rattle.std.specs.Prelude.{◌^◌, Bool, max, ℤ, pos, negsuc, neg_ℤ, ◌-ℤ◌, ◌<ℤ◌, ◌≤ℤ◌, Option, None, Some}
 use Rattle.std.specs.List.{AllByRecursion}
 use Rattle.std.proofs.lemmas.Int.{ints}
 use Rattle.holders.specs.Joins.{back_of, both_of, front_of}
@@ -14,6 +14,7 @@ use Rattle.promql_ast.specs.declared.tree.Node.{Node}
 use Rattle.promql_ast.specs.declared.tree.Node.TheOpen.{Node-F}
 use Rattle.promql_ast.specs.declared.tree.Node.TheViews.{roll-Node, roll-Expr}
 use Rattle.promql_ast.specs.declared.tree.Node.TheFolds.{map-Node, fold-Node, fold-roll-Node, fold-roll-Expr, ind-Expr}
+use Rattle.ticks.specs.Edges.{before, before-near, from-edge}
 use Rattle.ticks.specs.Walks.{IsTime}
 use Rattle.ticks.specs.declared.moment.Ms.{Ms}
 use Rattle.promql_meaning.specs.Conditions.{AreMet, IsMet, Need, needs_at, needs_of, needs_over, node_needs}
@@ -21,8 +22,8 @@ use Rattle.promql_meaning.specs.Laws.{IsMultipleIn}
 use Rattle.promql_ast.specs.Parts.{AreWithin, IsFixedWithin, IsWithin, Part, all_of as all_parts, node_parts, parts_of}
 use Rattle.promql_meaning.specs.Reaches.{EndsWithin, NeedsAreMet, reach}
 use Rattle.promql_meaning.specs.Selecting.{Asked, base_of, lookback, moment_of}
-use Rattle.promql_meaning.specs.Subqueries.{as_times, multiple_after, multiples}
-use Rattle.promql_meaning.proofs.Points.{after_is_multiple, all_up_to, rem_in}
+use Rattle.promql_meaning.specs.Subqueries.{as_times, first_multiple, multiples}
+use Rattle.promql_meaning.proofs.Points.{after_is_multiple, all_up_to, first_from, rem_in}
 
 -- ---- times
 
@@ -109,27 +110,27 @@ module _ (asked : Asked) (longest latest : ℕ) (far : 300000 ≤ longest) (ends
   all_times n [] top all = tt
   all_times n (u ∷ us) top all = (is_time n u all.0 top, all_times n us top all.1)
 
-  in_range : (n : ℕ) (edge m step : ℤ) (us : List ℤ) → Near n edge → Near n m → AllByRecursion (IsMultipleIn edge m step) us → AllByRecursion (Near n) us
-  in_range n edge m step [] low high all = tt
-  in_range n edge m step (u ∷ us) low high all =
-      let b = all.0.behind in
+  in_range : (n : ℕ) (closed : Bool) (edge m step : ℤ) (us : List ℤ) → Near n edge → Near n m → AllByRecursion (IsMultipleIn closed edge m step) us → AllByRecursion (Near n) us
+  in_range n closed edge m step [] low high all = tt
+  in_range n closed edge m step (u ∷ us) low high all =
+      let b = from-edge closed edge u all.0.from_edge in
       let t = all.0.up_to in
-      ((omega (arith, ints, low.0, b), omega (arith, ints, high.1, t)), in_range n edge m step us low high all.1)
+      ((omega (arith, ints, low.0, b), omega (arith, ints, high.1, t)), in_range n closed edge m step us low high all.1)
 
-  points_near : (n : ℕ) (m range step : ℤ) → pos 0 <ℤ step → Near n (m -ℤ range) → Near n m → AllByRecursion (Near n) (multiples m range step)
-  points_near n m range (pos s) positive low high =
+  points_near : (n : ℕ) (closed : Bool) (m range step : ℤ) → pos 0 <ℤ step → Near n (m -ℤ range) → Near n m → AllByRecursion (Near n) (multiples closed m range step)
+  points_near n closed m range (pos s) positive low high =
       let some : 1 ≤ s = omega (arith, ints, positive) in
-      let r = rem_in (m -ℤ range) s some in
-      in_range n (m -ℤ range) m (pos s) (multiples m range (pos s)) low high
-      (all_up_to (m -ℤ range) m s (multiple_after (pos s) (m -ℤ range)) some (omega (arith, ints, r.1)) (after_is_multiple (m -ℤ range) s some))
-  points_near n m range (negsuc s) positive low high = absurd (omega (arith, ints, positive))
+      in_range n closed (m -ℤ range) m (pos s) (multiples closed m range (pos s)) low high
+      (all_up_to closed (m -ℤ range) m s (first_multiple closed (pos s) (m -ℤ range)) some (first_from closed (m -ℤ range) s some) (after_is_multiple (before closed (m -ℤ range)) s some))
+  points_near n closed m range (negsuc s) positive low high = absurd (omega (arith, ints, positive))
 
-  first_near : (n l : ℕ) (edge step : ℤ) → pos 0 <ℤ step → step ≤ℤ pos l → Near n edge → Near (n + l) (multiple_after step edge)
-  first_near n l edge (pos s) positive le near =
+  first_near : (n l : ℕ) (closed : Bool) (edge step : ℤ) → pos 0 <ℤ step → step ≤ℤ pos l → Near n edge → Near (n + l) (first_multiple closed step edge)
+  first_near n l closed edge (pos s) positive le near =
       let some : 1 ≤ s = omega (arith, ints, positive) in
-      let r = rem_in edge s some in
-      (omega (arith, ints, near.0, r.1), omega (arith, ints, near.1, r.0, le))
-  first_near n l edge (negsuc s) positive le near = absurd (omega (arith, ints, positive))
+      let b = before-near closed edge in
+      let r = rem_in (before closed edge) s some in
+      (omega (arith, ints, near.0, b.0, r.1), omega (arith, ints, near.1, b.1, r.0, le))
+  first_near n l closed edge (negsuc s) positive le near = absurd (omega (arith, ints, positive))
 
   subquery_met : (e : Expr) (range step : Ms) (moment : Moment) (n d : ℕ) (t : ℤ) → Fits e → 1 + depth e ≤ d → latest ≤ n → n + reach longest d ≤ 2 ^ 60 → Near n t
       → IsWithin (HaveTheirPatterns asked.kept) longest latest (Part.of_moment moment) → IsWithin (HaveTheirPatterns asked.kept) longest latest (Part.of_length range)
@@ -140,15 +141,15 @@ module _ (asked : Asked) (longest latest : ℕ) (far : 300000 ≤ longest) (ends
       let m = moment_near n t moment le near is in
       let edge = near_less (n + longest) longest _ range.0 m (length_near longest range.0 length.0 length.1) in
       let further : Near (n + longest + longest) (moment_of asked moment t) = nearer (n + longest) (n + longest + longest) _ (omega arith) m in
-      let points = points_near (n + longest + longest) (moment_of asked moment t) range.0 step.0 by.0 edge further in
+      let points = points_near (n + longest + longest) moment.closed (moment_of asked moment t) range.0 step.0 by.0 edge further in
       let ends :
       IsTime t
-      × (IsTime step.0 × (IsTime (multiple_after step.0 (moment_of asked moment t -ℤ range.0)) × (IsTime (moment_of asked moment t) × (IsTime (moment_of asked moment t -ℤ range.0) × Unit {0})))) = (
+      × (IsTime step.0 × (IsTime (first_multiple moment.closed step.0 (moment_of asked moment t -ℤ range.0)) × (IsTime (moment_of asked moment t) × (IsTime (moment_of asked moment t -ℤ range.0) × Unit {0})))) = (
         is_time n t near (omega (arith, top)),
         (
           is_time longest step.0 (length_near longest step.0 by.0 by.1) (omega (arith, top)),
           (
-            is_time (n + longest + longest + longest) _ (first_near (n + longest + longest) longest _ step.0 by.0 by.1 edge) (omega (arith, top)),
+            is_time (n + longest + longest + longest) _ (first_near (n + longest + longest) longest moment.closed _ step.0 by.0 by.1 edge) (omega (arith, top)),
             (is_time (n + longest) _ m (omega (arith, top)), (is_time (n + longest + longest) _ edge (omega (arith, top)), tt)),
           ),
         ),
@@ -157,8 +158,8 @@ module _ (asked : Asked) (longest latest : ℕ) (far : 300000 ≤ longest) (ends
         (
           ends,
           (
-            all_times (n + longest + longest) (multiples (moment_of asked moment t) range.0 step.0) (omega (arith, top)) points,
-            over_times e (n + longest + longest) d (multiples (moment_of asked moment t) range.0 step.0) fits (omega (arith, levels)) (omega (arith, le)) (omega (arith, top)) within points,
+            all_times (n + longest + longest) (multiples moment.closed (moment_of asked moment t) range.0 step.0) (omega (arith, top)) points,
+            over_times e (n + longest + longest) d (multiples moment.closed (moment_of asked moment t) range.0 step.0) fits (omega (arith, levels)) (omega (arith, le)) (omega (arith, top)) within points,
           ),
         ),
       )

@@ -150,10 +150,10 @@ module _ (asked : Asked) where
   level (Node-F.Paren e) h t u = e.1 h t u
   level (Node-F.Negate e) h t u = ap negation (e.1 h t u)
   level (Node-F.Select selector) h t u =
-      ap (λ m. given.Selected (record { rules = selector.rules; rows = newest_rows m (passing asked.samples asked.kept selector.rules) })) (moment_stays selector.moment t u h)
+      ap (λ m. given.Selected (record { rules = selector.rules; rows = newest_rows selector.moment.closed m (passing asked.samples asked.kept selector.rules) })) (moment_stays selector.moment t u h)
   level (Node-F.Range selector range) h t u =
-      ap (λ m. given.Windows (record { moment = record { 0 = m }; range = range; rules = selector.rules; rows = window_rows m range.0 (passing asked.samples asked.kept selector.rules); marks = no_marks })) (moment_stays selector.moment t u h)
-  level (Node-F.Subquery e range step moment) h t u = ap (λ m. given.Windows (points_of (λ v. step_of (meaning asked e.0 v)) range step m)) (moment_stays moment t u h)
+      ap (λ m. given.Windows (record { moment = record { 0 = m }; range = range; rules = selector.rules; rows = window_rows selector.moment.closed m range.0 (passing asked.samples asked.kept selector.rules); marks = no_marks })) (moment_stays selector.moment t u h)
+  level (Node-F.Subquery e range step moment) h t u = ap (λ m. given.Windows (points_of moment.closed (λ v. step_of (meaning asked e.0 v)) range step m)) (moment_stays moment t u h)
   level (Node-F.Call f items) h t u =
       let both = both_true (steady_call f) (all_hold (map is_steady (map (λ e. e.0) items))) h in
       ap (λ gs. called f gs t) (arguments_stay items t u both.1) ∙ called_stays f (given_at (map (meaning asked) (map (λ e. e.0) items)) u) t u both.0

@@ -10,7 +10,7 @@ use Rattle.promql_ast.specs.declared.tree.Node.TheFolds.{fold-Expr}
 use Rattle.ticks.specs.Walks.{IsTime}
 use Rattle.ticks.specs.declared.moment.Ms.{Ms}
 use Rattle.promql_meaning.specs.Selecting.{Asked, lookback, moment_of}
-use Rattle.promql_meaning.specs.Subqueries.{as_times, multiple_after, multiples}
+use Rattle.promql_meaning.specs.Subqueries.{as_times, first_multiple, multiples}
 
 -- each rule has its pattern; each of some times is at most 2^60 in magnitude; a step is positive
 pub data Need : Type 0 where
@@ -48,9 +48,9 @@ node_needs asked (Node-F.Range selector range) t =
     Need.patterns selector.rules ∷ Need.times (t ∷ range_times (moment_of asked selector.moment t) range.0) ∷ []
 node_needs asked (Node-F.Subquery inner range step moment) t =
     Need.positive step.0
-    ∷ Need.times (t ∷ step.0 ∷ multiple_after step.0 (moment_of asked moment t -ℤ range.0) ∷ range_times (moment_of asked moment t) range.0)
-    ∷ Need.times (multiples (moment_of asked moment t) range.0 step.0)
-    ∷ needs_over inner (as_times (multiples (moment_of asked moment t) range.0 step.0))
+    ∷ Need.times (t ∷ step.0 ∷ first_multiple moment.closed step.0 (moment_of asked moment t -ℤ range.0) ∷ range_times (moment_of asked moment t) range.0)
+    ∷ Need.times (multiples moment.closed (moment_of asked moment t) range.0 step.0)
+    ∷ needs_over inner (as_times (multiples moment.closed (moment_of asked moment t) range.0 step.0))
 node_needs asked (Node-F.Call f arguments) t = needs_at arguments t
 node_needs asked (Node-F.Aggregate f by arguments) t = needs_at arguments t
 node_needs asked (Node-F.Pair op left right pairing) t = left t ++ right t

@@ -18,11 +18,11 @@ passing_windows kept rules windows = filter (λ (row : WindowRow). labels_pass k
 -- the newest rows of the series that pass some rules and more are those of the series that pass the first, filtered
 abbrev pub MoreRulesFilterRows : Type 0
 MoreRulesFilterRows =
-    (samples : AllSeries) (kept : List (Bool × List ℕ)) (rules more : List Rule) (m : ℤ)
-    → map unstamped (newest_rows m (passing samples kept (rules ++ more))) ≡ passing_rows kept more (map unstamped (newest_rows m (passing samples kept rules)))
+    (samples : AllSeries) (kept : List (Bool × List ℕ)) (rules more : List Rule) (closed : Bool) (m : ℤ)
+    → map unstamped (newest_rows closed m (passing samples kept (rules ++ more))) ≡ passing_rows kept more (map unstamped (newest_rows closed m (passing samples kept rules)))
 
 -- and so are their windows
 abbrev pub MoreRulesFilterWindows : Type 0
 MoreRulesFilterWindows =
-    (samples : AllSeries) (kept : List (Bool × List ℕ)) (rules more : List Rule) (m range : ℤ)
-    → window_rows m range (passing samples kept (rules ++ more)) ≡ passing_windows kept more (window_rows m range (passing samples kept rules))
+    (samples : AllSeries) (kept : List (Bool × List ℕ)) (rules more : List Rule) (closed : Bool) (m range : ℤ)
+    → window_rows closed m range (passing samples kept (rules ++ more)) ≡ passing_windows kept more (window_rows closed m range (passing samples kept rules))

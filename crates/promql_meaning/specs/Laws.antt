@@ -8,6 +8,7 @@ use Rattle.promql_ast.specs.declared.tree.Expr.{Expr}
 use Rattle.promql_ast.specs.declared.tree.Fixed.{Fixed}
 use Rattle.promql_ast.specs.declared.tree.Node.TheVariants.{Select}
 use Rattle.promql_ast.specs.declared.tree.Selector.{Selector}
+use Rattle.ticks.specs.Edges.{IsFrom}
 use Rattle.ticks.specs.Steps.{IsMultiple}
 use Rattle.window_fn.specs.Aggregates.{total}
 use Rattle.xfrac.specs.Laws.{IsNumber}
@@ -59,7 +60,7 @@ RanksArePart =
 
 -- a selector without its offset
 abbrev pub without_offset : Selector → Selector
-without_offset selector = record selector { moment = record { fixed = selector.moment.fixed; offset = record { 0 = pos 0 } } }
+without_offset selector = record selector { moment = record selector.moment { offset = record { 0 = pos 0 } } }
 
 -- a selector under `@` means the same at each instant
 abbrev pub FixedSelectorStays : Type 0
@@ -74,15 +75,16 @@ OffsetIsEarlier =
     → e.node ≡ Select selector → plain.node ≡ Select (without_offset selector) → selector.moment.fixed ≡ None
     → meaning asked e t ≡ meaning asked plain (t -ℤ selector.moment.offset.0)
 
--- a multiple of a step behind the left edge of a range, up to its moment
-pub record IsMultipleIn (edge m step u : ℤ) : Type 0 where
-  pub behind : edge <ℤ u
+-- a multiple of a step behind the left edge of a range, or on it where it is closed, up to its moment
+pub record IsMultipleIn (closed : Bool) (edge m step u : ℤ) : Type 0 where
+  pub from_edge : IsFrom closed edge u
   pub up_to : u ≤ℤ m
   pub multiple : IsMultiple step u
 
 -- a subquery asks what its inner expression means at these, and at no others
 abbrev pub MultiplesAreAll : Type 0
-MultiplesAreAll = (m range step u : ℤ) → pos 0 <ℤ step → Contains (multiples m range step) u ↔ IsMultipleIn (m -ℤ range) m step u
+MultiplesAreAll =
+    (closed : Bool) (m range step u : ℤ) → pos 0 <ℤ step → Contains (multiples closed m range step) u ↔ IsMultipleIn closed (m -ℤ range) m step u
 
 -- each step of a meaning is a table in the order of its labels, with notes and marks as sets
 abbrev pub MeaningIsWellFormed : Type 0

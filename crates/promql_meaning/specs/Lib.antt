@@ -7,6 +7,7 @@ pub mod Elements
 pub mod Filters
 pub mod Givens
 pub mod Laws
+pub mod LeftEdges
 pub mod Meaning
 pub mod NumberOrder
 pub mod Orders

@@ -182,7 +182,7 @@ node_meaning asked (Node-F.Range selector range) t = given.Windows (record {
   marks = no_marks;
 })
 node_meaning asked (Node-F.Subquery inner range step moment) t =
-    given.Windows (points_of (λ u. step_of (inner u)) range step (moment_of asked moment t))
+    given.Windows (points_of moment.closed (λ u. step_of (inner u)) range step (moment_of asked moment t))
 node_meaning asked (Node-F.Call f arguments) t = called f (given_at arguments t) t
 node_meaning asked (Node-F.Aggregate f by arguments) t = given.Vector (aggregation f by (given_at arguments t))
 node_meaning asked (Node-F.Pair op left right pairing) t = operation op pairing (left t) (right t)

@@ -1,6 +1,6 @@
 -- What selectors give. (Prometheus querying, "Time series selectors", "Offset modifier", "@ modifier" and "Staleness"; ranges
--- are open on the left, as from Prometheus 3 on.)
-use Rattle.std.specs.Prelude.{ℕ, Bool, ◌&&◌, List, [], ◌∷◌, filter, Option, None, Some, ℤ, pos, ◌-ℤ◌, int_lt, int_le}
+-- are open on the left as from Prometheus 3 on, or closed as before.)
+use Rattle.std.specs.Prelude.{ℕ, Bool, ◌&&◌, List, [], ◌∷◌, filter, Option, None, Some, ℤ, pos, ◌-ℤ◌, int_le}
 use Rattle.std.specs.BTreeMap.{insert_entry}
 use Rattle.std.specs.List.{filter_map, last_or}
 use Rattle.std.specs.Option.{option_map, option_and_then}
@@ -12,6 +12,7 @@ use Rattle.promql_ast.specs.declared.tree.Fixed.TheVariants.{At, Start, End}
 use Rattle.promql_ast.specs.declared.tree.Moment.{Moment}
 use Rattle.promql_ast.specs.declared.tree.Selector.{Selector}
 use Rattle.step_table.specs.Groups.{Names}
+use Rattle.ticks.specs.Edges.{is_from}
 use Rattle.ticks.specs.declared.grid.Grid.{Grid}
 use Rattle.ticks.specs.declared.moment.Ms.{Ms}
 use Rattle.xfrac.specs.declared.value.Held.{Held}
@@ -56,9 +57,9 @@ moment_of asked moment t = base_of asked.start asked.end t moment.fixed -ℤ mom
 abbrev pub lookback : ℤ
 lookback = pos 300000
 
--- the samples later than a left edge and not later than a moment
-abbrev pub between : ℤ → ℤ → Samples → Samples
-between edge m samples = filter (λ (s : Ms × Held). int_lt edge s.0.0 && int_le s.0.0 m) samples
+-- the samples later than a left edge, or on it where it is closed, and not later than a moment
+abbrev pub between : Bool → ℤ → ℤ → Samples → Samples
+between closed edge m samples = filter (λ (s : Ms × Held). is_from closed edge s.0.0 && int_le s.0.0 m) samples
 
 -- the value of a sample that is no marker of staleness
 abbrev pub fresh : Held → Option XFrac
@@ -69,12 +70,12 @@ abbrev pub fresh_sample : Ms × Held → Option (Ms × XFrac)
 fresh_sample sample = option_map (λ (value : XFrac). (sample.0, value)) (fresh sample.1)
 
 -- the last sample in the five minutes up to a moment; there is none where that last one is a marker of staleness
-abbrev pub newest : ℤ → Samples → Option (Ms × XFrac)
-newest m samples = option_and_then fresh_sample (last_or None (between (m -ℤ lookback) m samples))
+abbrev pub newest : Bool → ℤ → Samples → Option (Ms × XFrac)
+newest closed m samples = option_and_then fresh_sample (last_or None (between closed (m -ℤ lookback) m samples))
 
 -- the samples in the range up to a moment that are no markers of staleness
-abbrev pub window : ℤ → ℤ → Samples → List (Ms × XFrac)
-window m range samples = filter_map fresh_sample (between (m -ℤ range) m samples)
+abbrev pub window : Bool → ℤ → ℤ → Samples → List (Ms × XFrac)
+window closed m range samples = filter_map fresh_sample (between closed (m -ℤ range) m samples)
 
 -- ---- all series that pass
 
@@ -88,29 +89,31 @@ abbrev pub passing : AllSeries → List (Bool × List ℕ) → List Rule → All
 passing samples kept rules = filter (λ (s : Names × Samples). labels_pass kept rules s.0) (by_labels samples)
 
 -- a series' newest sample at a moment, under the labels of the series
-abbrev pub newest_row : ℤ → Names × Samples → Option Stamped
-newest_row m series = option_map (λ (s : Ms × XFrac). record { labels = series.0; at = s.0; value = s.1 }) (newest m series.1)
+abbrev pub newest_row : Bool → ℤ → Names × Samples → Option Stamped
+newest_row closed m series = option_map (λ (s : Ms × XFrac). record { labels = series.0; at = s.0; value = s.1 }) (newest closed m series.1)
 
 -- the newest samples of some series at a moment
-abbrev pub newest_rows : ℤ → AllSeries → List Stamped
-newest_rows m series = filter_map (newest_row m) series
+abbrev pub newest_rows : Bool → ℤ → AllSeries → List Stamped
+newest_rows closed m series = filter_map (newest_row closed m) series
 
 -- an instant selector: the newest sample of each series that passes and has one
 abbrev pub selected : Asked → Selector → ℤ → List Stamped
-selected asked selector t = newest_rows (moment_of asked selector.moment t) (passing asked.samples asked.kept selector.rules)
+selected asked selector t =
+    newest_rows selector.moment.closed (moment_of asked selector.moment t) (passing asked.samples asked.kept selector.rules)
 
 -- samples under their labels; there is no window of no samples
 abbrev pub window_row : Names → List (Ms × XFrac) → Option WindowRow
 window_row names [] = None
 window_row names (sample ∷ samples) = Some (record { labels = names; samples = sample ∷ samples })
 
-abbrev pub series_window : ℤ → ℤ → Names × Samples → Option WindowRow
-series_window m range series = window_row series.0 (window m range series.1)
+abbrev pub series_window : Bool → ℤ → ℤ → Names × Samples → Option WindowRow
+series_window closed m range series = window_row series.0 (window closed m range series.1)
 
 -- the windows of some series at a moment
-abbrev pub window_rows : ℤ → ℤ → AllSeries → List WindowRow
-window_rows m range series = filter_map (series_window m range) series
+abbrev pub window_rows : Bool → ℤ → ℤ → AllSeries → List WindowRow
+window_rows closed m range series = filter_map (series_window closed m range) series
 
 -- a range selector: the window of each series that passes and has a sample in it
 abbrev pub selected_windows : Asked → Selector → ℤ → ℤ → List WindowRow
-selected_windows asked selector range t = window_rows (moment_of asked selector.moment t) range (passing asked.samples asked.kept selector.rules)
+selected_windows asked selector range t =
+    window_rows selector.moment.closed (moment_of asked selector.moment t) range (passing asked.samples asked.kept selector.rules)

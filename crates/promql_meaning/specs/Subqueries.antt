@@ -1,7 +1,9 @@
--- Subqueries: an expression at the multiples of a step in a range. (Prometheus querying, "Subquery"; ranges are open on the left.)
-use Rattle.std.specs.Prelude.{ℕ, zero, suc, List, [], ◌∷◌, ◌++◌, map, ℤ, ◌+ℤ◌, ◌-ℤ◌, int_lt, Option, if◌then◌else◌}
+-- Subqueries: an expression at the multiples of a step in a range. (Prometheus querying, "Subquery"; ranges are open on the left
+-- as from Prometheus 3 on, or closed as before.)
+use Rattle.std.specs.Prelude.{Bool, ℕ, zero, suc, List, [], ◌∷◌, ◌++◌, map, ℤ, ◌+ℤ◌, ◌-ℤ◌, int_lt, Option, if◌then◌else◌}
 use Rattle.std.specs.Int.{int_rem_euclid}
 use Rattle.std.specs.List.{filter_map}
+use Rattle.ticks.specs.Edges.{before}
 use Rattle.ticks.specs.Grids.{step_count}
 use Rattle.ticks.specs.declared.moment.Ms.{Ms}
 use Rattle.step_table.specs.Groups.{Names, gathered}
@@ -29,9 +31,13 @@ instants_up_to first last step = if int_lt last first then [] else instants firs
 abbrev pub multiple_after : ℤ → ℤ → ℤ
 multiple_after step edge = edge +ℤ (step -ℤ int_rem_euclid edge step)
 
--- the multiples of a step in the range up to a moment, whose left edge is left out
-abbrev pub multiples : ℤ → ℤ → ℤ → List ℤ
-multiples m range step = instants_up_to (multiple_after step (m -ℤ range)) m step
+-- the least multiple of a step behind a left edge; where it is closed the edge itself may be that one
+abbrev pub first_multiple : Bool → ℤ → ℤ → ℤ
+first_multiple closed step edge = multiple_after step (before closed edge)
+
+-- the multiples of a step in the range up to a moment, whose left edge is taken where it is closed
+abbrev pub multiples : Bool → ℤ → ℤ → ℤ → List ℤ
+multiples closed m range step = instants_up_to (first_multiple closed step (m -ℤ range)) m step
 
 abbrev pub as_times : List ℤ → List Ms
 as_times us = map (λ (u : ℤ). record { 0 = u }) us
@@ -59,5 +65,5 @@ points_of_steps range m steps =
     record { moment = record { 0 = m }; range = range; rules = []; rows = gathered_windows (rows_of_steps steps); marks = marks_of_steps no_marks steps }
 
 -- the windows of a subquery at a moment: at the multiples of its step in the range up to it, what the inner expression means
-abbrev pub points_of : (ℤ → Step) → Ms → Ms → ℤ → Windows
-points_of inner range step m = points_of_steps range m (steps_over inner (as_times (multiples m range.0 step.0)))
+abbrev pub points_of : Bool → (ℤ → Step) → Ms → Ms → ℤ → Windows
+points_of closed inner range step m = points_of_steps range m (steps_over inner (as_times (multiples closed m range.0 step.0)))

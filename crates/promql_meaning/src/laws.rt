@@ -3,6 +3,7 @@ ghost use Rattle.promql_meaning.specs.Filters.{MoreRulesFilterRows, MoreRulesFil
 ghost use Rattle.promql_meaning.specs.Laws.{FixedSelectorStays, MeaningIsWellFormed, MinusTwice, MultiplesAreAll, OffsetIsEarlier, RanksArePart, SumOfEachRow, SumsOfSums};
 ghost use Rattle.promql_meaning.specs.RankLaws.{LeftOutAreBehind, RanksAreFew};
 ghost use Rattle.promql_meaning.specs.ResultLaws.{FirstStopIsFirst, NoStopIsNone, NotesStand, OrderRearranges, OrderRises};
+ghost use Rattle.promql_meaning.specs.LeftEdges.{ClosedHasTheEdge};
 ghost use Rattle.promql_meaning.specs.Steadiness.{MeaningStays};
 ghost use Rattle.promql_meaning.specs.Reaches.{NeedsAreMet};
 
@@ -49,7 +50,7 @@ pub fn offset_is_earlier()
     ensures { OffsetIsEarlier }
 {}
 
-/// The points of a subquery are the multiples of its step in its range, whose left edge is left out.
+/// The points of a subquery are the multiples of its step in its range, whose left edge is taken where it is closed.
 pub fn multiples_are_all()
     ensures { MultiplesAreAll }
 {}
@@ -106,3 +107,8 @@ pub fn ranks_are_few()
 {
     order_is_total();
 }
+
+/// The samples of a window that is closed on the left are the one on its edge, if there is one, and then those of the open one.
+pub fn closed_windows_have_the_edge()
+    ensures { ClosedHasTheEdge }
+{}

@@ -2,7 +2,7 @@
 use Rattle.std.proofs.Common.{◌≡◌, ℕ, ◌+◌, max, refl, ◌∙◌, sym, subst, List, [], ◌∷◌, ◌++◌, map, arith}
 use Rattle.std.proofs.lemmas.Int.{ints}
 use Rattle.std.specs.List.{AllByRecursion}
-use Rattle.std.specs.Prelude.{Option, Some, None, ⊤}
+use Rattle.std.specs.Prelude.{Option, Some, None, ⊤, false}
 use Rattle.frac_text.specs.Times.{time_limit}
 use Rattle.func_table.specs.declared.table.Aggregate.{Aggregate}
 use Rattle.func_table.specs.declared.table.Func.{Func}
@@ -10,14 +10,15 @@ use Rattle.label_set.specs.declared.rules.Grouping.{Grouping}
 use Rattle.label_set.specs.declared.rules.Rule.{Rule}
 use Rattle.match_rule.specs.Patterns.{HaveTheirPatterns}
 use Rattle.promql_ast.specs.Depth.{depth, greatest, node_depth}
+use Rattle.promql_ast.specs.Edged.{AreEdged, IsEdged}
 use Rattle.promql_ast.specs.Folds.{fold-Aggregate, fold-Call, fold-Negate, fold-Number, fold-Pair, fold-Paren, fold-Range, fold-Select, fold-Set, fold-Subquery, fold-Words}
-use Rattle.promql_ast.specs.Parts.{AreWithin, IsAtMost, IsFixedWithin, IsWithin, Part, all_of, node_parts, parts_of}
+use Rattle.promql_ast.specs.Parts.{IsAtMost, IsFixedWithin, IsWithin, Part, all_of, node_parts, parts_of}
 use Rattle.promql_ast.specs.declared.tree.Expr.{Expr}
 use Rattle.promql_ast.specs.declared.tree.Fixed.{Fixed}
 use Rattle.promql_ast.specs.declared.tree.Moment.{Moment}
 use Rattle.promql_ast.specs.declared.tree.Node.TheVariants.{Number, Words, Paren, Negate, Select, Range, Subquery, Call, Aggregate as Aggregated}
 use Rattle.promql_parse.specs.Build.{moment_of, node_of, selector_of, tree}
-use Rattle.promql_parse.specs.Grammar.{ArgumentList, Body, Operand, Phrase, Primary, Term, another, a_range, a_selector, a_subquery, term_tree}
+use Rattle.promql_parse.specs.Grammar.{ArgumentList, Body, IsQuery, Operand, Phrase, Primary, Term, another, a_range, a_selector, a_subquery, term_tree}
 use Rattle.promql_parse.specs.Laws.{DepthsAreTold, QueriesAreWithin}
 use Rattle.holders.specs.Joins.{back_of, both_of, front_of}
 use Rattle.promql_parts.specs.Labels.{no_grouping}
@@ -40,14 +41,20 @@ pub record Spanned : Type 0 where
   pub offsets : OffsetsAreWithin
   pub times : TimesAreWithin
 
--- something holds of each lexeme, and then something of the rules of each selector
-module _ (spanned : Spanned) (Has : Lexeme → Type 0) (HoldsOf : List Rule → Type 0)
-    (rules_hold : (ls : List Lexeme) (at : ℕ) (rules : List Rule) → AllByRecursion Has ls → Selected ls at rules → HoldsOf rules) where
+abbrev IsOffsetWithin : Option Ms → Type 0
+IsOffsetWithin None = ⊤
+IsOffsetWithin (Some by) = IsAtMost hundred_years by
+
+-- something holds of each lexeme, and then something of the rules of each selector, of lengths and of moments
+module _ (spanned : Spanned) (Has : Lexeme → Type 0) (HoldsOf : Part → Type 0)
+    (rules_hold : (ls : List Lexeme) (at : ℕ) (rules : List Rule) → AllByRecursion Has ls → Selected ls at rules → HoldsOf (Part.of_rules rules))
+    (length_holds : (length : Ms) → IsLengthWithin length → HoldsOf (Part.of_length length))
+    (moment_holds : (offset : Option Ms) (fixed : Option Fixed) → IsOffsetWithin offset → IsFixedWithin time_limit fixed → HoldsOf (Part.of_moment (moment_of offset fixed))) where
   abbrev Within : List Part → Type 0
-  Within parts = AreWithin HoldsOf hundred_years time_limit parts
+  Within parts = AllByRecursion HoldsOf parts
 
   abbrev WithinPart : Part → Type 0
-  WithinPart part = IsWithin HoldsOf hundred_years time_limit part
+  WithinPart part = HoldsOf part
 
   abbrev All : List Lexeme → Type 0
   All ls = AllByRecursion Has ls
@@ -119,13 +126,9 @@ module _ (spanned : Spanned) (Has : Lexeme → Type 0) (HoldsOf : List Rule → 
       (deeper_side l r m n left right)
 
   -- ---- operands
-  abbrev IsOffsetWithin : Option Ms → Type 0
-  IsOffsetWithin None = ⊤
-  IsOffsetWithin (Some by) = IsAtMost hundred_years by
-
   abbrev TermLies : Term → ℕ → Type 0
-  TermLies (a_selector rules) d = HoldsOf rules × (1 ≡ d)
-  TermLies (a_range rules range) d = HoldsOf rules × IsLengthWithin range × (1 ≡ d)
+  TermLies (a_selector rules) d = HoldsOf (Part.of_rules rules) × (1 ≡ d)
+  TermLies (a_range rules range) d = HoldsOf (Part.of_rules rules) × IsLengthWithin range × (1 ≡ d)
   TermLies (a_subquery e range step) d = Within (parts_of e) × IsLengthWithin range × IsLengthWithin step × (1 + depth e ≡ d)
   TermLies (another e) d = Lies e d
 
@@ -134,27 +137,23 @@ module _ (spanned : Spanned) (Has : Lexeme → Type 0) (HoldsOf : List Rule → 
     pub of_offset : IsOffsetWithin offset
     pub of_fixed : IsFixedWithin time_limit fixed
 
-  moment_within : (offset : Option Ms) (fixed : Option Fixed) → IsOffsetWithin offset → IsFixedWithin time_limit fixed → WithinPart (Part.of_moment (moment_of offset fixed))
-  moment_within None fixed is within = (within, (omega (arith, ints), omega (arith, ints)))
-  moment_within (Some by) fixed is within = (within, is)
-
   operand_tree : (at : ℕ) (term : Term) (offset : Option Ms) (fixed : Option Fixed) (d : ℕ) → OperandLies term offset fixed d → Lies (term_tree at term (moment_of offset fixed)) d
   operand_tree at (a_selector rules) offset fixed d is =
       let moment : Moment = moment_of offset fixed in
       let e : Expr = tree at (Select (selector_of rules moment)) in
-      lies e d 1 _ (fold-Select node_parts (λ e. e.node) e (selector_of rules moment) refl) ((is.of_term.0, (moment_within offset fixed is.of_offset is.of_fixed, tt)))
+      lies e d 1 _ (fold-Select node_parts (λ e. e.node) e (selector_of rules moment) refl) ((is.of_term.0, (moment_holds offset fixed is.of_offset is.of_fixed, tt)))
       (fold-Select node_depth (λ e. e.node) e (selector_of rules moment) refl) is.of_term.1
   operand_tree at (a_range rules range) offset fixed d is =
       let moment : Moment = moment_of offset fixed in
       let e : Expr = tree at (Range (selector_of rules moment) range) in
       lies e d 1 _ (fold-Range node_parts (λ e. e.node) e (selector_of rules moment) range refl)
-      ((is.of_term.0, (moment_within offset fixed is.of_offset is.of_fixed, (is.of_term.1, tt))))
+      ((is.of_term.0, (moment_holds offset fixed is.of_offset is.of_fixed, (length_holds range is.of_term.1, tt))))
       (fold-Range node_depth (λ e. e.node) e (selector_of rules moment) range refl) is.of_term.2
   operand_tree at (a_subquery inner range step) offset fixed d is =
       let moment : Moment = moment_of offset fixed in
       let e : Expr = tree at (Subquery inner range step moment) in
       lies e d _ _ (fold-Subquery node_parts (λ e. e.node) e inner range step moment refl)
-      ((moment_within offset fixed is.of_offset is.of_fixed, (is.of_term.1, (is.of_term.2, is.of_term.0))))
+      ((moment_holds offset fixed is.of_offset is.of_fixed, (length_holds range is.of_term.1, (length_holds step is.of_term.2, is.of_term.0))))
       (fold-Subquery node_depth (λ e. e.node) e inner range step moment refl) is.of_term.3
   operand_tree at (another e) offset fixed d is = is.of_term
 
@@ -256,8 +255,23 @@ all_plain : (ls : List Lexeme) → AllByRecursion (λ (l : Lexeme). ⊤) ls
 all_plain [] = tt
 all_plain (l ∷ ls) = (tt, all_plain ls)
 
+moment_within : (HoldsOf : List Rule → Type 0) (offset : Option Ms) (fixed : Option Fixed) → IsOffsetWithin offset → IsFixedWithin time_limit fixed
+    → IsWithin HoldsOf hundred_years time_limit (Part.of_moment (moment_of offset fixed))
+moment_within HoldsOf None fixed is within = (within, (omega (arith, ints), omega (arith, ints)))
+moment_within HoldsOf (Some by) fixed is within = (within, is)
+
+moment_open : (offset : Option Ms) (fixed : Option Fixed) → IsEdged false (Part.of_moment (moment_of offset fixed))
+moment_open None fixed = refl
+moment_open (Some by) fixed = refl
+
 pub depths_are_told : Spanned → DepthsAreTold
-depths_are_told spanned ls e d is = (phrase_lies spanned (λ l. ⊤) (λ rules. ⊤) (λ ls at rules all is. tt) is (all_plain ls)).deep
+depths_are_told spanned ls e d is = (phrase_lies spanned (λ l. ⊤) (λ part. ⊤) (λ ls at rules all is. tt) (λ length is. tt) (λ offset fixed is so. tt) is (all_plain ls)).deep
 
 pub queries_are_within : Spanned → RulesHaveTheirs → QueriesAreWithin
-queries_are_within spanned rules kept ls e d all is = (phrase_lies spanned (λ l. HasPattern kept l.kind) (HaveTheirPatterns kept) (rules kept) is all).limited
+queries_are_within spanned rules kept ls e d all is =
+    let P : List Rule → Type 0 = HaveTheirPatterns kept in
+    (phrase_lies spanned (λ l. HasPattern kept l.kind) (IsWithin P hundred_years time_limit) (rules kept) (λ length is. is) (moment_within P) is all).limited
+
+pub queries_are_open : Spanned → (ls : List Lexeme) (e : Expr) (d : ℕ) → IsQuery ls e d → AreEdged false e
+queries_are_open spanned ls e d is =
+    (phrase_lies spanned (λ l. ⊤) (IsEdged false) (λ ls at rules all is. tt) (λ length is. tt) (λ offset fixed is so. moment_open offset fixed) is (all_plain ls)).limited

@@ -99,10 +99,10 @@ may_offset o = takes_modifiers o.part && is_none o.offset
 abbrev pub may_fix : Operand → Bool
 may_fix o = takes_modifiers o.part && is_none o.fixed
 
--- the moment by the modifiers that stand: without any it is the instant
+-- the moment by the modifiers that stand: without any it is the instant. No text closes its window on the left.
 abbrev pub moment_of : Option Ms → Option Fixed → Moment
-moment_of None fixed = record { fixed = fixed; offset = record { 0 = pos 0 } }
-moment_of (Some offset) fixed = record { fixed = fixed; offset = offset }
+moment_of None fixed = record { fixed = fixed; offset = record { 0 = pos 0 }; closed = false }
+moment_of (Some offset) fixed = record { fixed = fixed; offset = offset; closed = false }
 
 abbrev pub selector_of : List Rule → Moment → Selector
 selector_of rules moment = record { rules = rules; moment = moment }

@@ -1,10 +1,11 @@
 -- How the reader and the grammar are tied: what is read is in the grammar, what is in the grammar is read, unless its tree is
 -- too deep, there is one tree at most, and a refusal stands whatever follows the lexemes that are refused. And what is known of
 -- each tree of the grammar: its parts lie within limits, which are this project's own, and how deep it is.
-use Rattle.std.specs.Prelude.{◌≡◌, ◌≤◌, ◌<◌, ℕ, List, ◌++◌, Ok, Err}
+use Rattle.std.specs.Prelude.{◌≡◌, ◌≤◌, ◌<◌, ℕ, false, List, ◌++◌, Ok, Err}
 use Rattle.frac_text.specs.Times.{time_limit}
 use Rattle.match_rule.specs.Patterns.{HaveTheirPatterns}
 use Rattle.promql_ast.specs.Depth.{depth}
+use Rattle.promql_ast.specs.Edged.{edged}
 use Rattle.promql_ast.specs.Parts.{AreWithin, parts_of}
 use Rattle.promql_ast.specs.declared.refusal.QueryRefusal.{QueryRefusal}
 use Rattle.promql_ast.specs.declared.refusal.QueryRefusal.TheVariants.{Expected, TooDeep}
@@ -48,3 +49,7 @@ QueriesAreWithin =
 -- the number of nodes that the grammar tells is the depth of the tree
 abbrev pub DepthsAreTold : Type 0
 DepthsAreTold = (ls : List Lexeme) (e : Expr) (nodes : ℕ) → IsQuery ls e nodes → depth e ≡ nodes
+
+-- the tree of a query is open on the left everywhere: setting that edge leaves it as it is
+abbrev pub QueriesAreOpen : Type 0
+QueriesAreOpen = (ls : List Lexeme) (e : Expr) (nodes : ℕ) → IsQuery ls e nodes → edged false e ≡ e

@@ -281,7 +281,11 @@ fn moment_of(offset: Option<Ms>, fixed: Option<Fixed>) -> Moment
         None => Ms(0),
         Some(offset) => offset,
     };
-    Moment { fixed, offset }
+    Moment {
+        fixed,
+        offset,
+        closed: false,
+    }
 }
 
 /// The tree of an operand.

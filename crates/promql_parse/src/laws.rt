@@ -1,6 +1,7 @@
 //! Laws of the reader and the grammar.
-ghost use Rattle.promql_parse.specs.Laws.{DeepIsRefused, DepthsAreTold, InGrammarIsRead, NoQueryBeginsSo, OneTree, QueriesAreWithin, ReadIsInGrammar, RefusalStands};
+ghost use Rattle.promql_parse.specs.Laws.{DeepIsRefused, DepthsAreTold, InGrammarIsRead, NoQueryBeginsSo, OneTree, QueriesAreOpen, QueriesAreWithin, ReadIsInGrammar, RefusalStands};
 
+use promql_ast::edged_trees_stay;
 use promql_parts::{
     each_part_is_read, parts_lie_within_limits, refusals_of_parts_stand, what_is_read_is_a_part,
 };
@@ -40,4 +41,12 @@ pub fn queries_lie_within_limits()
     ensures depths { DepthsAreTold }
 {
     parts_lie_within_limits();
+}
+
+/// The moments of each query of the grammar are open on the left: setting that edge leaves its tree as it is.
+pub fn queries_are_open()
+    ensures { QueriesAreOpen }
+{
+    parts_lie_within_limits();
+    edged_trees_stay();
 }

@@ -8,6 +8,7 @@ mod query;
 mod reader;
 
 pub use laws::{
-    each_query_is_read, queries_lie_within_limits, refusals_stand, what_is_read_is_a_query,
+    each_query_is_read, queries_are_open, queries_lie_within_limits, refusals_stand,
+    what_is_read_is_a_query,
 };
 pub use query::parse;

@@ -1,5 +1,6 @@
 pub mod Builds
 pub mod Crowds
+pub mod Edges
 pub mod Firsts
 pub mod Fitting
 pub mod Judged

@@ -1,4 +1,5 @@
 pub mod Answers
+pub mod Edges
 pub mod Fits
 pub mod Judging
 pub mod Kinds

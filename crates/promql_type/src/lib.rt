@@ -16,5 +16,5 @@ mod template;
 mod typed_tree;
 
 pub use checking::check;
-pub use laws::{least_is_first, typed_trees_fit};
+pub use laws::{edges_are_typed_alike, least_is_first, typed_trees_fit};
 pub use typed_tree::{TypeFault, Typed};

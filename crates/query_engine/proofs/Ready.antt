@@ -1,16 +1,21 @@
 -- What comes of reading a text and of checking its tree.
-use Rattle.std.proofs.Common.{◌≡◌, ◌≤◌, ℕ, List, [], sym, subst}
+use Rattle.std.proofs.Common.{◌≡◌, ◌∙◌, ◌≤◌, ◌++◌, ℕ, Bool, List, [], Some, ap, refl, sym, subst}
 use Rattle.std.specs.Prelude.{Result, Ok, Err, IfErr, IfOk, OnOk}
 use Rattle.frac_text.specs.Times.{time_limit}
 use Rattle.match_rule.specs.Gains.{Gains}
 use Rattle.match_rule.specs.Patterns.{HaveTheirPatterns}
 use Rattle.promql_ast.specs.Depth.{depth}
+use Rattle.promql_ast.specs.Edged.{edged}
+use Rattle.promql_ast.specs.EdgedFolds.{edged_depth, edged_within}
 use Rattle.promql_ast.specs.Parts.{AreWithin, parts_of}
+use Rattle.promql_ast.specs.declared.refusal.QueryRefusal.{QueryRefusal}
 use Rattle.promql_ast.specs.declared.tree.Expr.{Expr}
 use Rattle.promql_parse.specs.Parsing.{Parses}
-use Rattle.promql_type.specs.Answers.{IsLeastRefusal, MayFault, refusals_of}
+use Rattle.promql_type.specs.Answers.{IsLeastRefusal, MayFault, listed, refusals_of}
+use Rattle.promql_type.specs.Edges.{EdgesAreJudgedAlike, EdgesAreRefusedAlike, EdgesStayTyped}
 use Rattle.promql_type.specs.Judging.{judged}
-use Rattle.promql_type.specs.Replacements.{AreKept, Kept, kept_with}
+use Rattle.promql_type.specs.Refusals.{least}
+use Rattle.promql_type.specs.Replacements.{AreBuilt, AreKept, Kept, kept_with}
 use Rattle.promql_type.specs.Settled.{settled}
 use Rattle.promql_type.specs.TypedTrees.{placed_of, tree_of}
 use Rattle.promql_type.specs.declared.typed_tree.TypeFault.{TypeFault}
@@ -21,20 +26,43 @@ use Rattle.query_engine.specs.Readiness.{IsReadyTree}
 use Rattle.query_engine.proofs.Stays.{parts_stay}
 use Rattle.ticks.specs.Durations.{hundred_years}
 
-module _ (text : List ℕ) (read kept : Kept) (tree : Expr) (parses : Parses text [] read (Ok tree)) where
+-- what the tree with an edge is checked for, of the tree without
+module _ (closed : Bool) (tree : Expr) (judged_alike : EdgesAreJudgedAlike) (refused_alike : EdgesAreRefusedAlike) where
+  same_patterns : (judged (edged closed tree)).replacements ≡ (judged tree).replacements
+  same_patterns = ap (λ j. j.replacements) (judged_alike closed tree)
+
+  pub same_least : (read kept : Kept) (refusal : QueryRefusal) → IsLeastRefusal (edged closed tree) read kept refusal → IsLeastRefusal tree read kept refusal
+  same_least read kept refusal l = record {
+    pattern = l.pattern;
+    built = subst (λ rs. AreBuilt read rs kept l.pattern) same_patterns l.built;
+    least_is = subst (λ rs. least (rs ++ listed l.pattern) ≡ Some refusal) (refused_alike closed tree) l.least_is;
+  }
+
+module _ (text : List ℕ) (closed : Bool) (read kept : Kept) (tree : Expr) (parses : Parses text [] read (Ok tree)) (judged_alike : EdgesAreJudgedAlike) (refused_alike : EdgesAreRefusedAlike)
+    (typed_alike : EdgesStayTyped) where
   pub ready : (result : Result Typed TypeFault) → AreWithin (HaveTheirPatterns read) hundred_years time_limit (parts_of tree) → depth tree ≤ 128 → Gains read kept
-      → IfOk result (λ t. tree_of t ≡ settled tree) → OnOk result (refusals_of tree ≡ []) → OnOk result (kept ≡ kept_with read (judged tree).replacements)
-      → IfOk result (λ t. AreKept kept (judged (tree_of t)).replacements (placed_of t)) → IfOk result (λ t. parts_of (tree_of t) ≡ parts_of tree)
-      → IfOk result (λ t. depth (tree_of t) ≡ depth tree) → IfOk result (IsReadyTree text kept)
+      → IfOk result (λ t. tree_of t ≡ settled (edged closed tree)) → OnOk result (refusals_of (edged closed tree) ≡ []) → OnOk result (kept ≡ kept_with read (judged (edged closed tree)).replacements)
+      → IfOk result (λ t. AreKept kept (judged (tree_of t)).replacements (placed_of t)) → IfOk result (λ t. parts_of (tree_of t) ≡ parts_of (edged closed tree))
+      → IfOk result (λ t. depth (tree_of t) ≡ depth (edged closed tree)) → IfOk result (IsReadyTree text closed kept)
   ready (Ok t) within few gains typed taken built placed parts deep = record {
-    stands = record { read = read; tree = tree; parses = parses; taken = taken; built = built; typed = typed };
-    within = subst (λ ps. AreWithin (HaveTheirPatterns kept) hundred_years time_limit ps) (sym parts) (parts_stay read kept gains hundred_years time_limit (parts_of tree) within);
-    shallow = subst (λ n. n ≤ 128) (sym deep) few;
+    open_tree = settled tree;
+    stands = record {
+      read = read;
+      tree = tree;
+      parses = parses;
+      taken = sym (refused_alike closed tree) ∙ taken;
+      built = built ∙ ap (kept_with read) (same_patterns closed tree judged_alike refused_alike);
+      typed = refl;
+    };
+    edge = typed ∙ typed_alike closed tree;
+    within = subst (λ ps. AreWithin (HaveTheirPatterns kept) hundred_years time_limit ps) (sym parts)
+        (parts_stay read kept gains hundred_years time_limit (parts_of (edged closed tree)) (edged_within (HaveTheirPatterns read) hundred_years time_limit closed tree within));
+    shallow = subst (λ n. n ≤ 128) (sym (deep ∙ edged_depth closed tree)) few;
     placed = placed;
   }
   ready (Err fault) within few gains typed taken built placed parts deep = tt
 
-  pub refused : (result : Result Typed TypeFault) → IfErr result (MayFault (IsLeastRefusal tree read kept)) → IfErr result (MayFault (IsRefusedWith text))
+  pub refused : (result : Result Typed TypeFault) → IfErr result (MayFault (IsLeastRefusal (edged closed tree) read kept)) → IfErr result (MayFault (IsRefusedWith text))
   refused (Ok t) least = tt
-  refused (Err (Refused refusal)) least = untyped read kept tree refusal parses least
+  refused (Err (Refused refusal)) least = untyped read kept tree refusal parses (same_least closed tree judged_alike refused_alike read kept refusal least)
   refused (Err Memory) least = tt

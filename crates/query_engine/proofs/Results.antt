@@ -1,7 +1,8 @@
 -- The result of a typed tree is what its text comes to, and is no refusal.
-use Rattle.std.proofs.Common.{◌≡◌, ℕ, ◌+◌, Bool, true, false, List, [], ◌∷◌, length, Option, None, Some, subst}
+use Rattle.std.proofs.Common.{◌≡◌, ℕ, ◌+◌, Bool, true, false, List, [], ◌∷◌, length, Option, None, Some, subst, ap, ◌∙◌}
 use Rattle.std.specs.Prelude.{nat_lt, Result, Ok, Err, IfOk, if◌then◌else◌, ⊤}
 use Rattle.std.specs.Option.{option_or, unwrap_or}
+use Rattle.promql_ast.specs.Edged.{edged}
 use Rattle.promql_ast.specs.declared.tree.Expr.{Expr}
 use Rattle.promql_meaning.specs.Meaning.{meaning_step}
 use Rattle.promql_meaning.specs.Results.{first_stop, grid_times, judged, most_rows, result_of, stop_at}
@@ -18,10 +19,11 @@ use Rattle.step_table.specs.declared.step.Row.{Row}
 use Rattle.ticks.specs.declared.grid.Grid.{Grid}
 use Rattle.ticks.specs.declared.moment.Ms.{Ms}
 
-pub comes_to : {E : Type 0} (text : List ℕ) (samples : AllSeries) (kept : Kept) (grid : Grid) (e : Expr) (instant : Bool) → StandsFor text kept e → (result : Result Outcome E)
-    → IfOk result (λ o. o ≡ result_of (asked_over samples kept grid) e grid instant) → IfOk result (ComesTo text samples grid instant)
-comes_to text samples kept grid e instant stands (Ok o) is = answered kept e o stands is
-comes_to text samples kept grid e instant stands (Err fault) is = tt
+pub comes_to : {E : Type 0} (text : List ℕ) (samples : AllSeries) (kept : Kept) (grid : Grid) (e tree : Expr) (instant closed : Bool) → StandsFor text kept e → tree ≡ edged closed e
+    → (result : Result Outcome E) → IfOk result (λ o. o ≡ result_of (asked_over samples kept grid) tree grid instant) → IfOk result (ComesTo text samples grid instant closed)
+comes_to text samples kept grid e tree instant closed stands edge (Ok o) is =
+    answered kept e o stands (is ∙ ap (λ x. result_of (asked_over samples kept grid) x grid instant) edge)
+comes_to text samples kept grid e tree instant closed stands edge (Err fault) is = tt
 
 -- ---- no result is a refusal
 

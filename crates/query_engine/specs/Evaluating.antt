@@ -1,6 +1,7 @@
 -- What the text of a query comes to: the query is read, then typed, then answered over the samples. (Prometheus' instant and
 -- range queries; the refusals and their order are this project's own.)
 use Rattle.std.specs.Prelude.{◌≡◌, ℕ, Bool, List, [], None, Ok, Err, ⊤}
+use Rattle.promql_ast.specs.Edged.{edged}
 use Rattle.promql_ast.specs.declared.refusal.QueryRefusal.{QueryRefusal}
 use Rattle.promql_ast.specs.declared.tree.Expr.{Expr}
 use Rattle.promql_meaning.specs.Results.{result_of}
@@ -29,11 +30,12 @@ pub record StandsFor (text : List ℕ) (kept : Kept) (e : Expr) : Type 0 where
   pub built : AreBuilt read (judged tree).replacements kept None
   pub typed : e ≡ settled tree
 
--- what a text comes to over samples and a grid: its refusal, or the result of its typed tree
-pub data ComesTo (text : List ℕ) (samples : AllSeries) (grid : Grid) (instant : Bool) : Outcome → Type 0 where
-  refused : (refusal : QueryRefusal) → IsRefusedWith text refusal → ComesTo text samples grid instant (outcome.Refused refusal)
-  answered : (kept : Kept) (e : Expr) (answer : Outcome) → StandsFor text kept e → answer ≡ result_of (asked_over samples kept grid) e grid instant
-      → ComesTo text samples grid instant answer
+-- What a text comes to over samples and a grid: its refusal, or the result of its typed tree, each of whose windows is closed on
+-- the left, or each open, as is asked for.
+pub data ComesTo (text : List ℕ) (samples : AllSeries) (grid : Grid) (instant closed : Bool) : Outcome → Type 0 where
+  refused : (refusal : QueryRefusal) → IsRefusedWith text refusal → ComesTo text samples grid instant closed (outcome.Refused refusal)
+  answered : (kept : Kept) (e : Expr) (answer : Outcome) → StandsFor text kept e → answer ≡ result_of (asked_over samples kept grid) (edged closed e) grid instant
+      → ComesTo text samples grid instant closed answer
 
 abbrev pub IsRefused : Outcome → Type 0
 IsRefused (outcome.Refused refusal) = ⊤

@@ -11,43 +11,59 @@ use promql_lex::LexFault;
 use promql_meaning::Outcome;
 use promql_meaning::laws::needs_are_met;
 use promql_parse::parse;
-use promql_type::{TypeFault, Typed, check};
+use promql_type::{TypeFault, Typed, check, edges_are_typed_alike};
 use sample_store::Store;
 use std::alloc::{AllocError, Global};
 use std::sync::ledger::Ledger;
 use ticks::{Grid, Work};
 
-/// The typed tree of a text, with its patterns, of which there are none before; or its one refusal.
-fn typed_tree(alloc: Global, text: &str, patterns: &mut Patterns) -> Result<Typed, TypeFault>
+/// What is chosen for an evaluation.
+#[derive(Clone, Copy, Debug, PartialEq, Eq)]
+pub struct Options {
+    /// Each window has its left edge too, those of selectors and those of subqueries, as in Prometheus 2.
+    pub closed: bool,
+}
+
+/// The typed tree of a text, with the edge that is asked for and its patterns, of which there are none before; or its one
+/// refusal.
+fn typed_tree(
+    alloc: Global,
+    text: &str,
+    closed: bool,
+    patterns: &mut Patterns,
+) -> Result<Typed, TypeFault>
     requires { patterns.old ≡ [] }
-    ensures tree { IfOk result (IsReadyTree text.now patterns.new) }
+    ensures tree { IfOk result (IsReadyTree text.now closed patterns.new) }
     ensures refused { IfErr result (MayFault (IsRefusedWith text.now)) }
 {
+    edges_are_typed_alike();
     match parse(alloc, text, patterns) {
-        Ok(tree) => check(alloc, tree, patterns),
+        Ok(tree) => check(alloc, tree.edged(closed)?, patterns),
         Err(LexFault::Refused(refusal)) => Err(TypeFault::Refused(refusal)),
         Err(LexFault::Memory) => Err(TypeFault::Memory),
     }
 }
 
 /// What the text of a query comes to over the samples of a store: its one refusal, with its place in the text, or its result
-/// at the instants of a grid. `instant` tells that it is an instant query, whose root may ask for an order by value. Samples
-/// are read by counted calls alone, and of a refused text none. The only error is want of memory. (Prometheus querying.)
+/// at the instants of a grid, with the windows that are chosen. `instant` tells that it is an instant query, whose root may ask
+/// for an order by value. Samples are read by counted calls alone, and of a refused text none. The only error is want of memory.
+/// (Prometheus querying.)
 pub fn evaluate<W: Ledger>(
     alloc: Global,
     text: &str,
     grid: &Grid,
     instant: bool,
+    options: &Options,
     store: &Store,
     work: &mut Work<W>,
 ) -> Result<Outcome, AllocError>
-    ensures outcome { IfOk result (ComesTo text.now store.now grid.now instant) }
+    ensures outcome { IfOk result (ComesTo text.now store.now grid.now instant options.now.closed) }
     ensures idle { IfOk result (λ outcome. IsRefused outcome → work.new ≡ work.old) }
 {
     needs_are_met();
     checked_patterns_are_kept();
     let mut patterns = Patterns::new(alloc);
-    match typed_tree(alloc, text, &mut patterns) {
+    match typed_tree(alloc, text, options.closed, &mut patterns) {
         Ok(typed) => range(alloc, &typed, store, &mut patterns, grid, instant, work),
         Err(TypeFault::Refused(refusal)) => Ok(Outcome::Refused(refusal)),
         Err(TypeFault::Memory) => Err(AllocError),

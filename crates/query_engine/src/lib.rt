@@ -3,5 +3,5 @@
 
 mod evaluating;
 
-pub use evaluating::evaluate;
+pub use evaluating::{Options, evaluate};
 pub use std::alloc::AllocError as Memory;

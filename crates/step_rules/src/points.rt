@@ -1,6 +1,6 @@
 //! Instants a step apart, and the points of subqueries.
 ghost use Rattle.promql_meaning.specs.Selecting.{window_row};
-ghost use Rattle.promql_meaning.specs.Subqueries.{as_times, gathered_windows, instants, instants_up_to, multiple_after, multiples};
+ghost use Rattle.promql_meaning.specs.Subqueries.{as_times, first_multiple, gathered_windows, instants, instants_up_to, multiples};
 ghost use Rattle.step_table.specs.Timed.{timed};
 ghost use Rattle.std.specs.List.{AllByRecursion};
 ghost use Rattle.std.specs.Option.{option_to_list};
@@ -13,7 +13,7 @@ use label_set::{Items, Labels};
 use promql_meaning::{WindowRow, Windows};
 use std::alloc::{AllocError, Global};
 use step_table::{Marks, Step, gather};
-use ticks::Ms;
+use ticks::{Ms, last_before};
 use xfrac::XFrac;
 
 /// The time a step later.
@@ -41,14 +41,15 @@ fn instants(alloc: Global, first: Ms, step: Ms, more: u64) -> Result<Items<Ms>, 
     Ok(us)
 }
 
-/// The least multiple of a step that is later than a time.
-fn multiple_after(step: Ms, edge: Ms) -> Ms
+/// The least multiple of a step that is later than a left edge, or on it where it is closed.
+fn first_multiple(step: Ms, edge: Ms, closed: bool) -> Ms
     requires edge { IsTime edge.0 }
     requires step { IsTime step.0 }
     requires positive { pos 0 <ℤ step.0 }
-    ensures { result.0 ≡ multiple_after step.0 edge.0 }
+    ensures { result.0 ≡ first_multiple closed step.0 edge.0 }
 {
-    Ms(edge.0 + (step.0 - edge.0.rem_euclid(step.0)))
+    let before = last_before(edge, closed);
+    Ms(before.0 + (step.0 - before.0.rem_euclid(step.0)))
 }
 
 /// How many steps fit between two times.
@@ -71,15 +72,22 @@ pub fn instants_up_to(alloc: Global, first: Ms, last: Ms, step: Ms) -> Result<It
     instants(alloc, first, step, steps_between(first, last, step))
 }
 
-/// The multiples of a step in the range up to a moment. The only error is want of memory.
-pub fn multiples(alloc: Global, m: Ms, range: Ms, step: Ms) -> Result<Items<Ms>, AllocError>
+/// The multiples of a step in the range up to a moment, whose left edge is taken where it is closed. The only error is want of
+/// memory.
+pub fn multiples(
+    alloc: Global,
+    m: Ms,
+    closed: bool,
+    range: Ms,
+    step: Ms,
+) -> Result<Items<Ms>, AllocError>
     requires edge { IsTime (m.0 -ℤ range.0) }
     requires step { IsTime step.0 }
     requires positive { pos 0 <ℤ step.0 }
-    requires times { AllByRecursion IsTime (multiples m.0 range.0 step.0) }
-    ensures { IfOk result (λ us. us ≡ as_times (multiples m.0 range.0 step.0)) }
+    requires times { AllByRecursion IsTime (multiples closed m.0 range.0 step.0) }
+    ensures { IfOk result (λ us. us ≡ as_times (multiples closed m.0 range.0 step.0)) }
 {
-    let first = multiple_after(step, earlier(m, range));
+    let first = first_multiple(step, earlier(m, range), closed);
     instants_up_to(alloc, first, m, step)
 }
 

@@ -7,23 +7,13 @@ use Rattle.ticks.specs.declared.moment.Ms.{Ms}
 use Rattle.ticks.specs.declared.walk.Walk.{Walk, Grid, Fixed, Multiples', end_of-Walk, more_of-Walk}
 use Rattle.ticks.specs.declared.walk.Walk.TheVariants.{Multiples}
 use Rattle.ticks.specs.declared.walk.WalkMoment.{WalkMoment}
-use Rattle.ticks.specs.Edges.{IsFrom, before}
+use Rattle.ticks.specs.Edges.{IsFrom, before, from-edge}
 use Rattle.ticks.specs.Walks.{HasTimes, IsBarren, IsFirstInWindow, IsInWindow, IsInstant, IsTime, LeadsToTimes, moment_at, multiples-instants, multiples-times}
-
--- what is in a window isn't before its edge
-pub from-edge : (closed : Bool) (edge t : ℤ) → IsFrom closed edge t → edge ≤ℤ t
-from-edge false edge t h = omega (arith, ints, h)
-from-edge true edge t h = h
 
 -- a window that begins earlier has it too
 from-earlier : (closed : Bool) (edge later t : ℤ) → edge ≤ℤ later → IsFrom closed later t → IsFrom closed edge t
 from-earlier false edge later t h is = omega (arith, ints, h, is)
 from-earlier true edge later t h is = omega (arith, ints, h, is)
-
--- the last time before a window is its edge or a millisecond before
-pub before-near : (closed : Bool) (edge : ℤ) → ((edge -ℤ pos 1) ≤ℤ before closed edge) × (before closed edge ≤ℤ edge)
-before-near false edge = (omega (arith, ints), omega (arith, ints))
-before-near true edge = (omega (arith, ints), omega (arith, ints))
 
 pub at-edge : (closed : Bool) (last edge same : ℤ) → last ≡ before closed edge → edge ≡ same → last ≡ before closed same
 at-edge closed last edge same is e = is ∙ ap (before closed) e

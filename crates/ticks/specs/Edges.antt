@@ -1,6 +1,6 @@
 -- The left edge of a window: the times of a window are those behind its left edge, up to its moment; where it is closed on the
 -- left, the edge itself too. (Prometheus querying: ranges are open on the left from Prometheus 3 on, and were closed before.)
-use Rattle.std.specs.Prelude.{◌≡◌, Bool, true, false, ℤ, pos, ◌-ℤ◌, ◌<ℤ◌, ◌≤ℤ◌, int_lt, int_le, ◌↔◌, ◌⊎◌}
+use Rattle.std.specs.Prelude.{◌≡◌, Bool, true, false, ℤ, pos, ◌-ℤ◌, ◌<ℤ◌, ◌≤ℤ◌, int_lt, int_le, ◌↔◌, ◌⊎◌, refl}
 use Rattle.std.proofs.Common.{arith}
 use Rattle.std.proofs.lemmas.Int.{ints}
 
@@ -36,3 +36,19 @@ from-later true edge t h = omega (arith, ints, h)
 pub later-from : (closed : Bool) (edge t : ℤ) → before closed edge <ℤ t → IsFrom closed edge t
 later-from false edge t h = h
 later-from true edge t h = omega (arith, ints, h)
+
+-- what is in a window isn't before its edge
+pub from-edge : (closed : Bool) (edge t : ℤ) → IsFrom closed edge t → edge ≤ℤ t
+from-edge false edge t h = omega (arith, ints, h)
+from-edge true edge t h = h
+
+-- the last time before a window is its edge or a millisecond before
+pub before-near : (closed : Bool) (edge : ℤ) → ((edge -ℤ pos 1) ≤ℤ before closed edge) × (before closed edge ≤ℤ edge)
+before-near false edge = (omega (arith, ints), omega (arith, ints))
+before-near true edge = (omega (arith, ints), omega (arith, ints))
+
+-- the test says what it is a test of
+pub is_from-later : (closed : Bool) (edge t : ℤ) → is_from closed edge t ≡ int_lt (before closed edge) t
+is_from-later false edge t = refl
+is_from-later true edge t =
+    elim (int_lt (edge -ℤ pos 1) t) as (λ b. int_lt (edge -ℤ pos 1) t ≡ b → int_le edge t ≡ b) [ true ↦ λ h. grind (arith, ints, h) | false ↦ λ h. grind (arith, ints, h) ] refl

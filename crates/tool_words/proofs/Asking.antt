@@ -5,7 +5,7 @@ use Rattle.std.specs.Str.{bytes_eq}
 use Rattle.std.proofs.lemmas.Slice.Eq.{bytes_eq-Decides}
 use Rattle.std.proofs.lemmas.Result.{IfOk-weaker}
 use Rattle.clap.specs.declared.parser.matches.ArgMatches.{ArgMatches}
-use Rattle.tool_words.specs.Asked.{Wish, asked, if_grid, moments_of, query, query_at, query_of, query_worded, number_of, test, test_worded, time_of, moment_at, range_of, workload, workload_of, workload_worded}
+use Rattle.tool_words.specs.Asked.{AsksForEdges, EdgesAreAskedFor, Wish, asked, closed_edges, edges_in, edges_named, edges_of, if_grid, moments_of, query, query_at, query_of, query_worded, number_of, open_edges, test, time_of, moment_at, range_of, unsaid, workload, workload_at, workload_of, workload_worded}
 use Rattle.ticks.specs.Moments.{Moments, is_grid}
 use Rattle.tool_words.specs.Said.{Item, Text, places_of, said, value_of}
 use Rattle.tool_words.specs.Tells.{Holds, Tells}
@@ -33,9 +33,9 @@ abbrev Counted : ℕ → Type 0
 Counted count = (0 < count) × (count ≤ 20000)
 
 abbrev Sound : Wish → Type 0
-Sound (test files) = 0 < length files
-Sound (query moments file expr) = Alone moments
-Sound (workload count) = Counted count
+Sound (test closed files) = 0 < length files
+Sound (query closed moments file expr) = Alone moments
+Sound (workload closed count) = Counted count
 
 grid_alone : (m : Moments) → Alone m → IfSome (if_grid m) Alone
 grid_alone m alone = go (is_grid m)
@@ -62,41 +62,42 @@ moments_alone (Some at) None None None = moment_alone (time_of at)
 moments_alone None (Some from) (Some to) (Some step) = range_alone (time_of from) (time_of to) (time_of step)
 moments_alone _ _ _ _ = tt
 
-query_alone : (m : Moments) → Alone m → (words : List Text) → IfSome (query_worded m words) Sound
-query_alone m alone (file ∷ expr ∷ []) = alone
-query_alone m alone _ = tt
+query_alone : (closed : Bool) (m : Moments) → Alone m → (words : List Text) → IfSome (query_worded closed m words) Sound
+query_alone closed m alone (file ∷ expr ∷ []) = alone
+query_alone closed m alone _ = tt
 
-query_sound : (m : Option Moments) → IfSome m Alone → (words : List Text) → IfSome (query_at m words) Sound
-query_sound None alone words = tt
-query_sound (Some m) alone words = query_alone m alone words
+query_sound : (closed : Option Bool) (m : Option Moments) → IfSome m Alone → (words : List Text) → IfSome (query_at closed m words) Sound
+query_sound None m alone words = tt
+query_sound (Some closed) None alone words = tt
+query_sound (Some closed) (Some m) alone words = query_alone closed m alone words
 
-test_sound : (words : List Text) → IfSome (test_worded words) Sound
-test_sound [] = tt
-test_sound (file ∷ files) = omega arith
+counted : (closed : Bool) (n : Option ℕ) → IfSome n Counted → IfSome (option_map (workload closed) n) Sound
+counted closed None h = tt
+counted closed (Some n) h = h
 
-counted : (n : Option ℕ) → IfSome n Counted → IfSome (option_map workload n) Sound
-counted None h = tt
-counted (Some n) h = h
+workload_sound : (closed : Bool) (words : List Text) → IfSome (workload_worded closed words) Sound
+workload_sound closed (count ∷ []) = counted closed (number_of 20000 count) (number_counted 20000 count)
+workload_sound closed _ = tt
 
-workload_sound : (words : List Text) → IfSome (workload_worded words) Sound
-workload_sound (count ∷ []) = counted (number_of 20000 count) (number_counted 20000 count)
-workload_sound _ = tt
+workload_chosen : (closed : Option Bool) (words : List Text) → IfSome (workload_at closed words) Sound
+workload_chosen None words = tt
+workload_chosen (Some closed) words = workload_sound closed words
 
 workloads_sound : (said : Option (List Item)) → IfSome (option_and_then workload_of said) Sound
 workloads_sound None = tt
-workloads_sound (Some items) = workload_sound (places_of items)
+workloads_sound (Some items) = workload_chosen (edges_in items) (places_of items)
 
 -- what the items of a query ask for
 queries_sound : (said : Option (List Item)) → IfSome (option_and_then query_of said) Sound
 queries_sound None = tt
-queries_sound (Some items) = query_sound _
+queries_sound (Some items) = query_sound (edges_in items) _
     (moments_alone (value_of (codes "at") items) (value_of (codes "from") items) (value_of (codes "to") items) (value_of (codes "step") items)) (places_of items)
 
 is_one_instant : (o : Option Asked) (said : Option (List Item)) → option_map wish_of o ≡ option_and_then query_of said → IfSome o IsOneInstant
 is_one_instant None said is = tt
-is_one_instant (Some (wanted.Test files)) said is = tt
-is_one_instant (Some (wanted.Query grid instant file expr)) said is = subst (λ (w : Option Wish). IfSome w Sound) (sym is) (queries_sound said)
-is_one_instant (Some (wanted.Workload count)) said is = tt
+is_one_instant (Some (wanted.Test closed files)) said is = tt
+is_one_instant (Some (wanted.Query closed grid instant file expr)) said is = subst (λ (w : Option Wish). IfSome w Sound) (sym is) (queries_sound said)
+is_one_instant (Some (wanted.Workload closed count)) said is = tt
 
 pub one_instant : {E : Type 0} (r : Result (Option Asked) E) (said : Option (List Item)) → IfOk r (λ asked. option_map wish_of asked ≡ option_and_then query_of said)
     → IfOk r (λ asked. IfSome asked IsOneInstant)
@@ -104,9 +105,9 @@ one_instant r said read = IfOk-weaker r _ _ (λ asked is. is_one_instant asked s
 
 has_series : (o : Option Asked) (said : Option (List Item)) → option_map wish_of o ≡ option_and_then workload_of said → IfSome o HasSeries
 has_series None said is = tt
-has_series (Some (wanted.Test files)) said is = tt
-has_series (Some (wanted.Query grid instant file expr)) said is = tt
-has_series (Some (wanted.Workload count)) said is = subst (λ (w : Option Wish). IfSome w Sound) (sym is) (workloads_sound said)
+has_series (Some (wanted.Test closed files)) said is = tt
+has_series (Some (wanted.Query closed grid instant file expr)) said is = tt
+has_series (Some (wanted.Workload closed count)) said is = subst (λ (w : Option Wish). IfSome w Sound) (sym is) (workloads_sound said)
 
 pub some_series : {E : Type 0} (r : Result (Option Asked) E) (said : Option (List Item)) → IfOk r (λ asked. option_map wish_of asked ≡ option_and_then workload_of said)
     → IfOk r (λ asked. IfSome asked HasSeries)
@@ -132,3 +133,30 @@ no_command [] first command is value no_test no_query no_workload = absurd (cc)
 no_command (word ∷ words) first command is value no_test no_query no_workload =
     let same : string_bytes word ≡ command = ap string_bytes (let e : word ≡ first = cc in e) ∙ sym value in
     unnamed (string_bytes word) (map string_bytes words) (λ e. no_test (sym same ∙ e)) (λ e. no_query (sym same ∙ e)) (λ e. no_workload (sym same ∙ e))
+
+-- ---- the edges that are asked for
+
+module _ (items : List Item) where
+  named : (text : Text) (closed : Bool) → value_of (codes "edges") items ≡ Some text → edges_named text ≡ Some closed → AsksForEdges items closed
+  named text closed there is = go (bytes_eq text (codes "v3")) (bytes_eq text (codes "v2")) refl refl is
+    where
+      go : (a b : Bool) → bytes_eq text (codes "v3") ≡ a → bytes_eq text (codes "v2") ≡ b → cond a (Some false) (cond b (Some true) None) ≡ Some closed → AsksForEdges items closed
+      go true b e f is =
+          let c : false ≡ closed = cc in
+          subst (AsksForEdges items) c (open_edges (there ∙ ap Some ((bytes_eq-Decides text (codes "v3")).0 e)))
+      go false true e f is =
+          let c : true ≡ closed = cc in
+          subst (AsksForEdges items) c (closed_edges (there ∙ ap Some ((bytes_eq-Decides text (codes "v2")).0 f)))
+      go false false e f is = absurd (cc)
+
+  told_by : (value : Option Text) (closed : Bool) → value_of (codes "edges") items ≡ value → edges_of value ≡ Some closed → AsksForEdges items closed
+  told_by None closed there is = let c : false ≡ closed = cc in subst (AsksForEdges items) c (unsaid there)
+  told_by (Some text) closed there is = named text closed there is
+
+  asked_so : (closed : Bool) → AsksForEdges items closed → edges_in items ≡ Some closed
+  asked_so false (unsaid there) = ap edges_of there
+  asked_so false (open_edges there) = ap edges_of there
+  asked_so true (closed_edges there) = ap edges_of there
+
+pub edges_asked : EdgesAreAskedFor
+edges_asked items closed = (told_by items (value_of (codes "edges") items) closed refl, asked_so items closed)

@@ -3,7 +3,7 @@ use Rattle.std.proofs.Common.{◌≡◌, arith, Bool, true, false, refl, subst, 
 use Rattle.std.specs.Prelude.{codes}
 use Rattle.std.specs.Str.{bytes_eq}
 use Rattle.std.proofs.lemmas.Slice.Eq.{bytes_eq-Decides}
-use Rattle.tool_words.specs.Asked.{query_options}
+use Rattle.tool_words.specs.Asked.{query_options, test_options}
 use Rattle.tool_words.specs.Said.{Text}
 use Rattle.tool_words.specs.Says.{AreNames, IsName}
 
@@ -17,10 +17,14 @@ one_more n names is others name among = go (bytes_eq n name) refl
     go true e = subst IsName ((bytes_eq-Decides n name).0 e) is
     go false e = others name (rw e at among)
 
+pub test_names : AreNames test_options
+test_names = one_more (codes "edges") [] (record { some = omega arith; plain = refl }) no_names
+
 pub query_names : AreNames query_options
 query_names =
-    one_more (codes "at") (codes "from" ∷ codes "to" ∷ codes "step" ∷ []) (record { some = omega arith; plain = refl })
+    one_more (codes "edges") (codes "at" ∷ codes "from" ∷ codes "to" ∷ codes "step" ∷ []) (record { some = omega arith; plain = refl })
+    (one_more (codes "at") (codes "from" ∷ codes "to" ∷ codes "step" ∷ []) (record { some = omega arith; plain = refl })
     (one_more (codes "from") (codes "to" ∷ codes "step" ∷ []) (record { some = omega arith; plain = refl })
     (one_more (codes "to") (codes "step" ∷ []) (record { some = omega arith; plain = refl })
     (one_more (codes "step") [] (record { some = omega arith; plain = refl })
-    no_names)))
+    no_names))))

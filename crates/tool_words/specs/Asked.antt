@@ -1,6 +1,6 @@
 -- What the words of the program ask for. (A command, its options and its files, as the words of Prometheus' promtool; the
 -- commands, their options and the limits are this project's own.)
-use Rattle.std.specs.Prelude.{◌==◌, ◌&&◌, ℕ, not, pos, Bool, true, false, List, [], ◌∷◌, Option, Some, None, codes, if◌then◌else◌, nat_le, option_and_then, option_map}
+use Rattle.std.specs.Prelude.{◌≡◌, ◌==◌, ◌&&◌, ◌↔◌, ℕ, not, pos, Bool, true, false, List, [], ◌∷◌, Option, Some, None, codes, if◌then◌else◌, nat_le, option_and_then, option_map}
 use Rattle.std.specs.Char.{is_ascii_digit}
 use Rattle.std.specs.List.{list_all}
 use Rattle.std.specs.Result.{result_ok}
@@ -12,18 +12,29 @@ use Rattle.frac_text.specs.Times.{time_answer}
 use Rattle.tool_words.specs.Said.{Item, Text, places_of, said, value_of}
 
 -- what a command asks for: to judge files, to answer an expression over a file's samples, or to judge a script that is made of
--- so many series
+-- so many series; each over windows that are closed on the left, or open
 pub data Wish : Type 0 where
-  test : List Text → Wish
-  query : Moments → Text → Text → Wish
-  workload : ℕ → Wish
+  test : Bool → List Text → Wish
+  query : Bool → Moments → Text → Text → Wish
+  workload : Bool → ℕ → Wish
 
 -- the options of `promqltest` and `workload`, and those of `query`
 abbrev pub test_options : List Text
-test_options = []
+test_options = codes "edges" ∷ []
 
 abbrev pub query_options : List Text
-query_options = codes "at" ∷ codes "from" ∷ codes "to" ∷ codes "step" ∷ []
+query_options = codes "edges" ∷ codes "at" ∷ codes "from" ∷ codes "to" ∷ codes "step" ∷ []
+
+-- the value of `--edges`: windows are open on the left under v3, as without it, and closed under v2
+abbrev pub edges_named : Text → Option Bool
+edges_named text = if bytes_eq text (codes "v3") then Some false else (if bytes_eq text (codes "v2") then Some true else None)
+
+abbrev pub edges_of : Option Text → Option Bool
+edges_of None = Some false
+edges_of (Some text) = edges_named text
+
+abbrev pub edges_in : List Item → Option Bool
+edges_in items = edges_of (value_of (codes "edges") items)
 
 -- instants that are a grid
 abbrev pub if_grid : Moments → Option Moments
@@ -48,25 +59,30 @@ moments_of None (Some from) (Some to) (Some step) = range_of (time_of from) (tim
 moments_of _ _ _ _ = None
 
 -- one file or more
-abbrev pub test_worded : List Text → Option Wish
-test_worded [] = None
-test_worded (file ∷ files) = Some (test (file ∷ files))
+abbrev pub test_worded : Bool → List Text → Option Wish
+test_worded closed [] = None
+test_worded closed (file ∷ files) = Some (test closed (file ∷ files))
+
+abbrev pub test_at : Option Bool → List Text → Option Wish
+test_at None words = None
+test_at (Some closed) words = test_worded closed words
 
 abbrev pub test_of : List Item → Option Wish
-test_of items = test_worded (places_of items)
+test_of items = test_at (edges_in items) (places_of items)
 
 -- a file and an expression
-abbrev pub query_worded : Moments → List Text → Option Wish
-query_worded moments (file ∷ expr ∷ []) = Some (query moments file expr)
-query_worded moments _ = None
+abbrev pub query_worded : Bool → Moments → List Text → Option Wish
+query_worded closed moments (file ∷ expr ∷ []) = Some (query closed moments file expr)
+query_worded closed moments _ = None
 
-abbrev pub query_at : Option Moments → List Text → Option Wish
-query_at None words = None
-query_at (Some moments) words = query_worded moments words
+abbrev pub query_at : Option Bool → Option Moments → List Text → Option Wish
+query_at None moments words = None
+query_at (Some closed) None words = None
+query_at (Some closed) (Some moments) words = query_worded closed moments words
 
 abbrev pub query_of : List Item → Option Wish
 query_of items =
-    query_at (moments_of (value_of (codes "at") items) (value_of (codes "from") items) (value_of (codes "to") items) (value_of (codes "step") items))
+    query_at (edges_in items) (moments_of (value_of (codes "at") items) (value_of (codes "from") items) (value_of (codes "to") items) (value_of (codes "step") items))
     (places_of items)
 
 -- the number in decimal digits without a leading zero, where it is at most `most`
@@ -79,12 +95,16 @@ number_of most text =
     if has_no_zero text && (list_all is_ascii_digit text && nat_le (digits_value 10 text) most) then Some (digits_value 10 text) else None
 
 -- a number of series, at most 20,000
-abbrev pub workload_worded : List Text → Option Wish
-workload_worded (count ∷ []) = option_map workload (number_of 20000 count)
-workload_worded _ = None
+abbrev pub workload_worded : Bool → List Text → Option Wish
+workload_worded closed (count ∷ []) = option_map (workload closed) (number_of 20000 count)
+workload_worded closed _ = None
+
+abbrev pub workload_at : Option Bool → List Text → Option Wish
+workload_at None words = None
+workload_at (Some closed) words = workload_worded closed words
 
 abbrev pub workload_of : List Item → Option Wish
-workload_of items = workload_worded (places_of items)
+workload_of items = workload_at (edges_in items) (places_of items)
 
 abbrev pub command_of : Text → List Text → Option Wish
 command_of command rest =
@@ -97,3 +117,15 @@ command_of command rest =
 abbrev pub asked : List Text → Option Wish
 asked [] = None
 asked (command ∷ rest) = command_of command rest
+
+-- ---- the edge that is asked for, as a relation
+
+-- an option that isn't given leaves windows open on the left; else its value is one of two
+pub data AsksForEdges (items : List Item) : Bool → Type 0 where
+  unsaid : value_of (codes "edges") items ≡ None → AsksForEdges items false
+  open_edges : value_of (codes "edges") items ≡ Some (codes "v3") → AsksForEdges items false
+  closed_edges : value_of (codes "edges") items ≡ Some (codes "v2") → AsksForEdges items true
+
+-- items name an edge exactly where they ask for it
+abbrev pub EdgesAreAskedFor : Type 0
+EdgesAreAskedFor = (items : List Item) (closed : Bool) → (edges_in items ≡ Some closed) ↔ AsksForEdges items closed

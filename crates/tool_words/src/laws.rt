@@ -1,6 +1,6 @@
 ghost use Rattle.clap.specs.Simple.{is_simple};
 ghost use Rattle.std.specs.Prelude.{◌≡◌, IsTrue, List, None, Some};
-ghost use Rattle.tool_words.specs.Asked.{query_options, test_options};
+ghost use Rattle.tool_words.specs.Asked.{EdgesAreAskedFor, query_options, test_options};
 ghost use Rattle.tool_words.specs.Commands.{app};
 ghost use Rattle.tool_words.specs.Said.{Item, Text, said};
 ghost use Rattle.tool_words.specs.Says.{AreNames, IsOnce, Says};
@@ -18,4 +18,9 @@ pub fn words_say_what_they_spell()
     ensures said { (names words : List Text) (items : List Item) → AreNames names → Says names words items → IsOnce items → said names words ≡ Some items }
     ensures test { AreNames test_options }
     ensures query { AreNames query_options }
+{}
+
+/// A law, with nothing to run: windows are closed on the left, or open, exactly where the options ask for it.
+pub fn edges_are_asked_for()
+    ensures { EdgesAreAskedFor }
 {}

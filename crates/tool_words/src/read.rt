@@ -1,6 +1,6 @@
 //! What the words of the program ask for.
 ghost use Rattle.std.specs.Prelude.{◌≡◌, IfOk, IfSome, List, codes, drop, map, option_and_then, option_map, string_bytes};
-ghost use Rattle.tool_words.specs.Asked.{asked, moments_of, query_of, query_options, query_worded, test_of, test_options, workload_of, workload_worded};
+ghost use Rattle.tool_words.specs.Asked.{asked, edges_in, edges_named, moments_of, query_of, query_options, query_worded, test_of, test_options, workload_of, workload_worded};
 ghost use Rattle.tool_words.specs.Said.{Item, said, value_of};
 ghost use Rattle.tool_words.specs.Tells.{Holds};
 ghost use Rattle.tool_words.specs.Views.{HasFiles, HasSeries, IsOneInstant, moments_seen, wish_of};
@@ -14,9 +14,9 @@ use holders::{Items, Text};
 use std::alloc::{AllocError, Global};
 
 /// The options of `promqltest` and `workload`, and those of `query`.
-static TEST_OPTIONS: [&str; 0] = [];
+static TEST_OPTIONS: [&str; 1] = ["edges"];
 
-static QUERY_OPTIONS: [&str; 4] = ["at", "from", "to", "step"];
+static QUERY_OPTIONS: [&str; 5] = ["edges", "at", "from", "to", "step"];
 
 /// No workload has more series than this.
 const MOST_SERIES: u32 = 20_000;
@@ -32,13 +32,38 @@ fn texts_of(alloc: Global, words: &[&str]) -> Result<Items<Text>, AllocError>
     Ok(texts)
 }
 
+/// Whether windows are closed on the left, by a value of `--edges`.
+fn edges_by(value: &str) -> Option<bool>
+    ensures { result ≡ edges_named value.now }
+{
+    match value {
+        "v3" => Some(false),
+        "v2" => Some(true),
+        _ => None,
+    }
+}
+
+/// Whether windows are closed on the left; without the option they are open.
+fn edges_given(matches: &ArgMatches<'_>) -> Option<bool>
+    ensures { (items : List Item) → Holds matches.now items → result ≡ edges_in items }
+{
+    match value_in(matches, "edges") {
+        None => Some(false),
+        Some(value) => edges_by(value),
+    }
+}
+
 /// The files to judge, of which there is at least one.
 fn judge_test(alloc: Global, matches: &ArgMatches<'_>) -> Result<Option<Asked>, AllocError>
     ensures { (items : List Item) → Holds matches.now items → IfOk result (λ asked. option_map wish_of asked ≡ test_of items) }
 {
+    let Some(closed) = edges_given(matches) else {
+        return Ok(None);
+    };
     match places_in(matches) {
         None => Ok(None),
         Some(words) => Ok(Some(Asked::Test {
+            closed,
             files: texts_of(alloc, words)?,
         })),
     }
@@ -58,13 +83,19 @@ fn instants_given(matches: &ArgMatches<'_>) -> Option<Instants>
 }
 
 /// A query at these instants, of the script and the expression that the words name.
-fn query_in(alloc: Global, instants: Instants, words: &[&str]) -> Result<Option<Asked>, AllocError>
-    ensures { IfOk result (λ asked. option_map wish_of asked ≡ query_worded (moments_seen instants) (map (λ w. w.now) words.now)) }
+fn query_in(
+    alloc: Global,
+    closed: bool,
+    instants: Instants,
+    words: &[&str],
+) -> Result<Option<Asked>, AllocError>
+    ensures { IfOk result (λ asked. option_map wish_of asked ≡ query_worded closed (moments_seen instants) (map (λ w. w.now) words.now)) }
 {
     let [file, expr] = words else {
         return Ok(None);
     };
     Ok(Some(Asked::Query {
+        closed,
         grid: instants.grid,
         instant: instants.instant,
         file: Text::of(alloc, file)?,
@@ -76,22 +107,25 @@ fn query_in(alloc: Global, instants: Instants, words: &[&str]) -> Result<Option<
 fn judge_query(alloc: Global, matches: &ArgMatches<'_>) -> Result<Option<Asked>, AllocError>
     ensures { (items : List Item) → Holds matches.now items → IfOk result (λ asked. option_map wish_of asked ≡ query_of items) }
 {
+    let Some(closed) = edges_given(matches) else {
+        return Ok(None);
+    };
     let Some(instants) = instants_given(matches) else {
         return Ok(None);
     };
     match places_in(matches) {
         None => Ok(None),
-        Some(words) => query_in(alloc, instants, words),
+        Some(words) => query_in(alloc, closed, instants, words),
     }
 }
 
 /// A workload of the series that the words number.
-fn workload_in(words: &[&str]) -> Option<Asked>
-    ensures { option_map wish_of result ≡ workload_worded (map (λ w. w.now) words.now) }
+fn workload_in(closed: bool, words: &[&str]) -> Option<Asked>
+    ensures { option_map wish_of result ≡ workload_worded closed (map (λ w. w.now) words.now) }
 {
     match words {
         [count] => match number_in(count.as_bytes(), MOST_SERIES) {
-            Some(count) => Some(Asked::Workload { count }),
+            Some(count) => Some(Asked::Workload { closed, count }),
             None => None,
         },
         _ => None,
@@ -101,13 +135,16 @@ fn workload_in(words: &[&str]) -> Option<Asked>
 fn judge_workload(matches: &ArgMatches<'_>) -> Option<Asked>
     ensures { (items : List Item) → Holds matches.now items → option_map wish_of result ≡ workload_of items }
 {
+    let Some(closed) = edges_given(matches) else {
+        return None;
+    };
     match places_in(matches) {
         None => None,
-        Some(words) => workload_in(words),
+        Some(words) => workload_in(closed, words),
     }
 }
 
-/// `promqltest FILE..`
+/// `promqltest [--edges E] FILE..`
 fn read_test(alloc: Global, words: &[String]) -> Result<Option<Asked>, AllocError>
     ensures { IfOk result (λ asked. option_map wish_of asked ≡ option_and_then test_of (said test_options (drop 1 (map string_bytes words.now)))) }
 {
@@ -117,7 +154,7 @@ fn read_test(alloc: Global, words: &[String]) -> Result<Option<Asked>, AllocErro
     }
 }
 
-/// `query [--at T | --from A --to B --step S] FILE EXPR`
+/// `query [--edges E] [--at T | --from A --to B --step S] FILE EXPR`
 fn read_query(alloc: Global, words: &[String]) -> Result<Option<Asked>, AllocError>
     ensures { IfOk result (λ asked. option_map wish_of asked ≡ option_and_then query_of (said query_options (drop 1 (map string_bytes words.now)))) }
 {
@@ -127,7 +164,7 @@ fn read_query(alloc: Global, words: &[String]) -> Result<Option<Asked>, AllocErr
     }
 }
 
-/// `workload N`
+/// `workload [--edges E] N`
 fn read_workload(alloc: Global, words: &[String]) -> Result<Option<Asked>, AllocError>
     ensures { IfOk result (λ asked. option_map wish_of asked ≡ option_and_then workload_of (said test_options (drop 1 (map string_bytes words.now)))) }
 {
@@ -138,9 +175,9 @@ fn read_workload(alloc: Global, words: &[String]) -> Result<Option<Asked>, Alloc
 }
 
 /// What the words behind the program's name ask for, where they follow the rules: `promqltest FILE..`,
-/// `query [--at T | --from A --to B --step S] FILE EXPR`, or `workload N` with N from 1 to 20,000. Each option stands
-/// at most once, in any place before a word `--`, as `--name value` or `--name=value`. The only error is want of
-/// memory.
+/// `query [--at T | --from A --to B --step S] FILE EXPR`, or `workload N` with N from 1 to 20,000; each takes `--edges v3`,
+/// which is what holds without it, or `--edges v2` too. Each option stands at most once, in any place before a word `--`, as
+/// `--name value` or `--name=value`. The only error is want of memory.
 pub fn read_words(alloc: Global, words: &[String]) -> Result<Option<Asked>, AllocError>
     ensures wish { IfOk result (λ wanted. option_map wish_of wanted ≡ asked (map string_bytes words.now)) }
     ensures files { IfOk result (λ wanted. IfSome wanted HasFiles) }

@@ -10,5 +10,5 @@ use Rattle.plain_eval.proofs.selecting.newest.Goals as goal
 
 pub returns : goal.returns
 returns g c = λ one is.
-    c.last_until.ensures ∙ ap (last_until c.args.m.0) (c.seek-cursor.ensures.later one is ∙ ap (λ edge. later_than edge one.1) c.earlier.ensures)
-    ∙ ap (λ ss. option_and_then fresh_sample (last_or None ss)) (of_range (record { 0 = c.args.m.0 -ℤ lookback }) c.args.m.0 one.1)
+    c.last_until.ensures ∙ ap (last_until c.args.m.0) (c.seek-cursor.ensures.later one is ∙ ap (λ edge. later_than edge one.1) c.before_range.ensures)
+    ∙ ap (λ ss. option_and_then fresh_sample (last_or None ss)) (of_range c.args.closed (c.args.m.0 -ℤ lookback) c.args.m.0 one.1)

@@ -17,7 +17,7 @@ range-requires-clause-met g c =
 pub returns-in-Ok-clause-outcome : goal.returns-in-Ok-clause-outcome
 returns-in-Ok-clause-outcome g c =
     let ready = c.in-Ok.ensures.tree in
-    comes_to c.args.text.now c.args.store.now c.typed_tree.new.patterns c.args.grid.now (tree_of c.in-Ok.typed) c.args.instant ready.stands c.range.result c.range.ensures.result
+    comes_to c.args.text.now c.args.store.now c.typed_tree.new.patterns c.args.grid.now ready.open_tree (tree_of c.in-Ok.typed) c.args.instant c.args.options.now.closed ready.stands ready.edge c.range.result c.range.ensures.result
 
 pub returns-in-Ok-clause-idle : goal.returns-in-Ok-clause-idle
 returns-in-Ok-clause-idle g c =
@@ -26,5 +26,5 @@ returns-in-Ok-clause-idle g c =
 pub returns-in-Err-Refused-clause-outcome : goal.returns-in-Err-Refused-clause-outcome
 returns-in-Err-Refused-clause-outcome g c =
     let told = subst (MayFault (IsRefusedWith c.args.text.now)) c.in-Err-Refused.field-0-is c.in-Err-Refused.ensures.refused in
-    subst (λ (r : QueryRefusal). ComesTo c.args.text.now c.args.store.now c.args.grid.now c.args.instant (outcome.Refused r)) (sym c.in-Err-Refused.refusal-is)
+    subst (λ (r : QueryRefusal). ComesTo c.args.text.now c.args.store.now c.args.grid.now c.args.instant c.args.options.now.closed (outcome.Refused r)) (sym c.in-Err-Refused.refusal-is)
     (refused c.in-Err-Refused.refusal told)

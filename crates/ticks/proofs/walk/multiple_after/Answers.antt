@@ -1,9 +1,9 @@
 use Rattle.std.proofs.Common.{rules, ℤ, pos, ◌≡◌, ◌-ℤ◌, arith, subst, sym}
 use Rattle.std.proofs.lemmas.Int.{ints}
 use Rattle.ticks.specs.Steps.{HasNoStep, IsMultiple, IsReach, IsStepAfter}
-use Rattle.ticks.specs.Edges.{from-later, later-from}
+use Rattle.ticks.specs.Edges.{before-near, from-later, later-from}
 use Rattle.ticks.specs.Walks.{IsFirstInWindow}
-use Rattle.ticks.proofs.Walks.{at-edge, before-near}
+use Rattle.ticks.proofs.Walks.{at-edge}
 use Rattle.ticks.proofs.walk.multiple_after.Goals as goal
 
 less-none : (z : ℤ) → z -ℤ pos 0 ≡ z

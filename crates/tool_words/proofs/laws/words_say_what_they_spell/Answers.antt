@@ -1,6 +1,6 @@
 use Rattle.std.proofs.Common.{◌∙◌, ap, refl, [], None}
 use Rattle.tool_words.specs.Said.{if_once, said_from}
-use Rattle.tool_words.proofs.Names.{no_names, query_names}
+use Rattle.tool_words.proofs.Names.{query_names, test_names}
 use Rattle.tool_words.proofs.Once.{behind_once, once_behind, said_parts}
 use Rattle.tool_words.proofs.Spelled.{said_by, spelled}
 use Rattle.tool_words.proofs.laws.words_say_what_they_spell.Goals as goal
@@ -16,7 +16,7 @@ returns-clause-said c = λ names words items ok says once.
     ap if_once (said_by names ok words items says) ∙ rw (behind_once items [] once) refl
 
 pub returns-clause-test : goal.returns-clause-test
-returns-clause-test c = no_names
+returns-clause-test c = test_names
 
 pub returns-clause-query : goal.returns-clause-query
 returns-clause-query c = query_names
