@@ -1,6 +1,6 @@
 -- Patterns come first: each string right behind `=~` or `!~` stands for its pattern, under its number, and what the pattern
 -- says of the empty text. That they are built before the text is read, and how many may be, is this project's own.
-use Rattle.std.specs.Prelude.{◌≡◌, ℕ, Bool, true, false, List, [], ◌∷◌, length, ⊤}
+use Rattle.std.specs.Prelude.{◌≡◌, ◌≤◌, ℕ, Bool, true, false, List, [], ◌∷◌, length, ⊤}
 use Rattle.std.specs.List.{AllByRecursion}
 use Rattle.match_rule.specs.Patterns.{IsRefused, IsWholeId, is_kept, is_plain, is_readable, number_of, pattern_passes, regex_text, with_pattern}
 use Rattle.label_set.specs.declared.rules.PatternId.{PatternId}
@@ -27,10 +27,10 @@ abbrev pub is_bad : LexemeKind → Bool
 is_bad (kinds.Bad refusal) = true
 is_bad _ = false
 
--- what a string at a place is as a pattern: one that is kept, under its number; or, where `regex` refuses its text or where
+-- what a string at a place is as a pattern: one that is kept, under its number, beside at most 31 others; or, where `regex` refuses its text or where
 -- it would be one too many, a refusal, and nothing more is kept
 pub data IsPattern (at : ℕ) (text : List ℕ) (before : Kept) : Kept → LexemeKind → Type 0 where
-  kept : (after : Kept) (id : PatternId) (passes_empty : Bool) → is_readable true text ≡ true → after ≡ with_pattern (true, text) before
+  kept : (after : Kept) (id : PatternId) (passes_empty : Bool) → is_readable true text ≡ true → after ≡ with_pattern (true, text) before → length after ≤ 32
       → id.0 ≡ number_of (true, text) before → passes_empty ≡ pattern_passes (true, text) [] → IsPattern at text before after (kinds.Pattern id passes_empty)
   refused : (after : Kept) → is_plain text ≡ false → IsRefused (regex_text true text) → after ≡ before → IsPattern at text before after (kinds.Bad (BadPattern at))
   too_many : (after : Kept) → is_readable true text ≡ true → is_kept (true, text) before ≡ false → length before ≡ 32 → after ≡ before

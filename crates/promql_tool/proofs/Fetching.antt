@@ -36,7 +36,13 @@ file_read kept bytes (Err read.Memory) said refused gathers gains = tt
 -- a file that is too large
 too_large : (bytes : List ℕ) → limit < length bytes → IsRefusedFor bytes (refusal.Script TooLarge)
 too_large bytes lt = unread [] TooLarge (record {
-  gathers = record { more = []; behind = refl; named = λ pattern at. absurd (omega (arith, at.1)) };
+  gathers = record {
+    more = [];
+    behind = refl;
+    named = λ pattern at. absurd (omega (arith, at.1));
+    readable = λ pattern at. absurd (omega (arith, at.1));
+    few = λ few. few;
+  };
   gains = gains_none [] [] refl;
   says = (rw (lt-ltb limit (length bytes) lt) refl, tt);
 })

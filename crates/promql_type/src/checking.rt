@@ -5,7 +5,7 @@ ghost use Rattle.promql_ast.specs.Parts.{parts_of};
 ghost use Rattle.promql_type.specs.Answers.{IsLeastRefusal, MayFault, refusals_of};
 ghost use Rattle.promql_type.specs.Judging.{judged};
 ghost use Rattle.promql_type.specs.Refusals.{least, lesser};
-ghost use Rattle.promql_type.specs.Replacements.{AreKept, kept_with};
+ghost use Rattle.promql_type.specs.Replacements.{AreKept, AreTaken};
 ghost use Rattle.promql_type.specs.Settled.{settled};
 ghost use Rattle.promql_type.specs.TypedTrees.{placed_of, tree_of};
 ghost use Rattle.std.specs.Prelude.{◌≡◌, [], Some, IfOk, IfErr, OnOk};
@@ -61,7 +61,7 @@ pub fn check(alloc: Global, expr: Expr, patterns: &mut Patterns) -> Result<Typed
     // a tree is taken where nothing refuses it
     ensures tree { IfOk result (λ t. tree_of t ≡ settled expr) }
     ensures taken { OnOk result (refusals_of expr ≡ []) }
-    ensures kept { OnOk result (patterns.new ≡ kept_with patterns.old (judged expr).replacements) }
+    ensures kept { OnOk result (AreTaken patterns.old (judged expr).replacements patterns.new) }
     ensures placed { IfOk result (λ t. AreKept patterns.new (judged (tree_of t)).replacements (placed_of t)) }
     ensures parts { IfOk result (λ t. parts_of (tree_of t) ≡ parts_of expr) }
     ensures depth { IfOk result (λ t. depth (tree_of t) ≡ depth expr) }

@@ -1,10 +1,10 @@
 //! The patterns of `label_replace` calls.
 ghost use Rattle.promql_type.specs.Judging.{all_replacements, judged, pattern_of};
 ghost use Rattle.promql_type.specs.Answers.{MayFault};
-ghost use Rattle.promql_type.specs.Replacements.{AreKept, HasCause, IsFirstRefused, kept_with};
+ghost use Rattle.promql_type.specs.Replacements.{AreKept, AreTaken, HasCause, IsFirstRefused};
 ghost use Rattle.match_rule.specs.Gains.{Gains};
-ghost use Rattle.match_rule.specs.Patterns.{with_pattern};
-ghost use Rattle.std.specs.Prelude.{◌≡◌, ◌++◌, true, Some, map, slice_get, IfOk, IfErr, OnOk, OnErr};
+ghost use Rattle.match_rule.specs.Patterns.{is_readable, with_pattern};
+ghost use Rattle.std.specs.Prelude.{◌≡◌, ◌≤◌, ◌++◌, true, Some, length, map, slice_get, IfOk, IfErr, OnOk, OnErr};
 
 use crate::judge::literal_at;
 use crate::typed_tree::TypeFault;
@@ -98,6 +98,8 @@ fn collect_own(
 fn keep(kept: &mut Patterns, wanted: &Replacement) -> Result<PatternId, TypeFault>
     ensures there { IfOk result (λ id. slice_get kept.new id.0 ≡ Some (true, wanted.now.text)) }
     ensures ok { OnOk result (kept.new ≡ with_pattern (true, wanted.now.text) kept.old) }
+    ensures readable { OnOk result (is_readable true wanted.now.text ≡ true) }
+    ensures most { OnOk result (length kept.new ≤ 32) }
     ensures err { OnErr result (kept.new ≡ kept.old) }
     ensures refused { IfErr result (MayFault (HasCause kept.old wanted.now)) }
     ensures gains { Gains kept.old kept.new }
@@ -121,7 +123,7 @@ pub fn build(
     wanted: &[Replacement],
     kept: &mut Patterns,
 ) -> Result<Items<Placed>, TypeFault>
-    ensures ok { OnOk result (kept.new ≡ kept_with kept.old wanted.now) }
+    ensures ok { OnOk result (AreTaken kept.old wanted.now kept.new) }
     ensures placed { IfOk result (AreKept kept.new wanted.now) }
     ensures refused { IfErr result (MayFault (IsFirstRefused kept.old wanted.now kept.new)) }
     ensures gains { Gains kept.old kept.new }

@@ -15,7 +15,7 @@ use Rattle.promql_type.specs.Answers.{IsLeastRefusal, MayFault, listed, refusals
 use Rattle.promql_type.specs.Edges.{EdgesAreJudgedAlike, EdgesAreRefusedAlike, EdgesStayTyped}
 use Rattle.promql_type.specs.Judging.{judged}
 use Rattle.promql_type.specs.Refusals.{least}
-use Rattle.promql_type.specs.Replacements.{AreBuilt, AreKept, Kept, kept_with}
+use Rattle.promql_type.specs.Replacements.{AreBuilt, AreKept, AreTaken, Kept}
 use Rattle.promql_type.specs.Settled.{settled}
 use Rattle.promql_type.specs.TypedTrees.{placed_of, tree_of}
 use Rattle.promql_type.specs.declared.typed_tree.TypeFault.{TypeFault}
@@ -41,7 +41,7 @@ module _ (closed : Bool) (tree : Expr) (judged_alike : EdgesAreJudgedAlike) (ref
 module _ (text : List ℕ) (closed : Bool) (read kept : Kept) (tree : Expr) (parses : Parses text [] read (Ok tree)) (judged_alike : EdgesAreJudgedAlike) (refused_alike : EdgesAreRefusedAlike)
     (typed_alike : EdgesStayTyped) where
   pub ready : (result : Result Typed TypeFault) → AreWithin (HaveTheirPatterns read) hundred_years time_limit (parts_of tree) → depth tree ≤ 128 → Gains read kept
-      → IfOk result (λ t. tree_of t ≡ settled (edged closed tree)) → OnOk result (refusals_of (edged closed tree) ≡ []) → OnOk result (kept ≡ kept_with read (judged (edged closed tree)).replacements)
+      → IfOk result (λ t. tree_of t ≡ settled (edged closed tree)) → OnOk result (refusals_of (edged closed tree) ≡ []) → OnOk result (AreTaken read (judged (edged closed tree)).replacements kept)
       → IfOk result (λ t. AreKept kept (judged (tree_of t)).replacements (placed_of t)) → IfOk result (λ t. parts_of (tree_of t) ≡ parts_of (edged closed tree))
       → IfOk result (λ t. depth (tree_of t) ≡ depth (edged closed tree)) → IfOk result (IsReadyTree text closed kept)
   ready (Ok t) within few gains typed taken built placed parts deep = record {
@@ -51,7 +51,7 @@ module _ (text : List ℕ) (closed : Bool) (read kept : Kept) (tree : Expr) (par
       tree = tree;
       parses = parses;
       taken = sym (refused_alike closed tree) ∙ taken;
-      built = built ∙ ap (kept_with read) (same_patterns closed tree judged_alike refused_alike);
+      built = subst (λ rs. AreTaken read rs kept) (same_patterns closed tree judged_alike refused_alike) built;
       typed = refl;
     };
     edge = typed ∙ typed_alike closed tree;

@@ -1,9 +1,9 @@
 -- What is expected of an evaluation, its result aside: `expect ordered`, `expect fail`, `expect warn`, `expect info`,
 -- `expect no_warn` and `expect no_info`; behind fail, warn and info may stand `msg:` or `regex:` and a text to the end of the
 -- line. (The promqltest format. What may stand beside what is this project's own.)
-use Rattle.std.specs.Prelude.{◌≡◌, ◌⊎◌, ℕ, Bool, true, false, ◌||◌, not, if◌then◌else◌, List, [], ◌∷◌, ◌++◌, bytes_eq, codes, drop, length, take, Option, None, Some, Result, Ok, Err}
+use Rattle.std.specs.Prelude.{◌≡◌, ◌≤◌, ◌⊎◌, ℕ, Bool, true, false, ◌||◌, not, if◌then◌else◌, List, [], ◌∷◌, ◌++◌, bytes_eq, codes, drop, length, take, Option, None, Some, Result, Ok, Err}
 use Rattle.std.specs.List.{Contains}
-use Rattle.match_rule.specs.Patterns.{IsRefused, is_kept, is_plain, number_of, regex_text}
+use Rattle.match_rule.specs.Patterns.{IsRefused, is_kept, is_plain, is_readable, number_of, regex_text}
 use Rattle.script_read.specs.Lines.{Numbered, behind_word, first_word, from_blank, is_empty}
 use Rattle.script_read.specs.Outcomes.{PatternList, then_give, then_try}
 use Rattle.script_read.specs.Words.{text_told}
@@ -151,10 +151,10 @@ mode_wants modes.Ordered = record nothing_wanted { ordered = true }
 
 -- ---- refused patterns
 
--- a pattern isn't among the kept ones: `regex` refuses it, and not for want of memory, or 32 others are kept
+-- a pattern isn't among the kept ones: `regex` refuses it, and not for want of memory, or it can be read and 32 others are kept
 abbrev pub IsRefusedSearch : PatternList → List ℕ → Type 0
 IsRefusedSearch kept text =
-    ((is_plain text ≡ false) × IsRefused (regex_text false text)) ⊎ ((is_kept (false, text) kept ≡ false) × (length kept ≡ 32))
+    ((is_plain text ≡ false) × IsRefused (regex_text false text)) ⊎ ((is_readable false text ≡ true) × (is_kept (false, text) kept ≡ false) × (length kept ≡ 32))
 
 -- the pattern that a test, an expectation or a line names
 abbrev pub search_tested : Tested → Option (List ℕ)
@@ -192,14 +192,20 @@ RefusesOnLine kept lines _ = Unit {0}
 abbrev pub IsSearch : Option (List ℕ) → Bool × List ℕ → Type 0
 IsSearch search pattern = (pattern.0 ≡ false) × (search ≡ Some pattern.1)
 
--- a line that names this pattern, or none, adds no other one, and no pattern is lost or moved
+-- A line that names this pattern, or none, adds no other one, and no pattern is lost or moved. What is added can be read, and at
+-- most 32 are kept then.
 pub record GrowsBy (search : Option (List ℕ)) (before now : PatternList) : Type 0 where
   pub more : PatternList
   pub behind : now ≡ before ++ more
   pub named : (pattern : Bool × List ℕ) → Contains more pattern → IsSearch search pattern
+  pub readable : (pattern : Bool × List ℕ) → Contains more pattern → is_readable pattern.0 pattern.1 ≡ true
+  pub few : length before ≤ 32 → length now ≤ 32
 
--- lines add the patterns that they name and no other one, and no pattern is lost or moved
+-- Lines add the patterns that they name and no other one, and no pattern is lost or moved. What is added can be read, and at most
+-- 32 are kept then.
 pub record Gathers (lines : List Numbered) (before now : PatternList) : Type 0 where
   pub more : PatternList
   pub behind : now ≡ before ++ more
   pub named : (pattern : Bool × List ℕ) → Contains more pattern → (line : Numbered) × Contains lines line × IsSearch (search_on line.text) pattern
+  pub readable : (pattern : Bool × List ℕ) → Contains more pattern → is_readable pattern.0 pattern.1 ≡ true
+  pub few : length before ≤ 32 → length now ≤ 32

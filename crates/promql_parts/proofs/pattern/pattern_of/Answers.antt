@@ -1,12 +1,13 @@
-use Rattle.std.proofs.Common.{◌∙◌, ap, []}
+use Rattle.std.proofs.Common.{◌∙◌, ◌≤◌, ap, length, subst, sym, []}
 use Rattle.match_rule.specs.Patterns.{passes_by}
+use Rattle.promql_parts.specs.Patterned.{Kept}
 use Rattle.promql_parts.specs.Patterned.IsPattern.{kept, refused, too_many}
 use Rattle.promql_parts.proofs.pattern.pattern_of.Goals as goal
 
 pub returns-in_ok-passes_empty-in-Ok-clause-pattern : goal.returns-in_ok-passes_empty-in-Ok-clause-pattern
 returns-in_ok-passes_empty-in-Ok-clause-pattern c =
     rw (← c.as_str.ensures)
-    (kept _ c.in-Ok.id _ c.in-Ok.ensures.readable (c.matches.ensures.same ∙ c.in-Ok.ensures.ok) c.in-Ok.ensures.number
+    (kept _ c.in-Ok.id _ c.in-Ok.ensures.readable (c.matches.ensures.same ∙ c.in-Ok.ensures.ok) (subst (λ (k : Kept). length k ≤ 32) (sym c.matches.ensures.same) c.in-Ok.ensures.most) c.in-Ok.ensures.number
     (c.in_ok-passes_empty-in-Ok.ensures.answer ∙ ap (λ o. passes_by o []) c.in-Ok.ensures.there))
 
 pub returns-in-Err-BadPattern-clause-pattern : goal.returns-in-Err-BadPattern-clause-pattern

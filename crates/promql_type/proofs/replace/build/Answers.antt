@@ -12,4 +12,4 @@ pub loop-r-preserved : goal.loop-r-preserved
 loop-r-preserved c =
     subst (λ (ps : List Placed). AreSofar c.args.kept.now c.keep.new.kept (take (c.loop-r.r-index + 1) c.args.wanted.now) ps) (sym c.in_ok-push.ensures.ok)
     (next_kept c.args.kept.now c.loop-r.kept c.keep.new.kept c.args.wanted.now c.loop-r.placed c.loop-r.r-index c.r-item.result _
-    c.loop-r-test.true c.r-item.is c.loop-r.invariant c.in-Ok.ensures.ok c.in-Ok.ensures.gains (refl, c.in-Ok.ensures.there))
+    c.loop-r-test.true c.r-item.is c.loop-r.invariant c.in-Ok.ensures.ok c.in-Ok.ensures.readable c.in-Ok.ensures.most c.in-Ok.ensures.gains (refl, c.in-Ok.ensures.there))
