@@ -88,8 +88,11 @@ pub fn run_tool<L: Library, S: Sink, W: Ledger>(
 ) -> Status
     ensures statuses { IsOneOf (0 ∷ 1 ∷ 2 ∷ 3 ∷ 4 ∷ 6 ∷ 7 ∷ []) result.0 }
 
-    // What is printed is a report of the words and the files, and the status is the report's.
-    ensures report { IfSome (L.told library.old) (λ files. IsOneOf (0 ∷ 1 ∷ 2 ∷ 6 ∷ []) result.0 →
+    // What is printed is a report of the words and of what the library was found to hold, and the status is the report's; over
+    // a library that tells, a report of its files, but for a status 3, for which see `there`.
+    ensures report { IsOneOf (0 ∷ 1 ∷ 2 ∷ 3 ∷ 6 ∷ []) result.0 →
+        HasReport (map string_bytes words.now) (IsFound (L.told library.old) (L.sound library.old)) (Reports (S.written out.old) (S.written out.new) result.0) }
+    ensures report_told { IfSome (L.told library.old) (λ files. IsOneOf (0 ∷ 1 ∷ 2 ∷ 6 ∷ []) result.0 →
         HasReport (map string_bytes words.now) (Have files) (Reports (S.written out.old) (S.written out.new) result.0)) }
 
     // Where nothing can fail, the status is a report's, unless memory runs out.

@@ -3,7 +3,7 @@ use Rattle.promql_tool.specs.Ends.{IfFirst, IsOneOf, IsUnrun}
 use Rattle.promql_tool.specs.Reading.{IsNoScript}
 use Rattle.promql_tool.specs.Report.{files_of}
 use Rattle.tool_words.specs.Asked.{asked}
-use Rattle.promql_tool.proofs.Reported.{answers_told, cut_status, first_of, gone_is, gone_told, idle_is, idle_told, made_each, made_is, misuse_is, missing_told, never_cut, never_four, outside_told, refusal_is, reports_told, status_is, told_each}
+use Rattle.promql_tool.proofs.Reported.{answers_told, cut_status, first_of, gone_is, gone_told, idle_is, idle_told, is_report, made_each, made_is, misuse_is, missing_told, never_cut, never_four, outside_told, refusal_is, reports_told, status_is, told_each}
 use Rattle.promql_tool.proofs.tool.run_tool.Goals as goal
 
 pub returns-in-Ok-clause-statuses : goal.returns-in-Ok-clause-statuses
@@ -12,7 +12,10 @@ returns-in-Ok-clause-statuses g c =
     status_is _ _ _ _ _ _ e.0 e.1 e.2 (IsOneOf (0 ∷ 1 ∷ 2 ∷ 3 ∷ 4 ∷ 6 ∷ 7 ∷ [])) refl refl refl refl refl
 
 pub returns-in-Ok-clause-report : goal.returns-in-Ok-clause-report
-returns-in-Ok-clause-report g c =
+returns-in-Ok-clause-report g c = let e = c.in-Ok.ensures.ends in λ _. (e.0, is_report _ _ _ e.0 e.1, e.2)
+
+pub returns-in-Ok-clause-report_told : goal.returns-in-Ok-clause-report_told
+returns-in-Ok-clause-report_told g c =
     let e = c.in-Ok.ensures.ends in reports_told _ _ _ _ _ _ (g.L.Library.told c.args.library.now) e.0 e.1 e.2
 
 pub returns-in-Ok-clause-answered : goal.returns-in-Ok-clause-answered
