@@ -41,11 +41,11 @@ module _ {X : Type 0} where
         | false ↦ λ e. each_passes p xs
       ] refl
 
-  both : (P Q R : X → Type 0) → ((x : X) → P x → Q x → R x) → (xs : List X) → AllByRecursion P xs → AllByRecursion Q xs → AllByRecursion R xs
+  pub both : (P Q R : X → Type 0) → ((x : X) → P x → Q x → R x) → (xs : List X) → AllByRecursion P xs → AllByRecursion Q xs → AllByRecursion R xs
   both P Q R f [] a b = tt
   both P Q R f (x ∷ xs) a b = (f x a.0 b.0, both P Q R f xs a.1 b.1)
 
-  one : (P R : X → Type 0) → ((x : X) → P x → R x) → (xs : List X) → AllByRecursion P xs → AllByRecursion R xs
+  pub one : (P R : X → Type 0) → ((x : X) → P x → R x) → (xs : List X) → AllByRecursion P xs → AllByRecursion R xs
   one P R f [] a = tt
   one P R f (x ∷ xs) a = (f x a.0, one P R f xs a.1)
 
@@ -100,12 +100,12 @@ neither : (a b : Option Ms) → soonest_of a b ≡ None → (a ≡ None) × (b �
 neither None b h = (refl, h)
 neither (Some at) b h = absurd (cc)
 
-equal : (o : Ordering) → is_eq o ≡ true → o ≡ Equal
+pub equal : (o : Ordering) → is_eq o ≡ true → o ≡ Equal
 equal Less h = absurd (cc)
 equal Equal h = refl
 equal Greater h = absurd (cc)
 
-same_time : (a b : Ms) → is_eq (int_cmp a.0 b.0) ≡ true → a ≡ b
+pub same_time : (a b : Ms) → is_eq (int_cmp a.0 b.0) ≡ true → a ≡ b
 same_time a b h = ap (λ (z : ℤ). record { 0 = z }) (int_ranked a.0 b.0 Equal (sym (equal (int_cmp a.0 b.0) h)))
 
 -- what holds of the times of points holds where they have a value

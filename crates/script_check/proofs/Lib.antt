@@ -1,3 +1,5 @@
 pub mod Agreements
 pub mod Holding
 pub mod Kept
+pub mod LineByLine
+pub mod Sorted

@@ -1,8 +1,9 @@
 //! The verdict on an evaluation.
 ghost use Rattle.script_check.specs.Verdicts.{AreKept, HasPatterns, answer_reason, failure_reason, failure_text_holds, is_answer, is_scalar, no_note, notes_in, notes_reason, reason_of, result_reason, some_note, verdict_of};
-ghost use Rattle.std.specs.Prelude.{◌≡◌, IfOk};
+ghost use Rattle.script_read.specs.Lines.{is_empty};
+ghost use Rattle.std.specs.Prelude.{◌≡◌, not, IfOk};
 
-use crate::note_text::texts_of;
+use crate::note_text::{has_texts, texts_of};
 use crate::outcome_text::text_of;
 use crate::series::{judge_scalar, judge_series, scalar_in};
 use crate::tested::{are_met, is_silent, meets_all};
@@ -92,7 +93,18 @@ fn notes_in(alloc: Global, warnings: bool, o: &Outcome) -> Result<Items<Items<u8
     }
 }
 
-/// The first reason among the lines on warnings, or else on info notes. The only error is want of memory.
+/// Whether an outcome has a warning, or else an info note. It takes no memory.
+fn has_notes(warnings: bool, o: &Outcome) -> bool
+    ensures { result ≡ not (is_empty (notes_in warnings o.now)) }
+{
+    match o {
+        Outcome::Answer(answer) => has_texts(answer.notes.as_slice(), warnings),
+        _ => false,
+    }
+}
+
+/// The first reason among the lines on warnings, or else on info notes. Where there are no such lines it takes no memory, and
+/// else its only error is want of memory.
 fn judge_notes(
     alloc: Global,
     warnings: bool,
@@ -105,6 +117,13 @@ fn judge_notes(
     ensures reason { IfOk result (λ reason. reason ≡ notes_reason searches.old warnings lines.now none (notes_in warnings o.now)) }
     ensures same { searches.new ≡ searches.old }
 {
+    if lines.is_empty() {
+        return Ok(if none && has_notes(warnings, o) {
+            Some(some_note(warnings))
+        } else {
+            None
+        });
+    }
     let texts = notes_in(alloc, warnings, o)?;
     if !are_met(texts.as_slice(), lines, searches)? {
         return Ok(Some(no_note(warnings)));

@@ -1,6 +1,7 @@
 //! Whether the outcome of an evaluation is what a script expects of it, and the texts of outcomes and notes.
 #![tactic(auto)]
 
+mod beside;
 mod joined;
 mod judging;
 mod laws;

@@ -2,7 +2,8 @@
 ghost use Rattle.frac_text.specs.Spellings.{spelling};
 ghost use Rattle.label_set.specs.LabelText.{quoted};
 ghost use Rattle.script_check.specs.NoteTexts.{is_of, is_warning, note_text, texts_of};
-ghost use Rattle.std.specs.Prelude.{◌≡◌, ◌++◌, IfOk, OnErr, OnOk};
+ghost use Rattle.script_read.specs.Lines.{is_empty};
+ghost use Rattle.std.specs.Prelude.{◌≡◌, not, ◌++◌, IfOk, OnErr, OnOk};
 
 use crate::joined::append_both;
 use frac_text::write_number;
@@ -96,6 +97,18 @@ pub fn append_note(note: &Note, into: &mut Vec<u8>) -> Result<(), AllocError>
 {
     let text = text_of(*into.allocator(), note)?;
     into.extend_from_slice(text.as_slice())
+}
+
+/// Whether there is a warning among notes, or else an info note. It takes no memory.
+pub fn has_texts(notes: &[Note], warnings: bool) -> bool
+    ensures { result ≡ not (is_empty (texts_of warnings notes.now)) }
+{
+    for note in notes {
+        if is_of(warnings, note) {
+            return true;
+        }
+    }
+    false
 }
 
 /// The texts of the warnings among notes, or else of the info notes, in their order. The only error is want of memory.

@@ -6,6 +6,7 @@ ghost use Rattle.promql_meaning.specs.declared.answer.Point.{Point};
 ghost use Rattle.promql_meaning.specs.declared.answer.ResultSeries.{ResultSeries};
 ghost use Rattle.std.specs.Prelude.{◌≡◌, filter, option_map, IfOk, List};
 
+use crate::beside::agree_by_lines;
 use crate::verdict::Reason;
 use label_set::Labels;
 use promql_meaning::{Point, ResultSeries};
@@ -266,7 +267,8 @@ fn order_reason(wanted: &[ResultSeries], got: &[ResultSeries]) -> Result<Option<
     }
 }
 
-/// The first reason why series aren't those that are expected, if there is one. The only error is want of memory.
+/// The first reason why series aren't those that are expected, if there is one. Series that stand in the order of the lines,
+/// which rise by their labels, are compared without memory; else the only error is want of memory.
 pub fn judge_series(
     alloc: Global,
     ordered: bool,
@@ -275,6 +277,9 @@ pub fn judge_series(
 ) -> Result<Option<Reason>, AllocError>
     ensures { IfOk result (λ reason. reason ≡ series_reason ordered wanted.now got.now) }
 {
+    if agree_by_lines(wanted, got) {
+        return Ok(None);
+    }
     let lines = by_labels(alloc, wanted)?;
     let found = by_labels(alloc, got)?;
     if let Some(reason) = missing_reason(wanted, &found)? {
