@@ -27,7 +27,7 @@ fn split_run(text: &[u8], grouped: bool) -> (&[u8], &[u8])
 }
 
 /// After the whole digits: the fraction's digits, and what stands after these.
-fn split_fraction(text: &[u8], grouped: bool) -> (&[u8], &[u8])
+pub fn split_fraction(text: &[u8], grouped: bool) -> (&[u8], &[u8])
     ensures fraction { result.0.now ≡ fraction_of grouped text.now }
     ensures ending { result.1.now ≡ ending_of grouped text.now }
 {
@@ -45,13 +45,15 @@ fn significand<'a>(text: &'a [u8], ending: &[u8], grouped: bool) -> &'a [u8]
     text.split_at(text.len().saturating_sub(ending.len())).0
 }
 
-fn is_optional_run(text: &[u8]) -> bool
+/// Whether a run of digits is well formed, or has no byte.
+pub fn is_optional_run(text: &[u8]) -> bool
     ensures { result ≡ is_optional_run text.now }
 {
     text.is_empty() || is_run(text, Base::Ten, false)
 }
 
-fn are_digits(whole: &[u8], fraction: &[u8]) -> bool
+/// Whether the digits on both sides of a point are well formed, and there are some.
+pub fn are_digits(whole: &[u8], fraction: &[u8]) -> bool
     ensures { result ≡ are_digits whole.now fraction.now }
 {
     is_optional_run(whole)

@@ -11,6 +11,8 @@ mod time;
 mod value;
 mod write;
 
+pub use decimal::{are_digits, is_optional_run, split_fraction};
+pub use digits::run_length;
 pub use laws::{
     decimals_end_by_the_hundredth, durations_are_times, numbers_are_told, spellings_are_numbers,
     times_are_told,

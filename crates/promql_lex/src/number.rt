@@ -1,12 +1,12 @@
 //! Numbers and durations.
-ghost use Rattle.frac_text.specs.Decimals.{fraction_of, is_optional_run};
-ghost use Rattle.frac_text.specs.Digits.{is_part, is_run};
 ghost use Rattle.promql_lex.specs.Numbers.{bad_kind, begins_exponent, begins_number, begins_unit, begins_with_digit, counts_in_hexadecimal, duration_kind, ends_count, exponent_len, fraction_len, has_unit, has_units, is_mantissa, is_word_byte, mantissa_len, number_kind, point_len, read_kind, run_len, signed_len};
 ghost use Rattle.std.specs.List.{prefix_len};
 ghost use Rattle.std.specs.Prelude.{◌≡◌, ◌≤◌, length, true, false, IsTrue};
 
 use crate::token::TokenKind;
-use frac_text::{NumberRefusal, read_number};
+use frac_text::{
+    NumberRefusal, are_digits, is_optional_run, read_number, run_length, split_fraction,
+};
 use promql_ast::QueryRefusal;
 use ticks::{Ms, TickRefusal, read_duration};
 use xfrac::XFrac;
@@ -27,24 +27,10 @@ pub fn begins_number(byte: u8, bytes: &[u8]) -> bool
     byte.is_ascii_digit() || (byte == b'.' && begins_with_digit(bytes))
 }
 
-fn is_part(byte: u8) -> bool
-    ensures { result ≡ is_part true byte }
-{
-    byte.is_ascii_digit() || byte == b'_'
-}
-
 fn is_word_byte(byte: u8) -> bool
     ensures { result ≡ is_word_byte byte }
 {
     byte.is_ascii_alphanumeric() || byte == b'_'
-}
-
-/// How many digits and underscores stand at the front.
-fn digits_len(text: &[u8]) -> usize
-    ensures is { result ≡ prefix_len (is_part true) text.now }
-    ensures within { result ≤ length text.now }
-{
-    text.iter().take_while(|byte| is_part(**byte)).count()
 }
 
 /// How many letters, digits and underscores stand at the front.
@@ -53,29 +39,6 @@ fn word_len(text: &[u8]) -> usize
     ensures within { result ≤ length text.now }
 {
     text.iter().take_while(|byte| is_word_byte(**byte)).count()
-}
-
-/// Whether a run of digits ends with a digit, and each underscore stands right after a digit.
-fn is_run(text: &[u8]) -> bool
-    ensures { result ≡ is_run false text.now }
-{
-    let mut after = false;
-    for byte in text {
-        if byte.is_ascii_digit() {
-            after = true;
-        } else if after && *byte == b'_' {
-            after = false;
-        } else {
-            return false;
-        }
-    }
-    after
-}
-
-fn is_optional_run(run: &[u8]) -> bool
-    ensures { result ≡ is_optional_run run.now }
-{
-    run.is_empty() || is_run(run)
 }
 
 /// How long a point and the digits behind it are.
@@ -87,7 +50,7 @@ fn fraction_len(text: &[u8]) -> usize
         [] => 0,
         [first, rest @ ..] => {
             if *first == b'.' {
-                1 + digits_len(rest)
+                1 + run_length(rest, true)
             } else {
                 0
             }
@@ -110,35 +73,16 @@ fn mantissa_len(text: &[u8]) -> usize
     ensures is { result ≡ mantissa_len text.now }
     ensures within { result ≤ length text.now }
 {
-    let whole = digits_len(text);
+    let whole = run_length(text, true);
     let (front, back) = text.split_at(whole);
     whole + point_len(front, back)
-}
-
-/// The digits behind a point.
-fn fraction_of(text: &[u8]) -> &[u8]
-    ensures { result.now ≡ fraction_of true text.now }
-{
-    match text {
-        [] => text,
-        [first, rest @ ..] => {
-            if *first == b'.' {
-                rest.split_at(digits_len(rest)).0
-            } else {
-                text.split_at(0).0
-            }
-        }
-    }
 }
 
 fn is_mantissa(text: &[u8]) -> bool
     ensures { result ≡ is_mantissa text.now }
 {
-    let (whole, rest) = text.split_at(digits_len(text));
-    let fraction = fraction_of(rest);
-    is_optional_run(whole)
-        && is_optional_run(fraction)
-        && !(whole.is_empty() && fraction.is_empty())
+    let (whole, rest) = text.split_at(run_length(text, true));
+    are_digits(whole, split_fraction(rest, true).0)
 }
 
 fn begins_exponent(text: &[u8]) -> bool
