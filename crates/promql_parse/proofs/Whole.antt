@@ -63,4 +63,6 @@ module _ (sound : Parts) (known : Known) where
   deep_is_refused end ls e d p lt = all_of end ls e d p ∙ ap (λ b. finished end (b, [])) (is_cut e d lt)
 
   pub one_tree : OneTree
-  one_tree ls e f m n p q le less = same_ok _ _ (sym (in_grammar_is_read 0 ls e m p le) ∙ in_grammar_is_read 0 ls f n q less)
+  one_tree ls e f m n p q le =
+      ⊎_elim (λ lt. no_ok _ _ (sym (deep_is_refused 0 ls f n q lt) ∙ in_grammar_is_read 0 ls e m p le))
+      (λ less. same_ok _ _ (sym (in_grammar_is_read 0 ls e m p le) ∙ in_grammar_is_read 0 ls f n q less)) (cases_lt 128 n)

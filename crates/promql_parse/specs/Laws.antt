@@ -25,8 +25,9 @@ InGrammarIsRead = (end : ℕ) (ls : List Lexeme) (e : Expr) (depth : ℕ) → Is
 abbrev pub DeepIsRefused : Type 0
 DeepIsRefused = (end : ℕ) (ls : List Lexeme) (e : Expr) (depth : ℕ) → IsQuery ls e depth → 128 < depth → reading end ls ≡ Err (TooDeep 0)
 
+-- lexemes that are a tree of at most 128 nodes on its longest path are no other tree, however deep
 abbrev pub OneTree : Type 0
-OneTree = (ls : List Lexeme) (e f : Expr) (m n : ℕ) → IsQuery ls e m → IsQuery ls f n → m ≤ 128 → n ≤ 128 → e ≡ f
+OneTree = (ls : List Lexeme) (e f : Expr) (m n : ℕ) → IsQuery ls e m → IsQuery ls f n → m ≤ 128 → e ≡ f
 
 -- A refusal is final, unless more was expected where the text ends, or the tree of all of it is too deep, which is refused at 0.
 abbrev pub IsFinal : ℕ → QueryRefusal → Type 0

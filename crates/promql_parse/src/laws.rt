@@ -13,7 +13,8 @@ pub fn what_is_read_is_a_query()
     what_is_read_is_a_part();
 }
 
-/// Each query of the grammar is read, unless its tree has more than 128 nodes on its longest path; and it has one tree.
+/// Each query of the grammar is read, unless its tree has more than 128 nodes on its longest path; and one that is read has no
+/// other tree, however deep.
 pub fn each_query_is_read()
     ensures read { InGrammarIsRead }
     ensures deep { DeepIsRefused }
