@@ -1,5 +1,6 @@
 pub mod ArgumentsFound
 pub mod Begins
+pub mod Behind
 pub mod Cuts
 pub mod Found
 pub mod Levels

@@ -94,7 +94,7 @@ module _ (sound : Parts) (known : Known) (end b : ℕ) where
   behind_on : (o next : Made) (ls rest : List Lexeme) → postfix_turn end o ls ≡ Ok (true, next, rest) → behind o ls ≡ behind next rest
   behind_on o next ls rest is = ap (λ (q : Read Made). q >>= λ base. power_behind end opens (operand_built base.0) base.1) (all_on (postfix_turn end) postfix_shrinks o ls next rest is)
 
-  behind_end : (o : Made) (ls : List Lexeme) → postfix_turn end o ls ≡ Ok (false, o, ls) → behind o ls ≡ power_behind end opens (operand_built o) ls
+  pub behind_end : (o : Made) (ls : List Lexeme) → postfix_turn end o ls ≡ Ok (false, o, ls) → behind o ls ≡ power_behind end opens (operand_built o) ls
   behind_end o ls is = ap (λ (q : Read Made). q >>= λ base. power_behind end opens (operand_built base.0) base.1) (all_end (postfix_turn end) postfix_shrinks o ls o ls is)
 
   bracket_goes : (o : Made) (begin : Lexeme) (xs : List Lexeme) (got : Brackets) (rest : List Lexeme) → IsSign LeftBracket begin → IsBrackets begin (is_plain o) xs got
@@ -266,7 +266,7 @@ module _ (sound : Parts) (known : Known) (end : ℕ) where
   whole b (suc level) xs e d reads rest calm = reads rest calm.0 ∙ chain_ends b level (cut e d) rest calm.1
 
   -- what stands between an operator and its right side
-  modifier_read : (op : BinaryOp) (ys zs : List Lexeme) (matching : Matching) (bare : Bool) → BinModifier op ys matching bare → Begins zs → begins_labels bare zs ≡ false → (rest : List Lexeme)
+  pub modifier_read : (op : BinaryOp) (ys zs : List Lexeme) (matching : Matching) (bare : Bool) → BinModifier op ys matching bare → Begins zs → begins_labels bare zs ≡ false → (rest : List Lexeme)
       → matching_at op end (ys ++ (zs ++ rest)) ≡ Ok (matching, zs ++ rest)
   modifier_read op ys zs matching bare is begins_so apart rest =
       let same : zs ++ rest ≡ begins_so.first ∷ begins_so.behind ++ rest = ap (λ z. z ++ rest) begins_so.split in
@@ -537,7 +537,7 @@ module _ (sound : Parts) (known : Known) (end : ℕ) where
       ∙ ap (λ (q : Read Built). q >>= λ right. Ok (binary (Arith Pow) matching base right.0, right.1)) right
 
   -- before `^`
-  caret_quiet : (o : Made) (caret : Lexeme) (ls : List Lexeme) → IsSign Caret caret → postfix_turn end o (caret ∷ ls) ≡ Ok (false, o, caret ∷ ls)
+  pub caret_quiet : (o : Made) (caret : Lexeme) (ls : List Lexeme) → IsSign Caret caret → postfix_turn end o (caret ∷ ls) ≡ Ok (false, o, caret ∷ ls)
   caret_quiet o caret ls is = ap (λ k. postfix_kind end o k (caret ∷ ls)) is
 
   powered : (b : ℕ) (term : Term) (offset : Option Ms) (fixed : Option Fixed) (us xs ys zs : List Lexeme) (at m n : ℕ) (r : Expr) (matching : Matching) (bare : Bool) (caret : Lexeme)
@@ -607,7 +607,7 @@ module _ (sound : Parts) (known : Known) (end : ℕ) where
     arguments_read (ArgumentList.more {b = b} {m = m} {n = n} {us = us} {xs = xs} {ys = ys} {es = es} {e = e} c list comma p split) =
         longer_read b us xs ys es e m n c (arguments_read list) comma (phrase_reads p) split
 
-    operand_reads : {b at d : ℕ} {term : Term} {offset : Option Ms} {fixed : Option Fixed} {xs : List Lexeme} → Operand b term offset fixed xs at d → OperandIs b term offset fixed xs at d
+    pub operand_reads : {b at d : ℕ} {term : Term} {offset : Option Ms} {fixed : Option Fixed} {xs : List Lexeme} → Operand b term offset fixed xs at d → OperandIs b term offset fixed xs at d
     operand_reads (Operand.selector {b = b} is) = selected_read sound known end b is
     operand_reads (Operand.primary {b = b} is) = primary_reads is
     operand_reads (Operand.range {b = b} {at = at} {d = d} {us = us} {xs = xs} {ys = ys} {rules = rules} {length = length} p range split) =

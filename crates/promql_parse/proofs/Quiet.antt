@@ -84,7 +84,7 @@ module _ (end : ℕ) where
   calm_quiet zero ls calm = calm
   calm_quiet (suc level) ls calm = calm_quiet level ls calm.0
 
-  calm_by : (ls : List Lexeme) → Quiet ls → (level : ℕ) → ((k : ℕ) → k < suc level → op_at k ls ≡ None) → Calm level ls
+  pub calm_by : (ls : List Lexeme) → Quiet ls → (level : ℕ) → ((k : ℕ) → k < suc level → op_at k ls ≡ None) → Calm level ls
   calm_by ls quiet zero none = quiet
   calm_by ls quiet (suc level) none = (calm_by ls quiet level (λ k lt. none k (omega (arith, lt))), none (suc level) (omega arith))
 

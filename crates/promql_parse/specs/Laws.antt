@@ -1,19 +1,24 @@
 -- How the reader and the grammar are tied: what is read is in the grammar, what is in the grammar is read, unless its tree is
 -- too deep, there is one tree at most, and a refusal stands whatever follows the lexemes that are refused. And what is known of
 -- each tree of the grammar: its parts lie within limits, which are this project's own, and how deep it is.
-use Rattle.std.specs.Prelude.{◌≡◌, ◌≤◌, ◌<◌, ℕ, false, List, ◌++◌, Ok, Err}
+use Rattle.std.specs.Prelude.{◌≡◌, ◌≤◌, ◌<◌, ℕ, Bool, true, false, List, ◌∷◌, ◌++◌, Ok, Err}
 use Rattle.frac_text.specs.Times.{time_limit}
 use Rattle.match_rule.specs.Patterns.{HaveTheirPatterns}
 use Rattle.promql_ast.specs.Depth.{depth}
 use Rattle.promql_ast.specs.Edged.{edged}
 use Rattle.promql_ast.specs.Parts.{AreWithin, parts_of}
 use Rattle.promql_ast.specs.declared.refusal.QueryRefusal.{QueryRefusal}
-use Rattle.promql_ast.specs.declared.refusal.QueryRefusal.TheVariants.{Expected, TooDeep}
+use Rattle.promql_ast.specs.declared.refusal.QueryRefusal.TheVariants.{Expected, RefusedFunction, TooDeep}
 use Rattle.promql_ast.specs.declared.tree.Expr.{Expr}
 use Rattle.promql_parse.specs.Grammar.{IsQuery}
 use Rattle.promql_parse.specs.Reading.{reading}
+use Rattle.promql_lex.specs.declared.word.Word.TheVariants.{And, Or, Unless, By, Without, Offset, Atan2}
 use Rattle.promql_parts.specs.Patterned.{HavePatterns, Kept}
+use Rattle.promql_parts.specs.Reads.{refused}
 use Rattle.promql_parts.specs.declared.lexeme.Lexeme.{Lexeme}
+use Rattle.promql_parts.specs.declared.lexeme.LexemeKind.{LexemeKind}
+use Rattle.promql_parts.specs.declared.lexeme.LexemeKind.TheVariants as kinds
+use Rattle.promql_parts.specs.declared.lexeme.Sign.TheVariants.{LeftParen, LeftBrace, LeftBracket, AtSign, Plus, Minus, Star, Slash, Percent, Caret, EqualTwice, Unequal, Less, LessEqual, Greater, GreaterEqual}
 use Rattle.ticks.specs.Durations.{hundred_years}
 
 abbrev pub ReadIsInGrammar : Type 0
@@ -40,6 +45,44 @@ RefusalStands = (end last : ℕ) (ls more : List Lexeme) (refusal : QueryRefusal
 -- no query begins with lexemes that are refused so
 abbrev pub NoQueryBeginsSo : Type 0
 NoQueryBeginsSo = (end : ℕ) (ls more : List Lexeme) (refusal : QueryRefusal) → reading end ls ≡ Err refusal → IsFinal end refusal → (e : Expr) (depth : ℕ) → IsQuery (ls ++ more) e depth → ⊥
+
+-- what may go on with a query, behind it or behind its last part: what opens with a parenthesis, a brace or a bracket, a grouping, an
+-- offset, a fixed time, or an operator
+abbrev pub goes_on : LexemeKind → Bool
+goes_on (kinds.Sign LeftParen) = true
+goes_on (kinds.Sign LeftBrace) = true
+goes_on (kinds.Sign LeftBracket) = true
+goes_on (kinds.Sign AtSign) = true
+goes_on (kinds.Sign Plus) = true
+goes_on (kinds.Sign Minus) = true
+goes_on (kinds.Sign Star) = true
+goes_on (kinds.Sign Slash) = true
+goes_on (kinds.Sign Percent) = true
+goes_on (kinds.Sign Caret) = true
+goes_on (kinds.Sign EqualTwice) = true
+goes_on (kinds.Sign Unequal) = true
+goes_on (kinds.Sign Less) = true
+goes_on (kinds.Sign LessEqual) = true
+goes_on (kinds.Sign Greater) = true
+goes_on (kinds.Sign GreaterEqual) = true
+goes_on (kinds.Word By spelling) = true
+goes_on (kinds.Word Without spelling) = true
+goes_on (kinds.Word Offset spelling) = true
+goes_on (kinds.Word And spelling) = true
+goes_on (kinds.Word Or spelling) = true
+goes_on (kinds.Word Unless spelling) = true
+goes_on _ = false
+
+-- the refusal of a lexeme that doesn't: the operator that PromQL has and this engine refuses by its name, and else that of the
+-- lexeme, which is Expected unless its spelling is refused
+abbrev pub refusal_behind : Lexeme → LexemeKind → QueryRefusal
+refusal_behind l (kinds.Word Atan2 spelling) = RefusedFunction l.at spelling
+refusal_behind l _ = refused l
+
+-- a query behind which a lexeme stands that doesn't go on with it is refused at that lexeme, whatever follows
+abbrev pub RefusedBehind : Type 0
+RefusedBehind =
+    (end : ℕ) (ls more : List Lexeme) (e : Expr) (depth : ℕ) (l : Lexeme) → IsQuery ls e depth → goes_on l.kind ≡ false → reading end (ls ++ l ∷ more) ≡ Err (refusal_behind l l.kind)
 
 -- lengths are positive and at most 100 years, offsets at most 100 years and fixed times at most 10^14 milliseconds from 0, and
 -- each rule with a pattern has it kept, where the lexemes have theirs

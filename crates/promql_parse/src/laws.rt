@@ -1,5 +1,5 @@
 //! Laws of the reader and the grammar.
-ghost use Rattle.promql_parse.specs.Laws.{DeepIsRefused, DepthsAreTold, InGrammarIsRead, NoQueryBeginsSo, OneTree, QueriesAreOpen, QueriesAreWithin, ReadIsInGrammar, RefusalStands};
+ghost use Rattle.promql_parse.specs.Laws.{DeepIsRefused, DepthsAreTold, InGrammarIsRead, NoQueryBeginsSo, OneTree, QueriesAreOpen, QueriesAreWithin, ReadIsInGrammar, RefusalStands, RefusedBehind};
 
 use promql_ast::edged_trees_stay;
 use promql_parts::{
@@ -33,6 +33,15 @@ pub fn refusals_stand()
     what_is_read_is_a_part();
     each_part_is_read();
     refusals_of_parts_stand();
+}
+
+/// A query behind which a lexeme stands that doesn't go on with it is refused at that lexeme, whatever follows: `atan2` by its name,
+/// and any other one by its own refusal or as one where something else was expected.
+pub fn what_no_query_goes_on_with_is_refused()
+    ensures { RefusedBehind }
+{
+    what_is_read_is_a_part();
+    each_part_is_read();
 }
 
 /// The parts of each query of the grammar lie within the limits, and the nodes on its longest path are as many as the grammar
