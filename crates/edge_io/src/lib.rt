@@ -1,4 +1,5 @@
 //! The outside of the tool: where files come from, and where the report goes.
+//! Its rows of tests stand in `store_tests`.
 #![tactic(auto)]
 
 mod library;

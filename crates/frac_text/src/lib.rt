@@ -1,4 +1,5 @@
 //! Texts of numbers and times.
+//! Its rows of tests stand in `number_tests`.
 #![tactic(auto)]
 
 mod decimal;

@@ -1,4 +1,5 @@
 //! The names of PromQL: set operators, functions and aggregations, and what a function's name stands for.
+//! Its rows of tests stand in `number_tests`.
 #![tactic(auto)]
 
 mod names;

@@ -1,5 +1,6 @@
 //! A text, a list and a box, which contracts see as what they hold: its bytes, its items, its value.
 //! Copies are equal to what they copy, wherever the two lie in memory.
+//! Its rows of tests stand in `number_tests`.
 #![tactic(auto)]
 
 mod boxed;

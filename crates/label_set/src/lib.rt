@@ -1,5 +1,6 @@
 //! Labels, which name a series: distinct pairs of a name and a value, in byte order of the names. With them the data
 //! types that speak of labels: rules, groupings, pairings and changes of labels.
+//! Its rows of tests stand in `store_tests`.
 #![tactic(auto)]
 
 mod label_text;

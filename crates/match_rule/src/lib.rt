@@ -1,4 +1,5 @@
 //! Patterns, kept built under numbers, and the rules that test a label's value.
+//! Its rows of tests stand in `store_tests`.
 #![tactic(auto)]
 
 mod matcher;

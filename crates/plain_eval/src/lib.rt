@@ -1,4 +1,5 @@
 //! The meaning of a typed query at an instant, and its result over a grid, computed from the tree and the store.
+//! Its rows of tests are the scripts of `tests/scripts`.
 #![tactic(auto)]
 
 mod aggregates;

@@ -1,4 +1,5 @@
 //! The tree of a query, and why a query's text is refused.
+//! Its rows of tests stand in `language_tests`.
 #![tactic(auto)]
 
 mod edged;

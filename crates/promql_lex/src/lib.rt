@@ -1,4 +1,5 @@
 //! The tokens of a query's text.
+//! Its rows of tests stand in `language_tests`.
 #![tactic(auto)]
 
 mod cut;

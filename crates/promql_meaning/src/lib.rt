@@ -1,5 +1,6 @@
 //! What a query means at an instant and over a grid: the definitions, in the words of the Prometheus querying documentation,
 //! the types of a result, and the calls on steps that stand beside them.
+//! Its rows of tests stand in `table_tests`.
 #![tactic(auto)]
 
 mod aggregates;

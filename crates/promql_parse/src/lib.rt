@@ -1,4 +1,5 @@
 //! The trees of queries, by the grammar of the Prometheus querying documentation.
+//! Its rows of tests stand in `language_tests`.
 #![tactic(auto)]
 
 mod build;

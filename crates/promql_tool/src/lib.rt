@@ -1,4 +1,5 @@
 //! The runner for promqltest scripts, as one call over words, files and a sink.
+//! Its rows of tests stand in `program_tests`.
 #![tactic(auto)]
 
 mod fault;

@@ -1,4 +1,5 @@
 //! The types of queries: what an expression gives, and why a query that can be read is refused all the same.
+//! Its rows of tests stand in `language_tests`.
 #![tactic(auto)]
 
 mod checking;

@@ -1,4 +1,5 @@
 //! Whether the outcome of an evaluation is what a script expects of it, and the texts of outcomes and notes.
+//! Its rows of tests stand in `script_tests`.
 #![tactic(auto)]
 
 mod beside;

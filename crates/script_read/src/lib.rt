@@ -1,4 +1,5 @@
 //! Scripts of the promqltest format, read from the bytes of a file.
+//! Its rows of tests stand in `script_tests`.
 #![tactic(auto)]
 
 mod command;

@@ -1,5 +1,6 @@
 //! Steps: what an expression gives at one instant, as a table of rows with notes and marks, and the rules between two
 //! vectors.
+//! Its rows of tests stand in `table_tests`.
 #![tactic(auto)]
 
 mod cells;

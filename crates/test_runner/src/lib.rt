@@ -1,5 +1,6 @@
 //! Running a promqltest script: its loads, and the line of the verdict of each of its evaluations; and answering a query over
 //! what it loads.
+//! Its rows of tests stand in `program_tests`.
 #![tactic(auto)]
 
 mod answering;

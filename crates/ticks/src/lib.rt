@@ -1,4 +1,5 @@
 //! Times and durations, in whole milliseconds.
+//! Its rows of tests stand in its module `tests`.
 #![tactic(auto)]
 
 mod edge;

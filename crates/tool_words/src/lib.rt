@@ -1,4 +1,5 @@
 //! The words of the program: the command that they name, and what it is asked for.
+//! Its rows of tests stand in `program_tests`.
 #![tactic(auto)]
 
 mod asked;

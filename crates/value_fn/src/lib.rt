@@ -1,4 +1,5 @@
 //! The functions of one value at a time, on exact numbers.
+//! Its rows of tests stand in `number_tests`.
 #![tactic(auto)]
 
 mod formulas;

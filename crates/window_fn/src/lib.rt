@@ -1,4 +1,5 @@
 //! The functions over the samples in a window, and the aggregations over values, on exact numbers.
+//! Its rows of tests stand in `number_tests`.
 #![tactic(auto)]
 
 pub mod aggregates;

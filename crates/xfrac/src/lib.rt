@@ -1,4 +1,5 @@
 //! Exact numbers: fractions within a fixed limit, the two infinities and NaN.
+//! Its rows of tests stand in `number_tests`.
 #![tactic(auto)]
 
 mod arithmetic;
