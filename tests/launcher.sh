@@ -94,8 +94,8 @@ part 'what is printed while it builds'
 checkout "$at"
 wanted 'the report' "$good" "$(report "$at")"
 wanted 'the lines' 'promqltest: the 2 crates are proved first, once
-promqltest: proved low in 0 minutes, 1 of 2 after 0 minutes
-promqltest: proved promql in 0 minutes, 2 of 2 after 0 minutes' "$(sed 's/once: .*/once/; s/[0-9]\.[0-9] minutes/0 minutes/g' "$room/said")"
+promqltest: proved low, 1 of 2, after 0 minutes
+promqltest: proved promql, 2 of 2, after 0 minutes' "$(sed 's/once: .*/once/; s/[0-9]\.[0-9] minutes/0 minutes/g' "$room/said")"
 wanted 'the second report' "$good" "$(report "$at")"
 wanted 'its lines' '' "$(cat "$room/said")"
 wanted 'builds' 1 "$(builds)"

@@ -75,7 +75,7 @@ minutes_since() {
 # Proves all crates, each as soon as those below it are proved.
 prove_all() {
     local most running=0 proved=0 crate name code first=$SECONDS
-    declare -A state=() begun=()
+    declare -A state=()
     most=$(lanes)
     for crate in "${crates[@]}"; do state[${crate%%:*}]=waits; done
     while :; do
@@ -83,7 +83,6 @@ prove_all() {
             name=${crate%%:*}
             if [ "${state[$name]}" = waits ] && [ "$running" -lt "$most" ] && is_ready "$crate"; then
                 state[$name]=runs
-                begun[$name]=$SECONDS
                 running=$((running + 1))
                 (prove "$name") 9>&- &
             fi
@@ -98,7 +97,7 @@ prove_all() {
             code=$(cat "$room/$name.ended")
             if is_good "$name" "$code"; then
                 state[$name]=proved
-                say "proved $name in $(minutes_since "${begun[$name]}"), $proved of ${#crates[@]} after $(minutes_since "$first")"
+                say "proved $name, $proved of ${#crates[@]}, after $(minutes_since "$first")"
                 [ "$name" = promql ] && return
                 continue
             fi
