@@ -1,0 +1,4 @@
+pub mod Calendar
+pub mod Parts
+pub mod Jiff
+pub mod Laws
