@@ -87,7 +87,59 @@ clamp_max 3/1 2/1 nan 2/1
 clamp_max nan 2/1 nan nan
 clamp_max 2/1 nan nan nan
 clamp_max inf 2/1 nan 2/1
-clamp_max 2/1 -inf nan -inf";
+clamp_max 2/1 -inf nan -inf
+day_of_month -62135596800/1 nan nan 1/1
+day_of_week -62135596800/1 nan nan 1/1
+day_of_year -62135596800/1 nan nan 1/1
+days_in_month -62135596800/1 nan nan 31/1
+hour -62135596800/1 nan nan 0/1
+minute -62135596800/1 nan nan 0/1
+month -62135596800/1 nan nan 1/1
+year -62135596800/1 nan nan 1/1
+day_of_month 253402300799/1 nan nan 31/1
+day_of_week 253402300799/1 nan nan 5/1
+day_of_year 253402300799/1 nan nan 365/1
+days_in_month 253402300799/1 nan nan 31/1
+hour 253402300799/1 nan nan 23/1
+minute 253402300799/1 nan nan 59/1
+month 253402300799/1 nan nan 12/1
+year 253402300799/1 nan nan 9999/1
+day_of_month 0/1 nan nan 1/1
+day_of_week 0/1 nan nan 4/1
+day_of_year 0/1 nan nan 1/1
+days_in_month 0/1 nan nan 31/1
+hour 0/1 nan nan 0/1
+minute 0/1 nan nan 0/1
+month 0/1 nan nan 1/1
+year 0/1 nan nan 1970/1
+day_of_month -1/1 nan nan 31/1
+day_of_week -1/1 nan nan 3/1
+day_of_year -1/1 nan nan 365/1
+days_in_month -1/1 nan nan 31/1
+hour -1/1 nan nan 23/1
+minute -1/1 nan nan 59/1
+month -1/1 nan nan 12/1
+year -1/1 nan nan 1969/1
+day_of_month 951868799/1 nan nan 29/1
+day_of_week 951868799/1 nan nan 2/1
+day_of_year 951868799/1 nan nan 60/1
+days_in_month 951868799/1 nan nan 29/1
+hour 951868799/1 nan nan 23/1
+minute 951868799/1 nan nan 59/1
+month 951868799/1 nan nan 2/1
+year 951868799/1 nan nan 2000/1
+year -62135596801/1 nan nan outside
+hour 253402300800/1 nan nan outside
+minute inf nan nan outside
+day_of_week -inf nan nan outside
+month nan nan nan outside
+days_in_month 1000000000000000000000000000000/1 nan nan outside
+year 506804601599/2 nan nan 9999/1
+year -124271193601/2 nan nan 1/1
+hour -1/2 nan nan 0/1
+hour -1/1 nan nan 23/1
+minute -3/2 nan nan 59/1
+day_of_year 172799/2 nan nan 1/1";
 
 fn function(name: &str) -> Result<Element, Fail> {
     if name == "-" {
@@ -102,6 +154,9 @@ fn function(name: &str) -> Result<Element, Fail> {
 fn answer(text: &str) -> Result<Result<Option<XFrac>, NumFault>, Fail> {
     if text == "overflow" {
         return Ok(Err(NumFault::Overflow));
+    }
+    if text == "outside" {
+        return Ok(Err(NumFault::OutOfCalendar));
     }
     if text == "none" {
         return Ok(Ok(None));
@@ -120,6 +175,6 @@ fn elements(rt: HostRuntime) -> Result<(), Fail> {
         let wanted = answer(words.next().ok_or("no answer")?)?;
         assert_eq!(rt; element(f, &v, &first, &second), wanted, "{line}");
     }
-    assert_eq!(rt; CALLS.lines().count(), 80);
+    assert_eq!(rt; CALLS.lines().count(), 132);
     Ok(())
 }

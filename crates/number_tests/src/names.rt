@@ -13,10 +13,15 @@ clamp Known(Element(Clamp))
 clamp_max Known(Element(ClampMax))
 clamp_min Known(Element(ClampMin))
 count_over_time Known(Window(CountOver))
+day_of_month Known(Element(Calendar(DayOfMonth)))
+day_of_week Known(Element(Calendar(DayOfWeek)))
+day_of_year Known(Element(Calendar(DayOfYear)))
+days_in_month Known(Element(Calendar(DaysInMonth)))
 delta Known(Window(Delta))
 deriv Known(Window(Deriv))
 floor Known(Element(Floor))
 histogram_quantile Known(HistogramQuantile)
+hour Known(Element(Calendar(Hour)))
 idelta Known(Window(Idelta))
 increase Known(Window(Increase))
 irate Known(Window(Irate))
@@ -25,6 +30,8 @@ label_replace Known(LabelReplace)
 last_over_time Known(Window(LastOver))
 max_over_time Known(Window(MaxOver))
 min_over_time Known(Window(MinOver))
+minute Known(Element(Calendar(Minute)))
+month Known(Element(Calendar(Month)))
 predict_linear Known(Window(PredictLinear))
 present_over_time Known(Window(PresentOver))
 quantile_over_time Known(Window(QuantileOver))
@@ -40,6 +47,7 @@ sum_over_time Known(Window(SumOver))
 time Known(Time)
 timestamp Known(Timestamp)
 vector Known(Vector)
+year Known(Element(Calendar(Year)))
 exp Refused
 ln Refused
 log2 Refused
@@ -80,14 +88,6 @@ ts_of_first_over_time Refused
 ts_of_last_over_time Refused
 ts_of_max_over_time Refused
 ts_of_min_over_time Refused
-day_of_month Refused
-day_of_week Refused
-day_of_year Refused
-days_in_month Refused
-hour Refused
-minute Refused
-month Refused
-year Refused
  Unknown
 Sum Unknown
 rates Unknown

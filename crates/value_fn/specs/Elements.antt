@@ -1,9 +1,13 @@
 -- The element functions. (The Prometheus querying documentation, on exact numbers: the order of the operations, and so where they overflow, is this project's own.)
-use Rattle.std.specs.Prelude.{◌≡◌, ℕ, ◌≤◌, ℤ, pos, ◌*ℤ◌, ◌≤ℤ◌, ◌<ℤ◌, ◌||◌, false, Option, Some, None, Result, Ok, if◌then◌else◌}
+use Rattle.std.specs.Prelude.{◌≡◌, ℕ, ◌≤◌, ℤ, pos, ◌*ℤ◌, ◌≤ℤ◌, ◌<ℤ◌, ◌||◌, not, Bool, true, false, int_div, Option, Some, None, Result, Ok, if◌then◌else◌}
 use Rattle.std.specs.declared.cmp.Ordering.{Ordering}
 use Rattle.std.specs.declared.cmp.Ordering.TheVariants.{Less, Equal, Greater}
+use Rattle.std.specs.Option.{ok_or, option_and_then, option_map}
+use Rattle.calendar_fn.specs.Parts.{is_in_calendar, day_of_month_at, day_of_week_at, day_of_year_at, days_in_month_at, hour_at, minute_at, month_at, year_at}
+use Rattle.func_table.specs.declared.table.CalendarPart.{CalendarPart}
+use Rattle.func_table.specs.declared.table.CalendarPart.TheVariants.{DayOfMonth, DayOfWeek, DayOfYear, DaysInMonth, Hour, Minute, Month, Year}
 use Rattle.func_table.specs.declared.table.Element.{Element}
-use Rattle.func_table.specs.declared.table.Element.TheVariants.{Abs, Ceil, Floor, Round, Sgn, Neg, Clamp, ClampMin, ClampMax}
+use Rattle.func_table.specs.declared.table.Element.TheVariants.{Abs, Ceil, Floor, Round, Sgn, Neg, Clamp, ClampMin, ClampMax, Calendar}
 use Rattle.xfrac.specs.Arithmetic.{arithmetic, whole_number}
 use Rattle.xfrac.specs.Forming.{negated, magnitude, floor_of, ceiling_of}
 use Rattle.xfrac.specs.Kinds.{is_not_a_number}
@@ -14,6 +18,7 @@ use Rattle.xfrac.specs.Sequencing.{◌>>=◌}
 use Rattle.xfrac.specs.declared.value.ArithOp.TheVariants.{Add, Mul, Div}
 use Rattle.xfrac.specs.declared.value.CompareOp.TheVariants.{Lt, Gt}
 use Rattle.xfrac.specs.declared.value.NumFault.{NumFault}
+use Rattle.xfrac.specs.declared.value.NumFault.TheVariants.{Overflow, OutOfCalendar}
 use Rattle.xfrac.specs.declared.value.XFrac.{XFrac}
 use Rattle.xfrac.specs.declared.value.XFrac.TheVariants.{Fin, NaN}
 
@@ -61,6 +66,34 @@ clamped v low high =
     else if compares Gt v high then Some high
     else Some v
 
+-- ---- the calendar
+
+-- a part of the time so many seconds after the beginning of 1970-01-01
+abbrev pub part_at : CalendarPart → ℤ → Option ℕ
+part_at DayOfMonth = day_of_month_at
+part_at DayOfWeek = day_of_week_at
+part_at DayOfYear = day_of_year_at
+part_at DaysInMonth = days_in_month_at
+part_at Hour = hour_at
+part_at Minute = minute_at
+part_at Month = month_at
+part_at Year = year_at
+
+-- the whole seconds of a finite number, which is cut towards 0
+abbrev pub whole_seconds : XFrac → Option ℤ
+whole_seconds (Fin f) = Some (int_div f.0 (pos f.1))
+whole_seconds _ = None
+
+-- a part of the time that a number of seconds is
+abbrev pub calendar_part : CalendarPart → XFrac → Result XFrac NumFault
+calendar_part part v =
+    ok_or (option_map whole_number (option_and_then (part_at part) (whole_seconds v))) OutOfCalendar
+
+-- whether a number is no time in the years 1 to 9999
+abbrev pub is_out_of_calendar : XFrac → Bool
+is_out_of_calendar (Fin f) = not (is_in_calendar (int_div f.0 (pos f.1)))
+is_out_of_calendar _ = true
+
 -- ---- all element functions
 
 -- a function's value, or that there is no row; `first` is what is rounded to or a bound, `second` the upper bound of a clamp
@@ -74,6 +107,17 @@ element_of Neg v first second = Ok (Some (negated v))
 element_of Clamp v first second = Ok (clamped v first second)
 element_of ClampMin v first second = Ok (Some (raised v first))
 element_of ClampMax v first second = Ok (Some (lowered v first))
+element_of (Calendar part) v first second = calendar_part part v >>= λ value. Ok (Some value)
+
+abbrev pub is_calendar : Element → Bool
+is_calendar (Calendar part) = true
+is_calendar _ = false
+
+-- the faults that a function may have: rounding overflows, and a calendar function is outside the calendar
+abbrev pub MayFail : Element → NumFault → Type 0
+MayFail Round fault = fault ≡ Overflow
+MayFail (Calendar part) fault = fault ≡ OutOfCalendar
+MayFail f fault = ⊥
 
 -- ---- what users rely on
 

@@ -2,6 +2,7 @@
 ghost use Rattle.value_fn.specs.Elements.{ClampIsBothHalves, RoundingIsNearest};
 ghost use Rattle.value_fn.specs.NumberLaws.{ElementIsNumber};
 
+use calendar_fn::parts_are_within;
 use xfrac::laws::{
     arithmetic_gives_numbers, floor_is_greatest, lowest_terms_are_lowest, rounding_gives_numbers,
     sum_is_exact, sums_are_numbers,
@@ -28,4 +29,5 @@ pub fn elements_are_numbers()
     arithmetic_gives_numbers();
     sums_are_numbers();
     rounding_gives_numbers();
+    parts_are_within();
 }
