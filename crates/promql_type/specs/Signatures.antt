@@ -6,7 +6,7 @@ use Rattle.func_table.specs.declared.table.Element.{Element as ElementFunction}
 use Rattle.func_table.specs.declared.table.Window.{Window as WindowFunction}
 use Rattle.func_table.specs.declared.table.Aggregate.{Aggregate}
 use Rattle.func_table.specs.declared.table.Func.TheVariants.{Element, Window, Absent, AbsentOver, HistogramQuantile, LabelJoin, LabelReplace, Scalar as ToScalar, Sort, SortDesc, Time, Timestamp, Vector as ToVector}
-use Rattle.func_table.specs.declared.table.Element.TheVariants.{Abs, Ceil, Floor, Round, Sgn, Neg, Clamp, ClampMin, ClampMax}
+use Rattle.func_table.specs.declared.table.Element.TheVariants.{Abs, Ceil, Floor, Round, Sgn, Neg, Clamp, ClampMin, ClampMax, Calendar}
 use Rattle.func_table.specs.declared.table.Window.TheVariants.{Rate, Increase, Delta, Irate, Idelta, Deriv, PredictLinear, Changes, Resets, AvgOver, MinOver, MaxOver, SumOver, CountOver, StdvarOver, QuantileOver, LastOver, PresentOver}
 use Rattle.func_table.specs.declared.table.Aggregate.TheVariants.{Sum, Avg, Min, Max, Count, Group, Stdvar, TopK, BottomK, Quantile, CountValues}
 use Rattle.promql_type.specs.declared.kind.Kind.{Kind}
@@ -36,6 +36,7 @@ signature (Function (Element Neg)) = from (Vector ∷ []) Vector
 signature (Function (Element Clamp)) = from (Vector ∷ Scalar ∷ Scalar ∷ []) Vector
 signature (Function (Element ClampMin)) = from (Vector ∷ Scalar ∷ []) Vector
 signature (Function (Element ClampMax)) = from (Vector ∷ Scalar ∷ []) Vector
+signature (Function (Element (Calendar part))) = record { takes = []; more = Once Vector; gives = Vector }
 signature (Function Sort) = from (Vector ∷ []) Vector
 signature (Function SortDesc) = from (Vector ∷ []) Vector
 signature (Function Timestamp) = from (Vector ∷ []) Vector

@@ -70,6 +70,11 @@ fn element(function: Element) -> Row
         },
         Element::Clamp => from(&[Kind::Vector, Kind::Scalar, Kind::Scalar], Kind::Vector),
         Element::ClampMin | Element::ClampMax => from(&[Kind::Vector, Kind::Scalar], Kind::Vector),
+        Element::Calendar(_) => Row {
+            takes: &[],
+            more: More::Once(Kind::Vector),
+            gives: Kind::Vector,
+        },
     }
 }
 
