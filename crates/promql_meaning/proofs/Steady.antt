@@ -1,8 +1,10 @@
 -- What doesn't depend on the instant.
-use Rattle.std.proofs.Common.{◌≡◌, ◌∙◌, ℕ, Bool, true, false, cond, List, [], ◌∷◌, map, refl, sym, ap, subst, Option, Some, None}
+use Rattle.std.proofs.Common.{◌≡◌, ◌∙◌, ℕ, suc, Bool, true, false, cond, List, [], ◌∷◌, map, length, arith, refl, sym, ap, subst, Option, Some, None}
 use Rattle.std.specs.Prelude.{ℤ, ◌&&◌, ◌-ℤ◌}
 use Rattle.func_table.specs.declared.table.Func.{Func}
 use Rattle.func_table.specs.declared.table.Func.TheVariants as func
+use Rattle.func_table.specs.declared.table.Element.{Element}
+use Rattle.func_table.specs.declared.table.Element.TheVariants as element
 use Rattle.func_table.specs.declared.table.Window.{Window as WindowFunction}
 use Rattle.func_table.specs.declared.table.Window.TheVariants as window
 use Rattle.promql_ast.specs.declared.tree.Expr.{Expr}
@@ -19,8 +21,8 @@ use Rattle.xfrac.specs.declared.value.XFrac.{XFrac}
 use Rattle.promql_meaning.specs.declared.given.Given.{Given}
 use Rattle.promql_meaning.specs.declared.given.Given.TheVariants as given
 use Rattle.promql_meaning.specs.declared.given.Windows.{Windows}
-use Rattle.promql_meaning.specs.Steadiness.{MeaningStays, all_hold, has_fixed, is_steady, node_steady, steady_call, steady_window}
-use Rattle.promql_meaning.specs.Meaning.{aggregation, argument, called, given_at, meaning, negation, node_meaning, operation, over_windows, over_windows_with, ranged, step_at, zero_number}
+use Rattle.promql_meaning.specs.Steadiness.{MeaningStays, all_hold, has_fixed, is_steady, node_steady, steady_call, steady_element, steady_window}
+use Rattle.promql_meaning.specs.Meaning.{aggregation, applied, argument, called, completed, given_at, meaning, negation, node_meaning, operation, over_windows, over_windows_with, ranged, step_at, zero_number}
 use Rattle.promql_meaning.specs.Ranges.{windowed}
 use Rattle.promql_meaning.specs.Selecting.{Asked, base_of, moment_of, newest_rows, passing, window_rows}
 use Rattle.promql_meaning.specs.Subqueries.{points_of}
@@ -86,20 +88,35 @@ ranged_stays window.QuantileOver t u gs h = over_stays_with window.QuantileOver 
 ranged_stays window.LastOver t u gs h = over_stays window.LastOver t u (argument gs 0) (λ e. absurd (cc))
 ranged_stays window.PresentOver t u gs h = over_stays window.PresentOver t u (argument gs 0) (λ e. absurd (cc))
 
-called_stays : (f : Func) (gs : List Given) (t u : ℤ) → steady_call f ≡ true → called f gs t ≡ called f gs u
-called_stays (func.Element f) gs t u h = refl
-called_stays (func.Window f) gs t u h = ap given.Vector (ranged_stays f t u gs h)
-called_stays func.Time gs t u h = absurd (cc)
-called_stays func.Timestamp gs t u h = absurd (cc)
-called_stays func.Absent gs t u h = refl
-called_stays func.AbsentOver gs t u h = refl
-called_stays func.HistogramQuantile gs t u h = refl
-called_stays func.LabelJoin gs t u h = refl
-called_stays func.LabelReplace gs t u h = refl
-called_stays func.Scalar gs t u h = refl
-called_stays func.Sort gs t u h = refl
-called_stays func.SortDesc gs t u h = refl
-called_stays func.Vector gs t u h = refl
+-- the list of the arguments' meanings is as long as that of what is said of them
+element_stays : (f : Element) (bools : List Bool) (gs : List Given) (t u : ℤ) → length bools ≡ length gs → steady_element f bools ≡ true → completed f gs t ≡ completed f gs u
+element_stays (element.Calendar part) [] gs t u same h = absurd (cc)
+element_stays (element.Calendar part) (b ∷ bs) [] t u same h = absurd (omega arith)
+element_stays (element.Calendar part) (b ∷ bs) (g ∷ gs) t u same h = refl
+element_stays element.Abs bools gs t u same h = refl
+element_stays element.Ceil bools gs t u same h = refl
+element_stays element.Floor bools gs t u same h = refl
+element_stays element.Round bools gs t u same h = refl
+element_stays element.Sgn bools gs t u same h = refl
+element_stays element.Neg bools gs t u same h = refl
+element_stays element.Clamp bools gs t u same h = refl
+element_stays element.ClampMin bools gs t u same h = refl
+element_stays element.ClampMax bools gs t u same h = refl
+
+called_stays : (f : Func) (bools : List Bool) (gs : List Given) (t u : ℤ) → length bools ≡ length gs → steady_call f bools ≡ true → called f gs t ≡ called f gs u
+called_stays (func.Element f) bools gs t u same h = ap (λ all. given.Vector (applied f all)) (element_stays f bools gs t u same h)
+called_stays (func.Window f) bools gs t u same h = ap given.Vector (ranged_stays f t u gs h)
+called_stays func.Time bools gs t u same h = absurd (cc)
+called_stays func.Timestamp bools gs t u same h = absurd (cc)
+called_stays func.Absent bools gs t u same h = refl
+called_stays func.AbsentOver bools gs t u same h = refl
+called_stays func.HistogramQuantile bools gs t u same h = refl
+called_stays func.LabelJoin bools gs t u same h = refl
+called_stays func.LabelReplace bools gs t u same h = refl
+called_stays func.Scalar bools gs t u same h = refl
+called_stays func.Sort bools gs t u same h = refl
+called_stays func.SortDesc bools gs t u same h = refl
+called_stays func.Vector bools gs t u same h = refl
 
 both_true : (a b : Bool) → (a && b) ≡ true → (a ≡ true) × (b ≡ true)
 both_true true b h = (refl, h)
@@ -143,6 +160,10 @@ module _ (asked : Asked) where
       let both = both_true (is_steady item.0) (all_hold (map is_steady (map (λ e. e.0) items))) h in
       λ i. item.1 both.0 t u i ∷ arguments_stay items t u both.1 i
 
+  as_many : (items : List Fitted) (u : ℤ) → length (map is_steady (map (λ e. e.0) items)) ≡ length (given_at (map (meaning asked) (map (λ e. e.0) items)) u)
+  as_many [] u = refl
+  as_many (item ∷ items) u = ap suc (as_many items u)
+
   level : (y : Fitting) → node_steady (map-Node Node Expr Bool Bool steady_in is_steady (plain y)) ≡ true → (t u : ℤ)
       → node_meaning asked (map-Node Node Expr (ℤ → Given) (ℤ → Given) meaning_in (meaning asked) (plain y)) t ≡ node_meaning asked (map-Node Node Expr (ℤ → Given) (ℤ → Given) meaning_in (meaning asked) (plain y)) u
   level (Node-F.Number value) h t u = refl
@@ -155,8 +176,9 @@ module _ (asked : Asked) where
       ap (λ m. given.Windows (record { moment = record { 0 = m }; range = range; rules = selector.rules; rows = window_rows selector.moment.closed m range.0 (passing asked.samples asked.kept selector.rules); marks = no_marks })) (moment_stays selector.moment t u h)
   level (Node-F.Subquery e range step moment) h t u = ap (λ m. given.Windows (points_of moment.closed (λ v. step_of (meaning asked e.0 v)) range step m)) (moment_stays moment t u h)
   level (Node-F.Call f items) h t u =
-      let both = both_true (steady_call f) (all_hold (map is_steady (map (λ e. e.0) items))) h in
-      ap (λ gs. called f gs t) (arguments_stay items t u both.1) ∙ called_stays f (given_at (map (meaning asked) (map (λ e. e.0) items)) u) t u both.0
+      let bools : List Bool = map is_steady (map (λ e. e.0) items) in
+      let both = both_true (steady_call f bools) (all_hold bools) h in
+      ap (λ gs. called f gs t) (arguments_stay items t u both.1) ∙ called_stays f bools (given_at (map (meaning asked) (map (λ e. e.0) items)) u) t u (as_many items u) both.0
   level (Node-F.Aggregate f by items) h t u = ap (λ gs. given.Vector (aggregation f by gs)) (arguments_stay items t u h)
   level (Node-F.Pair op l r pairing) h t u =
       let both = both_true (is_steady l.0) (is_steady r.0) h in

@@ -4,7 +4,7 @@ use Rattle.std.specs.Prelude.{ℕ, true, false, List, [], ◌∷◌, map, drop, 
 use Rattle.func_table.specs.declared.table.Func.{Func}
 use Rattle.func_table.specs.declared.table.Func.TheVariants as func
 use Rattle.func_table.specs.declared.table.Element.{Element}
-use Rattle.func_table.specs.declared.table.Element.TheVariants.{Neg, Round, Clamp, ClampMin, ClampMax}
+use Rattle.func_table.specs.declared.table.Element.TheVariants.{Neg, Round, Clamp, ClampMin, ClampMax, Calendar}
 use Rattle.func_table.specs.declared.table.Window.{Window as WindowFunction}
 use Rattle.func_table.specs.declared.table.Window.TheVariants.{PredictLinear, QuantileOver}
 use Rattle.func_table.specs.declared.table.Aggregate.{Aggregate}
@@ -76,6 +76,11 @@ abbrev pub applied : Element → List Given → Step
 applied Round arguments = applied_to Round (rounding arguments) (rounding arguments) (step_at arguments 0)
 applied f arguments = applied_to f (step_at arguments 1) (step_at arguments 2) (step_at arguments 0)
 
+-- what an element function is called with: a calendar function that is given nothing takes vector(time())
+abbrev pub completed : Element → List Given → ℤ → List Given
+completed (Calendar part) [] t = given.Vector (time_step t) ∷ []
+completed f arguments t = arguments
+
 -- a function of windows and of a scalar, with the marks of both
 abbrev pub windowed_with : WindowFunction → ℤ → Step → Windows → Step
 windowed_with f t scalar windows =
@@ -119,7 +124,7 @@ as_scalar step = step_of_rows (record { labels = []; value = value_of_one step.t
 
 -- what a call gives at an instant, of what its arguments give
 abbrev pub called : Func → List Given → ℤ → Given
-called (func.Element f) arguments t = given.Vector (applied f arguments)
+called (func.Element f) arguments t = given.Vector (applied f (completed f arguments t))
 called (func.Window f) arguments t = given.Vector (ranged f t arguments)
 called func.Absent arguments t = given.Vector (absent (argument arguments 0))
 called func.AbsentOver arguments t = given.Vector (absent (argument arguments 0))
