@@ -1,4 +1,5 @@
 pub mod Called
+pub mod Completed
 pub mod Children
 pub mod Framed
 pub mod Keeping

@@ -5,7 +5,7 @@ use Rattle.std.specs.List.{AllByRecursion}
 use Rattle.func_table.specs.declared.table.Func.{Func}
 use Rattle.func_table.specs.declared.table.Aggregate.{Aggregate}
 use Rattle.func_table.specs.declared.table.Func.TheVariants.{Element, Window, Absent, AbsentOver, HistogramQuantile, LabelJoin, LabelReplace, Scalar as ToScalar, Sort, SortDesc, Time, Timestamp, Vector as ToVector}
-use Rattle.func_table.specs.declared.table.Element.TheVariants.{Abs, Ceil, Floor, Round, Sgn, Neg, Clamp, ClampMin, ClampMax}
+use Rattle.func_table.specs.declared.table.Element.TheVariants.{Abs, Ceil, Floor, Round, Sgn, Neg, Clamp, ClampMin, ClampMax, Calendar}
 use Rattle.func_table.specs.declared.table.Window.TheVariants.{Rate, Increase, Delta, Irate, Idelta, Deriv, PredictLinear, Changes, Resets, AvgOver, MinOver, MaxOver, SumOver, CountOver, StdvarOver, QuantileOver, LastOver, PresentOver}
 use Rattle.func_table.specs.declared.table.Aggregate.TheVariants.{Sum, Avg, Min, Max, Count, Group, Stdvar, TopK, BottomK, Quantile, CountValues}
 use Rattle.promql_type.specs.declared.kind.Kind.{Kind}
@@ -126,6 +126,7 @@ no_words_function (Element Neg) is = absurd (cc)
 no_words_function (Element Clamp) is = absurd (cc)
 no_words_function (Element ClampMin) is = absurd (cc)
 no_words_function (Element ClampMax) is = absurd (cc)
+no_words_function (Element (Calendar part)) is = absurd (cc)
 no_words_function (Window Rate) is = absurd (cc)
 no_words_function (Window Increase) is = absurd (cc)
 no_words_function (Window Delta) is = absurd (cc)

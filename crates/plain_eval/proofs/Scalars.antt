@@ -6,7 +6,7 @@ use Rattle.func_table.specs.declared.table.Aggregate.{Aggregate}
 use Rattle.func_table.specs.declared.table.Element.{Element}
 use Rattle.func_table.specs.declared.table.Window.{Window as WindowFunction}
 use Rattle.func_table.specs.declared.table.Func.TheVariants.{Element as OfElement, Window as OfWindow, Absent, AbsentOver, HistogramQuantile, LabelJoin, LabelReplace, Scalar as ToScalar, Sort, SortDesc, Time, Timestamp, Vector as ToVector}
-use Rattle.func_table.specs.declared.table.Element.TheVariants.{Abs, Ceil, Floor, Round, Sgn, Neg, Clamp, ClampMin, ClampMax}
+use Rattle.func_table.specs.declared.table.Element.TheVariants.{Abs, Ceil, Floor, Round, Sgn, Neg, Clamp, ClampMin, ClampMax, Calendar}
 use Rattle.func_table.specs.declared.table.Window.TheVariants.{Rate, Increase, Delta, Irate, Idelta, Deriv, PredictLinear, Changes, Resets, AvgOver, MinOver, MaxOver, SumOver, CountOver, StdvarOver, QuantileOver, LastOver, PresentOver}
 use Rattle.func_table.specs.declared.table.Aggregate.TheVariants.{Sum, Avg, Min, Max, Count, Group, Stdvar, TopK, BottomK, Quantile, CountValues}
 use Rattle.promql_type.specs.declared.kind.Kind.{Kind}
@@ -57,6 +57,7 @@ of_element Neg = refl
 of_element Clamp = refl
 of_element ClampMin = refl
 of_element ClampMax = refl
+of_element (Calendar part) = refl
 
 of_window : (f : WindowFunction) → is_scalar (signature (Function (OfWindow f))).gives ≡ false
 of_window Rate = refl

@@ -2,14 +2,14 @@
 ghost use Rattle.plain_eval.specs.Frames.{IsFramed};
 ghost use Rattle.promql_meaning.specs.Buckets.{bucket_quantiles as quantiles_of_buckets};
 ghost use Rattle.promql_meaning.specs.Givens.{step_of, with_scalar, words_of};
-ghost use Rattle.promql_meaning.specs.Meaning.{called, step_at, words_at};
+ghost use Rattle.promql_meaning.specs.Meaning.{called, completed, step_at, words_at};
 ghost use Rattle.promql_meaning.specs.Relabels.{label_joined as label_joined_of};
 ghost use Rattle.std.specs.List.{AllByRecursion};
 ghost use Rattle.std.specs.Prelude.{◌≡◌, drop, map, Some, true, slice_get, IfOk};
 
 use crate::elements::{absent, applied, ranged, timestamps};
 use crate::givens::{into_words, take_first, take_step, take_words};
-use func_table::Func;
+use func_table::{Element, Func};
 use label_set::{Items, PatternId, Text};
 use match_rule::Patterns;
 use promql_meaning::{Given, barren};
@@ -29,7 +29,10 @@ pub fn called(alloc: Global, f: Func, arguments: Items<Given>, t: Ms) -> Result<
 {
     let mut arguments = arguments;
     match f {
-        Func::Element(f) => Ok(Given::Vector(applied(alloc, f, arguments)?)),
+        Func::Element(f) => {
+            let arguments = completed(alloc, f, arguments, t)?;
+            Ok(Given::Vector(applied(alloc, f, arguments)?))
+        }
         Func::Window(f) => Ok(Given::Vector(ranged(alloc, f, arguments, t)?)),
         Func::Absent | Func::AbsentOver => {
             let given = take_first(alloc, &mut arguments);
@@ -51,6 +54,26 @@ pub fn called(alloc: Global, f: Func, arguments: Items<Given>, t: Ms) -> Result<
         }
         Func::LabelReplace => Ok(Given::Vector(take_step(alloc, &mut arguments)?)),
     }
+}
+
+/// What an element function is called with: a calendar function that is given nothing takes the instant.
+#[tactic(auto, using(crate::proofs::Completed::given_is_kept, crate::proofs::Completed::nothing_is_kept))]
+fn completed(
+    alloc: Global,
+    f: Element,
+    arguments: Items<Given>,
+    t: Ms,
+) -> Result<Items<Given>, AllocError>
+    ensures { IfOk result (λ all. all ≡ completed f arguments t.0) }
+{
+    let mut arguments = arguments;
+    if !arguments.as_slice().is_empty() {
+        return Ok(arguments);
+    }
+    if let Element::Calendar(_) = f {
+        arguments.push(Given::Vector(time_step(alloc, t)?))?;
+    }
+    Ok(arguments)
 }
 
 #[tactic(auto, using(crate::proofs::Taken::second_is))]
