@@ -146,6 +146,7 @@ fn add_mark(mark: &Mark, into: &mut Vec<u8>) -> Result<(), AllocError> {
         Mark::DuplicateOneSide(labels) => ("one side ", Some(labels)),
         Mark::ImplicitManyToOne(labels) => ("many ", Some(labels)),
         Mark::DuplicateResult(labels) => ("result ", Some(labels)),
+        Mark::OutOfCalendar => ("calendar", None),
     };
     into.extend_from_slice(word.as_bytes())?;
     match labels {

@@ -7,7 +7,7 @@ use Rattle.promql_ast.specs.declared.refusal.QueryRefusal.TheVariants.{UnknownFu
 use Rattle.promql_meaning.specs.declared.answer.Outcome.{Outcome}
 use Rattle.promql_meaning.specs.declared.answer.Outcome.TheVariants as outcome
 use Rattle.step_table.specs.declared.marks.Mark.{Mark}
-use Rattle.step_table.specs.declared.marks.Mark.TheVariants.{Overflow, Irrational, SameLabelset, DuplicateOneSide, ImplicitManyToOne, DuplicateResult}
+use Rattle.step_table.specs.declared.marks.Mark.TheVariants.{Overflow, Irrational, SameLabelset, DuplicateOneSide, ImplicitManyToOne, DuplicateResult, OutOfCalendar}
 
 -- the function that a refusal names, with a blank before it; other refusals name none
 abbrev pub function_text : QueryRefusal → List ℕ
@@ -27,6 +27,7 @@ mark_text (SameLabelset labels) = codes "vector cannot contain metrics with the 
 mark_text (DuplicateOneSide labels) = codes "found duplicate series for the match group " ++ labels_text labels
 mark_text (ImplicitManyToOne labels) = codes "many-to-one matching must be explicit for " ++ labels_text labels
 mark_text (DuplicateResult labels) = codes "multiple matches for labels " ++ labels_text labels
+mark_text OutOfCalendar = codes "time outside the calendar"
 
 -- the text of an outcome that is no answer; an answer has none
 abbrev pub outcome_text : Outcome → List ℕ

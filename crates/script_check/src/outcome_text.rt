@@ -73,6 +73,7 @@ fn append_mark(mark: &Mark, into: &mut Vec<u8>) -> Result<(), AllocError>
             labels,
             into,
         ),
+        Mark::OutOfCalendar => into.extend_from_slice(b"time outside the calendar"),
     }
 }
 

@@ -66,6 +66,8 @@ fn mark_of(kind: &str, labels: Labels) -> Mark {
         Mark::DuplicateOneSide(labels)
     } else if kind == "M" {
         Mark::ImplicitManyToOne(labels)
+    } else if kind == "C" {
+        Mark::OutOfCalendar
     } else {
         Mark::DuplicateResult(labels)
     }
