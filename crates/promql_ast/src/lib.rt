@@ -2,13 +2,13 @@
 //! Its rows of tests stand in `language_tests`.
 #![tactic(auto)]
 
-mod edged;
+mod edge;
 mod equal;
 mod laws;
 mod refusal;
 mod tree;
 
-pub use edged::{edged_trees_stay, edges_are_set, last_edge_counts};
+pub use edge::{edged_trees_stay, edges_are_set, last_edge_counts};
 pub use laws::depths_are_by_nodes;
 pub use refusal::QueryRefusal;
 pub use tree::{Expr, Fixed, Moment, Node, Selector};
