@@ -48,12 +48,12 @@ module _ (xs : List Command) (x : Command) (series mid : AllSeries) (left : left
 
 -- ---- verdicts
 
-module _ {kept : PatternList} {mid : AllSeries} {ys : List Command} {ws : List Judged} (later : AreVerdicts kept mid ys ws) where
+module _ {closed : Bool} {kept : PatternList} {mid : AllSeries} {ys : List Command} {ws : List Judged} (later : AreVerdicts closed kept mid ys ws) where
   -- the verdicts of commands, and of those behind them
-  pub verdicts_join : (series : AllSeries) (xs : List Command) (vs : List Judged) → AreVerdicts kept series xs vs → left_by_all xs series ≡ Ok mid → AreVerdicts kept series (xs ++ ys) (vs ++ ws)
+  pub verdicts_join : (series : AllSeries) (xs : List Command) (vs : List Judged) → AreVerdicts closed kept series xs vs → left_by_all xs series ≡ Ok mid → AreVerdicts closed kept series (xs ++ ys) (vs ++ ws)
   verdicts_join series xs vs (ended s) left =
       let same : mid ≡ s = cc in
-      subst (λ (z : AllSeries). AreVerdicts kept z ys ws) same later
+      subst (λ (z : AllSeries). AreVerdicts closed kept z ys ws) same later
   verdicts_join series xs vs (changed s now c cs v none put rest) left =
       changed s now c (cs ++ ys) (v ++ ws) none put
       (verdicts_join now cs v rest (ap (λ (r : Result AllSeries RunnerFault). then_try r (left_by_all cs)) (sym put) ∙ left))
@@ -71,15 +71,15 @@ no_evaluation (Eval grid instant text expected) none = absurd none
 abbrev lines_of : Bool → Command → List Command → List ℕ
 lines_of b command commands = map (λ (c : Command). c.line) (cond b (command ∷ filter (λ (c : Command). is_evaluation c.what) commands) (filter (λ (c : Command). is_evaluation c.what) commands))
 
-pub verdict_lines : (kept : PatternList) (series : AllSeries) (commands : List Command) (verdicts : List Judged) → AreVerdicts kept series commands verdicts
+pub verdict_lines : (closed : Bool) (kept : PatternList) (series : AllSeries) (commands : List Command) (verdicts : List Judged) → AreVerdicts closed kept series commands verdicts
     → map (λ (judged : Judged). judged.line) verdicts ≡ evaluation_lines commands
-verdict_lines kept series commands verdicts (ended s) = refl
-verdict_lines kept series commands verdicts (changed s now c cs v none put rest) =
-    verdict_lines kept now cs v rest ∙ ap (λ b. lines_of b c cs) (sym (no_evaluation c.what none))
-verdict_lines kept series commands verdicts (evaluated s c grid instant text expected judged cs v what is rest) =
+verdict_lines closed kept series commands verdicts (ended s) = refl
+verdict_lines closed kept series commands verdicts (changed s now c cs v none put rest) =
+    verdict_lines closed kept now cs v rest ∙ ap (λ b. lines_of b c cs) (sym (no_evaluation c.what none))
+verdict_lines closed kept series commands verdicts (evaluated s c grid instant text expected judged cs v what is rest) =
     let line : judged.line ≡ c.line = ap (λ (one : Judged). one.line) is.is in
     ap (λ n. n ∷ map (λ (one : Judged). one.line) v) line
-    ∙ ap (λ ns. c.line ∷ ns) (verdict_lines kept s cs v rest)
+    ∙ ap (λ ns. c.line ∷ ns) (verdict_lines closed kept s cs v rest)
     ∙ ap (λ b. lines_of b c cs) (sym (ap is_evaluation what))
 
 pub passed_or_failed : (verdicts : List Judged) → passed_in verdicts + failed_in verdicts ≡ length verdicts
@@ -89,10 +89,10 @@ passed_or_failed verdicts =
     let both = length-filter_both (λ (judged : Judged). has_passed judged) (λ (judged : Judged). not (has_passed judged)) (λ judged. refl) verdicts in
     omega (arith, passed, failed, both)
 
-module _ (kept : PatternList) (series : AllSeries) (commands : List Command) (verdicts : List Judged) (are : AreVerdicts kept series commands verdicts) where
+module _ (closed : Bool) (kept : PatternList) (series : AllSeries) (commands : List Command) (verdicts : List Judged) (are : AreVerdicts closed kept series commands verdicts) where
   pub verdicts_number : passed_in verdicts + failed_in verdicts ≡ length (evaluation_lines commands)
   verdicts_number =
-      passed_or_failed verdicts ∙ sym (length-map verdicts (λ (judged : Judged). judged.line)) ∙ ap length (verdict_lines kept series commands verdicts are)
+      passed_or_failed verdicts ∙ sym (length-map verdicts (λ (judged : Judged). judged.line)) ∙ ap length (verdict_lines closed kept series commands verdicts are)
 
   -- no more than there are commands
   pub verdicts_few : passed_in verdicts + failed_in verdicts ≤ length commands
@@ -124,8 +124,8 @@ lines_join : (path : List ℕ) (vs ws : List Judged) → lines_text path (vs ++ 
 lines_join path vs ws = flat_map-append (verdict_text path) vs ws
 
 -- nothing was carried out yet
-pub carried_none : (kept : PatternList) (path : List ℕ) (before : Option (List ℕ)) (totals : Totals) → totals.passed ≡ 0 → totals.failed ≡ 0 → CarriedOut kept path [] [] before before totals
-carried_none kept path before totals passed failed = record {
+pub carried_none : (closed : Bool) (kept : PatternList) (path : List ℕ) (before : Option (List ℕ)) (totals : Totals) → totals.passed ≡ 0 → totals.failed ≡ 0 → CarriedOut closed kept path [] [] before before totals
+carried_none closed kept path before totals passed failed = record {
   verdicts = [];
   are = ended [];
   written = sym (appended-nil before);
@@ -133,14 +133,14 @@ carried_none kept path before totals passed failed = record {
   failed = failed;
 }
 
-pub cut_none : (kept : PatternList) (path : List ℕ) (series : AllSeries) (commands : List Command) (before : Option (List ℕ)) → WasCutOff kept path series commands before before
-cut_none kept path series commands before = record { done = []; left = commands; parts = refl; verdicts = []; are = ended series; front = front_none before [] }
+pub cut_none : (closed : Bool) (kept : PatternList) (path : List ℕ) (series : AllSeries) (commands : List Command) (before : Option (List ℕ)) → WasCutOff closed kept path series commands before before
+cut_none closed kept path series commands before = record { done = []; left = commands; parts = refl; verdicts = []; are = ended series; front = front_none before [] }
 
-module _ {kept : PatternList} {path : List ℕ} {before between now : Option (List ℕ)} {sofar : Totals} (series mid : AllSeries) (xs : List Command)
-    (ran : CarriedOut kept path series xs before between sofar) (left : left_by_all xs series ≡ Ok mid) where
+module _ {closed : Bool} {kept : PatternList} {path : List ℕ} {before between now : Option (List ℕ)} {sofar : Totals} (series mid : AllSeries) (xs : List Command)
+    (ran : CarriedOut closed kept path series xs before between sofar) (left : left_by_all xs series ≡ Ok mid) where
   -- and so were those behind them
-  pub carried_join : (ys : List Command) (more all : Totals) → CarriedOut kept path mid ys between now more
-      → all.passed ≡ sofar.passed + more.passed → all.failed ≡ sofar.failed + more.failed → CarriedOut kept path series (xs ++ ys) before now all
+  pub carried_join : (ys : List Command) (more all : Totals) → CarriedOut closed kept path mid ys between now more
+      → all.passed ≡ sofar.passed + more.passed → all.failed ≡ sofar.failed + more.failed → CarriedOut closed kept path series (xs ++ ys) before now all
   carried_join ys more all then passed failed = record {
     verdicts = ran.verdicts ++ then.verdicts;
     are = verdicts_join then.are series xs ran.verdicts ran.are left;
@@ -152,7 +152,7 @@ module _ {kept : PatternList} {path : List ℕ} {before between now : Option (Li
   }
 
   -- or they were cut off
-  pub cut_join : (ys zs : List Command) → WasCutOff kept path mid ys between now → WasCutOff kept path series (xs ++ (ys ++ zs)) before now
+  pub cut_join : (ys zs : List Command) → WasCutOff closed kept path mid ys between now → WasCutOff closed kept path series (xs ++ (ys ++ zs)) before now
   cut_join ys zs cut = record {
     done = xs ++ cut.done;
     left = cut.left ++ zs;
@@ -163,10 +163,10 @@ module _ {kept : PatternList} {path : List ℕ} {before between now : Option (Li
   }
 
 -- no more are counted than there are commands
-pub few_counted : {kept : PatternList} {path : List ℕ} {series : AllSeries} {commands : List Command} {before now : Option (List ℕ)} {totals : Totals}
-    → CarriedOut kept path series commands before now totals → totals.passed + totals.failed ≤ length commands
-few_counted {kept} {path} {series} {commands} ran =
-    let few = verdicts_few kept series commands ran.verdicts ran.are in
+pub few_counted : {closed : Bool} {kept : PatternList} {path : List ℕ} {series : AllSeries} {commands : List Command} {before now : Option (List ℕ)} {totals : Totals}
+    → CarriedOut closed kept path series commands before now totals → totals.passed + totals.failed ≤ length commands
+few_counted {closed} {kept} {path} {series} {commands} ran =
+    let few = verdicts_few closed kept series commands ran.verdicts ran.are in
     omega (arith, few, ran.passed, ran.failed)
 
 -- ---- a script's commands, parted at one of them
@@ -212,9 +212,9 @@ pub is_change : (what : What) → (what ≡ Clear) ⊎ ((interval : Ms) × (line
 is_change what change = ⊎_elim (λ clear. subst IsNoEvaluation (sym clear) tt) (λ load. subst IsNoEvaluation (sym load.2) tt) change
 
 -- a command that is no evaluation
-pub carried_change : (kept : PatternList) (path : List ℕ) (series left : AllSeries) (command : Command) (before : Option (List ℕ)) (totals : Totals) → IsNoEvaluation command.what → left_by command.what series ≡ Ok left
-    → totals.passed ≡ 0 → totals.failed ≡ 0 → CarriedOut kept path series (command ∷ []) before before totals
-carried_change kept path series left command before totals none put passed failed = record {
+pub carried_change : (closed : Bool) (kept : PatternList) (path : List ℕ) (series left : AllSeries) (command : Command) (before : Option (List ℕ)) (totals : Totals) → IsNoEvaluation command.what → left_by command.what series ≡ Ok left
+    → totals.passed ≡ 0 → totals.failed ≡ 0 → CarriedOut closed kept path series (command ∷ []) before before totals
+carried_change closed kept path series left command before totals none put passed failed = record {
   verdicts = [];
   are = changed series left command [] [] none put (ended left);
   written = sym (appended-nil before);
@@ -225,14 +225,14 @@ carried_change kept path series left command before totals none put passed faile
 one_line : (path : List ℕ) (judged : Judged) → verdict_text path judged ≡ lines_text path (judged ∷ [])
 one_line path judged = sym (append-nil (verdict_text path judged))
 
-module _ (kept : PatternList) (path : List ℕ) (series : AllSeries) (command : Command) (grid : Grid) (instant : Bool) (text : List ℕ) (expected : Expectations) (what : command.what ≡ Eval grid instant text expected)
+module _ (closed : Bool) (kept : PatternList) (path : List ℕ) (series : AllSeries) (command : Command) (grid : Grid) (instant : Bool) (text : List ℕ) (expected : Expectations) (what : command.what ≡ Eval grid instant text expected)
     (before now : Option (List ℕ)) where
-  one_verdict : (judged : Judged) → IsJudgement kept series command.line text grid instant expected judged → AreVerdicts kept series (command ∷ []) (judged ∷ [])
+  one_verdict : (judged : Judged) → IsJudgement closed kept series command.line text grid instant expected judged → AreVerdicts closed kept series (command ∷ []) (judged ∷ [])
   one_verdict judged such = evaluated series command grid instant text expected judged [] [] what such (ended series)
 
   -- an evaluation
-  pub carried_evaluation : (passed : Bool) (totals : Totals) → WroteLine path (IsJudgement kept series command.line text grid instant expected) before now passed
-      → totals.passed ≡ cond passed 1 0 → totals.failed ≡ cond passed 0 1 → CarriedOut kept path series (command ∷ []) before now totals
+  pub carried_evaluation : (passed : Bool) (totals : Totals) → WroteLine path (IsJudgement closed kept series command.line text grid instant expected) before now passed
+      → totals.passed ≡ cond passed 1 0 → totals.failed ≡ cond passed 0 1 → CarriedOut closed kept path series (command ∷ []) before now totals
   carried_evaluation passed totals wrote some none =
       let line = wrote.is_line in
       let judged = line.judged in
@@ -245,8 +245,8 @@ module _ (kept : PatternList) (path : List ℕ) (series : AllSeries) (command : 
       }
 
   -- an evaluation that was cut off
-  pub cut_evaluation : WroteLess path (IsJudgement kept series command.line text grid instant expected) before now → WasCutOff kept path series (command ∷ []) before now
-  cut_evaluation (nothing same) = subst (λ (w : Option (List ℕ)). WasCutOff kept path series (command ∷ []) before w) (sym same) (cut_none kept path series (command ∷ []) before)
+  pub cut_evaluation : WroteLess path (IsJudgement closed kept series command.line text grid instant expected) before now → WasCutOff closed kept path series (command ∷ []) before now
+  cut_evaluation (nothing same) = subst (λ (w : Option (List ℕ)). WasCutOff closed kept path series (command ∷ []) before w) (sym same) (cut_none closed kept path series (command ∷ []) before)
   cut_evaluation (partly piece passed line front) = record {
     done = command ∷ [];
     left = [];

@@ -24,29 +24,29 @@ cut_by NoMemory = Memory
 
 -- Commands were carried out over series: each of their evaluations has a verdict, their lines were written, and so many pass
 -- and fail.
-pub record CarriedOut (kept : PatternList) (path : List ℕ) (series : AllSeries) (commands : List Command) (before now : Option (List ℕ)) (totals : Totals) : Type 0 where
+pub record CarriedOut (closed : Bool) (kept : PatternList) (path : List ℕ) (series : AllSeries) (commands : List Command) (before now : Option (List ℕ)) (totals : Totals) : Type 0 where
   pub verdicts : List Judged
-  pub are : AreVerdicts kept series commands verdicts
+  pub are : AreVerdicts closed kept series commands verdicts
   pub written : now ≡ appended before (lines_text path verdicts)
   pub passed : totals.passed ≡ passed_in verdicts
   pub failed : totals.failed ≡ failed_in verdicts
 
 -- Commands were cut off: the first of them have these verdicts, and a front of their lines was written.
-pub record WasCutOff (kept : PatternList) (path : List ℕ) (series : AllSeries) (commands : List Command) (before now : Option (List ℕ)) : Type 0 where
+pub record WasCutOff (closed : Bool) (kept : PatternList) (path : List ℕ) (series : AllSeries) (commands : List Command) (before now : Option (List ℕ)) : Type 0 where
   pub done : List Command
   pub left : List Command
   pub parts : done ++ left ≡ commands
   pub verdicts : List Judged
-  pub are : AreVerdicts kept series done verdicts
+  pub are : AreVerdicts closed kept series done verdicts
   pub front : WroteFront before now (lines_text path verdicts)
 
 -- a script was run: its commands were carried out, no sample standing as it begins
-abbrev pub HasRun : PatternList → List ℕ → Script → Option (List ℕ) → Option (List ℕ) → Totals → Type 0
-HasRun kept path script before now totals = CarriedOut kept path [] script.commands before now totals
+abbrev pub HasRun : Bool → PatternList → List ℕ → Script → Option (List ℕ) → Option (List ℕ) → Totals → Type 0
+HasRun closed kept path script before now totals = CarriedOut closed kept path [] script.commands before now totals
 
 -- a run was cut off
-abbrev pub WasCut : PatternList → List ℕ → Script → Option (List ℕ) → Option (List ℕ) → Type 0
-WasCut kept path script before now = WasCutOff kept path [] script.commands before now
+abbrev pub WasCut : Bool → PatternList → List ℕ → Script → Option (List ℕ) → Option (List ℕ) → Type 0
+WasCut closed kept path script before now = WasCutOff closed kept path [] script.commands before now
 
 -- a fault other than one of loads, with what it leaves
 abbrev pub IfCut : RunnerFault → Type 0 → Type 0
@@ -66,7 +66,7 @@ AnswersLoads (Ok series) answered = Unit {0}
 AnswersLoads (Err fault) answered = (answered ≡ Err fault) ⊎ (answered ≡ Err Memory)
 
 -- What a text comes to at the instants of a grid over the samples that a script's loads leave.
-pub record IsAnswerOver (script : Script) (text : List ℕ) (grid : Grid) (instant : Bool) (got : Outcome) : Type 0 where
+pub record IsAnswerOver (script : Script) (text : List ℕ) (grid : Grid) (instant closed : Bool) (got : Outcome) : Type 0 where
   pub series : AllSeries
   pub left : samples_left script ≡ Ok series
-  pub comes : ComesTo text series grid instant got
+  pub comes : ComesTo text series grid instant closed got

@@ -9,7 +9,7 @@ use Rattle.test_runner.specs.declared.evaluation.Evaluation.{Evaluation}
 
 -- an evaluation is judged over series
 abbrev pub IsJudgementOn : PatternList → AllSeries → Evaluation → Judged → Type 0
-IsJudgementOn kept series asked judged = IsJudgement kept series asked.line asked.text.now asked.grid.now asked.instant asked.expected.now judged
+IsJudgementOn kept series asked judged = IsJudgement asked.options.now.closed kept series asked.line asked.text.now asked.grid.now asked.instant asked.expected.now judged
 
 -- A text is the line of such a verdict, which is a pass or not.
 pub record IsLine (path : List ℕ) (IsSuch : Judged → Type 0) (text : List ℕ) (passed : Bool) : Type 0 where

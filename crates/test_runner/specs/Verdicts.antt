@@ -26,11 +26,11 @@ pub record Judged : Type 0 where
 abbrev pub judgement : PatternList → ℕ → Bool → Expectations → Outcome → Judged
 judgement kept line instant expected got = record { line = line; instant = instant; verdict = verdict_of kept expected instant got; outcome = outcome_text got }
 
--- An evaluation is judged: its text comes to an outcome at the instants of a grid over the series that stand then, and the
--- verdict is that on this outcome.
-pub record IsJudgement (kept : PatternList) (series : AllSeries) (line : ℕ) (text : List ℕ) (grid : Grid) (instant : Bool) (expected : Expectations) (judged : Judged) : Type 0 where
+-- An evaluation is judged: its text comes to an outcome at the instants of a grid over the series that stand then, with windows
+-- that are closed on the left or open, and the verdict is that on this outcome.
+pub record IsJudgement (closed : Bool) (kept : PatternList) (series : AllSeries) (line : ℕ) (text : List ℕ) (grid : Grid) (instant : Bool) (expected : Expectations) (judged : Judged) : Type 0 where
   pub got : Outcome
-  pub comes : ComesTo text series grid instant got
+  pub comes : ComesTo text series grid instant closed got
   pub is : judged ≡ judgement kept line instant expected got
 
 abbrev pub IsNoEvaluation : What → Type 0
@@ -38,13 +38,13 @@ IsNoEvaluation (Eval grid instant text expected) = ⊥
 IsNoEvaluation _ = Unit {0}
 
 -- The verdicts of commands, in order, behind commands that left these series: each evaluation has one.
-pub data AreVerdicts (kept : PatternList) : AllSeries → List Command → List Judged → Type 0 where
-  ended : (series : AllSeries) → AreVerdicts kept series [] []
+pub data AreVerdicts (closed : Bool) (kept : PatternList) : AllSeries → List Command → List Judged → Type 0 where
+  ended : (series : AllSeries) → AreVerdicts closed kept series [] []
   changed : (series now : AllSeries) (command : Command) (commands : List Command) (verdicts : List Judged) → IsNoEvaluation command.what → left_by command.what series ≡ Ok now
-      → AreVerdicts kept now commands verdicts → AreVerdicts kept series (command ∷ commands) verdicts
+      → AreVerdicts closed kept now commands verdicts → AreVerdicts closed kept series (command ∷ commands) verdicts
   evaluated : (series : AllSeries) (command : Command) (grid : Grid) (instant : Bool) (text : List ℕ) (expected : Expectations) (judged : Judged) (commands : List Command) (verdicts : List Judged)
-      → command.what ≡ Eval grid instant text expected → IsJudgement kept series command.line text grid instant expected judged → AreVerdicts kept series commands verdicts
-      → AreVerdicts kept series (command ∷ commands) (judged ∷ verdicts)
+      → command.what ≡ Eval grid instant text expected → IsJudgement closed kept series command.line text grid instant expected judged → AreVerdicts closed kept series commands verdicts
+      → AreVerdicts closed kept series (command ∷ commands) (judged ∷ verdicts)
 
 abbrev pub is_evaluation : What → Bool
 is_evaluation (Eval grid instant text expected) = true

@@ -7,7 +7,7 @@ ghost use Rattle.test_runner.specs.declared.fault.RunnerFault.TheVariants.{Write
 use crate::fault::RunnerFault;
 use crate::load::load_all;
 use promql_meaning::Outcome;
-use query_engine::evaluate;
+use query_engine::{Options, evaluate};
 use script_read::Script;
 use std::alloc::Global;
 use std::sync::ledger::Ledger;
@@ -23,15 +23,16 @@ pub fn answer<W: Ledger>(
     text: &str,
     grid: &Grid,
     instant: bool,
+    options: &Options,
     work: &mut Work<W>,
 ) -> Result<Outcome, RunnerFault>
-    ensures answered { IfOk result (IsAnswerOver script.now text.now grid.now instant) }
+    ensures answered { IfOk result (IsAnswerOver script.now text.now grid.now instant options.now.closed) }
     ensures refused { AnswersLoads (samples_left script.now) result }
     ensures explained { IfErr result (IfOfLoads (samples_left script.now)) }
     ensures unwritten { IfErr result (λ fault. fault ≡ Write → ⊥) }
     ensures idle { IfErr (samples_left script.now) (λ _. work.new ≡ work.old) }
 {
     let store = load_all(alloc, script)?;
-    let outcome = evaluate(alloc, text, grid, instant, &store, work)?;
+    let outcome = evaluate(alloc, text, grid, instant, options, &store, work)?;
     Ok(outcome)
 }

@@ -9,7 +9,7 @@ use crate::text::verdict_line;
 use holders::Text;
 use match_rule::Patterns;
 use promql_meaning::Outcome;
-use query_engine::evaluate;
+use query_engine::{Options, evaluate};
 use sample_store::Store;
 use script_check::{Verdict, append_outcome, judge};
 use script_read::Expectations;
@@ -17,10 +17,11 @@ use std::alloc::{AllocError, Global};
 use std::sync::ledger::Ledger;
 use ticks::{Grid, Work};
 
-/// An evaluation of a script, with its line, counted from 1.
+/// An evaluation of a script, with its line, counted from 1, and what is chosen for it.
 #[derive(Clone, Copy)]
 pub struct Evaluation<'a> {
     pub line: u32,
+    pub options: &'a Options,
     pub grid: &'a Grid,
     pub instant: bool,
     pub text: &'a Text,
@@ -79,6 +80,14 @@ pub fn judge_evaluation<W: Ledger>(
     ensures same { searches.new ≡ searches.old }
 {
     let text = asked.text.as_str();
-    let outcome = evaluate(alloc, text, asked.grid, asked.instant, store, work)?;
+    let outcome = evaluate(
+        alloc,
+        text,
+        asked.grid,
+        asked.instant,
+        asked.options,
+        store,
+        work,
+    )?;
     judge_outcome(alloc, path, asked, &outcome, searches)
 }

@@ -7,7 +7,7 @@ ghost use Rattle.script_read.specs.Series.{LabelList};
 ghost use Rattle.script_read.specs.declared.script.Command.{Command};
 ghost use Rattle.script_read.specs.declared.script.SeriesLine.{SeriesLine};
 ghost use Rattle.sample_store.specs.Samples.{AllSeries};
-ghost use Rattle.std.specs.Prelude.{◌≡◌, ◌+◌, ◌↔◌, ◌⊎◌, ℕ, List, Ok, length, map};
+ghost use Rattle.std.specs.Prelude.{◌≡◌, ◌+◌, ◌↔◌, ◌⊎◌, ℕ, Bool, List, Ok, length, map};
 ghost use Rattle.ticks.specs.declared.moment.Ms.{Ms};
 ghost use Rattle.xfrac.specs.declared.value.Held.{Held};
 
@@ -19,8 +19,8 @@ pub fn loads_put_their_samples()
 
 /// Commands have one verdict for each of their evaluations, in order, and each of these is a pass or a fail.
 pub fn each_evaluation_has_one_verdict()
-    ensures lines { (kept : PatternList) (series : AllSeries) (commands : List Command) (verdicts : List Judged) → AreVerdicts kept series commands verdicts →
+    ensures lines { (closed : Bool) (kept : PatternList) (series : AllSeries) (commands : List Command) (verdicts : List Judged) → AreVerdicts closed kept series commands verdicts →
         map (λ judged. judged.line) verdicts ≡ evaluation_lines commands }
-    ensures totals { (kept : PatternList) (series : AllSeries) (commands : List Command) (verdicts : List Judged) → AreVerdicts kept series commands verdicts →
+    ensures totals { (closed : Bool) (kept : PatternList) (series : AllSeries) (commands : List Command) (verdicts : List Judged) → AreVerdicts closed kept series commands verdicts →
         passed_in verdicts + failed_in verdicts ≡ length (evaluation_lines commands) }
 {}

@@ -12,6 +12,7 @@ use crate::load::{change_store, load_all};
 use crate::totals::Totals;
 use edge_io::{Sink, SinkFail, write_all};
 use match_rule::Patterns;
+use query_engine::Options;
 use sample_store::Store;
 use script_read::{Command, Script, What};
 use std::alloc::Global;
@@ -46,6 +47,7 @@ fn run_command<S: Sink, W: Ledger>(
     alloc: Global,
     path: &str,
     command: &Command,
+    options: &Options,
     store: &mut Store,
     searches: &mut Patterns,
     out: &mut S,
@@ -53,8 +55,8 @@ fn run_command<S: Sink, W: Ledger>(
 ) -> Result<Totals, RunnerFault>
     requires { HasItsPatterns searches.old command.now.what }
     ensures left { IfOk result (λ _. left_by command.now.what store.old ≡ Ok store.new) }
-    ensures ran { IfOk result (CarriedOut searches.old path.now store.old (command.now ∷ []) (S.written out.old) (S.written out.new)) }
-    ensures cut { IfErr result (λ fault. IfCut fault (WasCutOff searches.old path.now store.old (command.now ∷ []) (S.written out.old) (S.written out.new))) }
+    ensures ran { IfOk result (CarriedOut options.now.closed searches.old path.now store.old (command.now ∷ []) (S.written out.old) (S.written out.new)) }
+    ensures cut { IfErr result (λ fault. IfCut fault (WasCutOff options.now.closed searches.old path.now store.old (command.now ∷ []) (S.written out.old) (S.written out.new))) }
     ensures explained { IfErr result (IfOfLoads (left_by command.now.what store.old)) }
     ensures cause { HasCause (S.faults out.old) (S.faults out.new) (IsErrOf result RunnerFault.Write) }
     ensures never { S.sound out.old → IsErrOf result RunnerFault.Write → ⊥ }
@@ -70,6 +72,7 @@ fn run_command<S: Sink, W: Ledger>(
         } => {
             let asked = Evaluation {
                 line: command.line,
+                options,
                 grid,
                 instant: *instant,
                 text,
@@ -91,13 +94,14 @@ fn run_commands<S: Sink, W: Ledger>(
     path: &str,
     script: &Script,
     searches: &mut Patterns,
+    options: &Options,
     out: &mut S,
     work: &mut Work<W>,
 ) -> Result<Totals, RunnerFault>
     requires kept { KeepsPatterns searches.old script.now }
     requires few { length script.now.commands < 2 ^ 32 }
-    ensures ran { IfOk result (HasRun searches.old path.now script.now (S.written out.old) (S.written out.new)) }
-    ensures cut { IfErr result (λ fault. IfCut fault (WasCut searches.old path.now script.now (S.written out.old) (S.written out.new))) }
+    ensures ran { IfOk result (HasRun options.now.closed searches.old path.now script.now (S.written out.old) (S.written out.new)) }
+    ensures cut { IfErr result (λ fault. IfCut fault (WasCut options.now.closed searches.old path.now script.now (S.written out.old) (S.written out.new))) }
     ensures explained { IfErr result (IfOfLoads (samples_left script.now)) }
     ensures cause { HasCause (S.faults out.old) (S.faults out.new) (IsErrOf result RunnerFault.Write) }
     ensures never { S.sound out.old → IsErrOf result RunnerFault.Write → ⊥ }
@@ -107,14 +111,23 @@ fn run_commands<S: Sink, W: Ledger>(
     let mut store = Store::new(alloc);
     let mut totals = Totals::NONE;
     for command in script.commands.as_slice() {
-        let more = run_command(alloc, path, command, &mut store, searches, out, work)?;
+        let more = run_command(
+            alloc,
+            path,
+            command,
+            options,
+            &mut store,
+            searches,
+            out,
+            work,
+        )?;
         totals = totals.plus(more);
     }
     Ok(totals)
 }
 
 /// Runs a script under a path: first all its loads are judged, then its commands are carried out in order, and each
-/// evaluation's line is written as it ends. `searches` keeps the patterns that the script names. `Refused` and `Range` come
+/// evaluation's line is written as it ends. All are evaluated with the same options. `searches` keeps the patterns that the script names. `Refused` and `Range` come
 /// exactly where a load is refused, with the first refusal; then nothing was evaluated or written. After `Write`, which
 /// comes only where a write failed, and after want of memory, a front of the lines of the script's first evaluations was
 /// written. (The files of promqltest.)
@@ -123,6 +136,7 @@ pub fn run<S: Sink, W: Ledger>(
     path: &str,
     script: &Script,
     searches: &mut Patterns,
+    options: &Options,
     out: &mut S,
     work: &mut Work<W>,
 ) -> Result<Totals, RunnerFault>
@@ -130,7 +144,7 @@ pub fn run<S: Sink, W: Ledger>(
     requires few { length script.now.commands < 2 ^ 32 }
 
     // Each evaluation's verdict was written, and these are their numbers.
-    ensures ran { IfOk result (HasRun searches.old path.now script.now (S.written out.old) (S.written out.new)) }
+    ensures ran { IfOk result (HasRun options.now.closed searches.old path.now script.now (S.written out.old) (S.written out.new)) }
 
     // A refusal of loads comes exactly where they are refused; then nothing was written or evaluated.
     ensures refused { AnswersLoads (samples_left script.now) result }
@@ -141,9 +155,9 @@ pub fn run<S: Sink, W: Ledger>(
     ensures cause { HasCause (S.faults out.old) (S.faults out.new) (IsErrOf result RunnerFault.Write) }
     ensures never { S.sound out.old → IsErrOf result RunnerFault.Write → ⊥ }
     ensures sound { S.sound out.old → S.sound out.new }
-    ensures cut { IfErr result (λ fault. IfCut fault (WasCut searches.old path.now script.now (S.written out.old) (S.written out.new))) }
+    ensures cut { IfErr result (λ fault. IfCut fault (WasCut options.now.closed searches.old path.now script.now (S.written out.old) (S.written out.new))) }
     ensures same { searches.new ≡ searches.old }
 {
     load_all(alloc, script)?;
-    run_commands(alloc, path, script, searches, out, work)
+    run_commands(alloc, path, script, searches, options, out, work)
 }

@@ -4,21 +4,21 @@ use Rattle.test_runner.proofs.running.run_command.Goals as goal
 
 pub returns-in_err-passed-in-Eval-clause-cut : goal.returns-in_err-passed-in-Eval-clause-cut
 returns-in_err-passed-in-Eval-clause-cut g c =
-    let cut = cut_evaluation c.args.searches.now c.args.path.now c.args.store.now c.args.command.now c.in-Eval.grid c.in-Eval.instant c.in-Eval.text c.in-Eval.expected c.in-Eval.is
+    let cut = cut_evaluation c.args.options.now.closed c.args.searches.now c.args.path.now c.args.store.now c.args.command.now c.in-Eval.grid c.in-Eval.instant c.in-Eval.text c.in-Eval.expected c.in-Eval.is
     (g.S.Sink.written c.args.out.now) (g.S.Sink.written c.run_evaluation.new.out) c.in_err-passed-in-Eval.ensures.cut in
     when_cut c.from_residual.result _ cut
 
 pub returns-in_err-change_store-in-Clear-clause-cut : goal.returns-in_err-change_store-in-Clear-clause-cut
 returns-in_err-change_store-in-Clear-clause-cut g c =
-    when_cut c.from_residual-in_err-change_store-in-Clear.result _ (cut_none _ _ _ _ _)
+    when_cut c.from_residual-in_err-change_store-in-Clear.result _ (cut_none _ _ _ _ _ _)
 
 pub returns-in_ok-passed-in-Eval-clause-ran : goal.returns-in_ok-passed-in-Eval-clause-ran
 returns-in_ok-passed-in-Eval-clause-ran g c =
-    carried_evaluation c.args.searches.now c.args.path.now c.args.store.now c.args.command.now c.in-Eval.grid c.in-Eval.instant c.in-Eval.text c.in-Eval.expected c.in-Eval.is
+    carried_evaluation c.args.options.now.closed c.args.searches.now c.args.path.now c.args.store.now c.args.command.now c.in-Eval.grid c.in-Eval.instant c.in-Eval.text c.in-Eval.expected c.in-Eval.is
     (g.S.Sink.written c.args.out.now) (g.S.Sink.written c.run_evaluation.new.out)
     c.in_ok-passed-in-Eval.passed c.of_one.result c.in_ok-passed-in-Eval.ensures.ran c.of_one.ensures.passed c.of_one.ensures.failed
 
 pub returns-in_ok-change_store-in-Clear-clause-ran : goal.returns-in_ok-change_store-in-Clear-clause-ran
 returns-in_ok-change_store-in-Clear-clause-ran g c =
-    carried_change c.args.searches.now c.args.path.now c.args.store.now c.change_store.new.store c.args.command.now (g.S.Sink.written c.args.out.now) _
+    carried_change c.args.options.now.closed c.args.searches.now c.args.path.now c.args.store.now c.change_store.new.store c.args.command.now (g.S.Sink.written c.args.out.now) _
     (is_change c.args.command.now.what c.in-Clear.is) c.in_ok-change_store-in-Clear.ensures refl refl

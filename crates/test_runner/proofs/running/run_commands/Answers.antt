@@ -12,7 +12,7 @@ use Rattle.test_runner.proofs.running.run_commands.Goals as goal
 
 pub loop-command-init : goal.loop-command-init
 loop-command-init g c = record {
-  ran = carried_none _ _ _ _ refl refl;
+  ran = carried_none _ _ _ _ _ refl refl;
   left = ap (λ (s : AllSeries). Ok s) (sym c.new-store.ensures);
   kept = subst (AllByRecursion (λ (one : Command). HasItsPatterns c.args.searches.now one.what)) (sym c.as_slice-command-items.ensures) c.requires.kept;
   same = search rules;
@@ -57,10 +57,10 @@ loop-command-preserved g c =
     let now = g.S.Sink.written c.run_command.new.out in
     let to = at_take all i command c.loop-command-test.true c.command-item.is in
     let has = subst (AllByRecursion (λ (one : Command). HasItsPatterns kept one.what)) (at_drop all i command c.loop-command-test.true c.command-item.is) sofar.kept in
-    let more = subst (λ (k : PatternList). CarriedOut k path mid (command ∷ []) between now c.in_ok-more.more) sofar.same c.in_ok-more.ensures.ran in
+    let more = subst (λ (k : PatternList). CarriedOut c.args.options.now.closed k path mid (command ∷ []) between now c.in_ok-more.more) sofar.same c.in_ok-more.ensures.ran in
     let both = carried_join [] mid (take i all) sofar.ran sofar.left (command ∷ []) c.in_ok-more.more c.plus-totals.result more c.plus-totals.ensures.passed c.plus-totals.ensures.failed in
     record {
-      ran = subst (λ (cs : List Command). CarriedOut kept path [] cs (g.S.Sink.written c.args.out.now) now c.plus-totals.result) to both;
+      ran = subst (λ (cs : List Command). CarriedOut c.args.options.now.closed kept path [] cs (g.S.Sink.written c.args.out.now) now c.plus-totals.result) to both;
       left = subst (λ (cs : List Command). left_by_all cs [] ≡ Ok c.run_command.new.store) to (left_more (take i all) command [] mid sofar.left c.run_command.new.store c.in_ok-more.ensures.left);
       kept = has.1;
       same = c.in_ok-more.ensures.same ∙ sofar.same;
@@ -82,10 +82,10 @@ returns-in_err-more-clause-cut g c =
     let now = g.S.Sink.written c.run_command.new.out in
     let fault = c.in_err-more.field-0.0 in
     let p = err_from_is_err_and c.from_residual.result c.from_residual.ensures.1 in
-    let here = subst (λ (k : PatternList). IfCut fault (WasCutOff k path mid (command ∷ []) between now)) sofar.same c.in_err-more.ensures.cut in
+    let here = subst (λ (k : PatternList). IfCut fault (WasCutOff c.args.options.now.closed k path mid (command ∷ []) between now)) sofar.same c.in_err-more.ensures.cut in
     let whole = parted all i command c.loop-command-test.true c.command-item.is ∙ c.as_slice-command-items.ensures in
-    rw (p.1, p.2) (cut_on fault (WasCutOff kept path mid (command ∷ []) between now) (WasCutOff kept path [] c.args.script.now.commands before now) here
-    (λ cut. subst (λ (cs : List Command). WasCutOff kept path [] cs before now) whole (cut_join [] mid (take i all) sofar.ran sofar.left (command ∷ []) (drop (i + 1) all) cut)))
+    rw (p.1, p.2) (cut_on fault (WasCutOff c.args.options.now.closed kept path mid (command ∷ []) between now) (WasCutOff c.args.options.now.closed kept path [] c.args.script.now.commands before now) here
+    (λ cut. subst (λ (cs : List Command). WasCutOff c.args.options.now.closed kept path [] cs before now) whole (cut_join [] mid (take i all) sofar.ran sofar.left (command ∷ []) (drop (i + 1) all) cut)))
 
 pub returns-in_err-more-clause-explained : goal.returns-in_err-more-clause-explained
 returns-in_err-more-clause-explained g c =

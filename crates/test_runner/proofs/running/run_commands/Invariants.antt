@@ -9,7 +9,7 @@ use Rattle.test_runner.proofs.running.run_commands.Given as goal
 -- the commands so far were carried out
 abbrev pub invariant-loop-command : goal.invariant-loop-command
 invariant-loop-command g l = record {
-  ran : CarriedOut l.fn.searches l.path [] (take l.command-index l.command-items) (g.S.Sink.written l.fn.out) (g.S.Sink.written l.out) l.totals;
+  ran : CarriedOut l.options.closed l.fn.searches l.path [] (take l.command-index l.command-items) (g.S.Sink.written l.fn.out) (g.S.Sink.written l.out) l.totals;
   left : left_by_all (take l.command-index l.command-items) [] ≡ Ok l.store;
   kept : AllByRecursion (λ (command : Command). HasItsPatterns l.fn.searches command.what) (drop l.command-index l.command-items);
   same : l.searches ≡ l.fn.searches;
