@@ -22,34 +22,34 @@ use Rattle.promql_tool.specs.declared.query.Answered.TheVariants as end
 use Rattle.promql_tool.proofs.Judging.{loads_refused}
 use Rattle.promql_tool.proofs.Mapped.{just, stops_so}
 
-module _ (path expr : List ℕ) (grid : Grid) (instant : Bool) (idle : Type 0) where
+module _ (closed : Bool) (path expr : List ℕ) (grid : Grid) (instant : Bool) (idle : Type 0) where
   -- what is answered over a script, as what is answered over its bytes
-  over_script : (kept : PatternList) (bytes : List ℕ) (script : Script) → IsReadAs kept bytes (Ok script) → (got : Answered) → AnswersScript script expr grid instant idle got → AnswersFile (Just bytes) path expr grid instant idle got
+  over_script : (kept : PatternList) (bytes : List ℕ) (script : Script) → IsReadAs kept bytes (Ok script) → (got : Answered) → AnswersScript closed script expr grid instant idle got → AnswersFile closed (Just bytes) path expr grid instant idle got
   over_script kept bytes script is_read (end.Outcome got) h = record { bytes = bytes; is_found = refl; kept = kept; script = script; is_read = is_read; over = h }
   over_script kept bytes script is_read (end.Stopped stop.Gone) h = absurd h
   over_script kept bytes script is_read (end.Stopped (stop.Refused why)) h = ((bytes, refl, loads_refused kept bytes script is_read why h.0), h.1)
 
-  pub script_answered : (E : Type 0) (kept : PatternList) (bytes : List ℕ) (script : Script) (r : Result Answered E) → IsReadAs kept bytes (Ok script) → IfOk r (AnswersScript script expr grid instant idle)
-      → IfOk r (AnswersFile (Just bytes) path expr grid instant idle)
+  pub script_answered : (E : Type 0) (kept : PatternList) (bytes : List ℕ) (script : Script) (r : Result Answered E) → IsReadAs kept bytes (Ok script) → IfOk r (AnswersScript closed script expr grid instant idle)
+      → IfOk r (AnswersFile closed (Just bytes) path expr grid instant idle)
   script_answered E kept bytes script r is_read h =
-      IfOk-weaker r (AnswersScript script expr grid instant idle) (AnswersFile (Just bytes) path expr grid instant idle) (over_script kept bytes script is_read) h
+      IfOk-weaker r (AnswersScript closed script expr grid instant idle) (AnswersFile closed (Just bytes) path expr grid instant idle) (over_script kept bytes script is_read) h
 
   -- bytes are there
-  not_gone : (bytes : List ℕ) (got : Answered) (P : Type 0) → AnswersFile (Just bytes) path expr grid instant idle got → got ≡ end.Stopped stop.Gone → P
+  not_gone : (bytes : List ℕ) (got : Answered) (P : Type 0) → AnswersFile closed (Just bytes) path expr grid instant idle got → got ≡ end.Stopped stop.Gone → P
   not_gone bytes (end.Outcome got) P h is = absurd (cc)
   not_gone bytes (end.Stopped stop.Gone) P h is = let none = h.0 in absurd (cc)
   not_gone bytes (end.Stopped (stop.Refused why)) P h is = absurd (cc)
 
-  pub never_gone : (E : Type 0) (bytes : List ℕ) (r : Result Answered E) (P : Type 0) → IfOk r (AnswersFile (Just bytes) path expr grid instant idle) → IfOk r (λ got. got ≡ end.Stopped stop.Gone → P)
-  never_gone E bytes r P h = IfOk-weaker r (AnswersFile (Just bytes) path expr grid instant idle) (λ got. got ≡ end.Stopped stop.Gone → P) (λ got. not_gone bytes got P) h
+  pub never_gone : (E : Type 0) (bytes : List ℕ) (r : Result Answered E) (P : Type 0) → IfOk r (AnswersFile closed (Just bytes) path expr grid instant idle) → IfOk r (λ got. got ≡ end.Stopped stop.Gone → P)
+  never_gone E bytes r P h = IfOk-weaker r (AnswersFile closed (Just bytes) path expr grid instant idle) (λ got. got ≡ end.Stopped stop.Gone → P) (λ got. not_gone bytes got P) h
 
   module _ (found : List ℕ → Option (List ℕ) → Type 0) where
-    over_bytes : (bytes : List ℕ) → found path (Some bytes) → (got : Answered) → AnswersFile (Just bytes) path expr grid instant idle got → AnswersFile found path expr grid instant idle got
+    over_bytes : (bytes : List ℕ) → found path (Some bytes) → (got : Answered) → AnswersFile closed (Just bytes) path expr grid instant idle got → AnswersFile closed found path expr grid instant idle got
     over_bytes bytes is_found (end.Outcome got) h = record { bytes = h.bytes; is_found = just found path bytes is_found (Some h.bytes) h.is_found; kept = h.kept; script = h.script; is_read = h.is_read; over = h.over }
     over_bytes bytes is_found (end.Stopped stop) h = (stops_so (Just bytes) found path (just found path bytes is_found) stop h.0, h.1)
 
-    pub bytes_answered : (E : Type 0) (bytes : List ℕ) (r : Result Answered E) → found path (Some bytes) → IfOk r (AnswersFile (Just bytes) path expr grid instant idle) → IfOk r (AnswersFile found path expr grid instant idle)
-    bytes_answered E bytes r is_found h = IfOk-weaker r (AnswersFile (Just bytes) path expr grid instant idle) (AnswersFile found path expr grid instant idle) (over_bytes bytes is_found) h
+    pub bytes_answered : (E : Type 0) (bytes : List ℕ) (r : Result Answered E) → found path (Some bytes) → IfOk r (AnswersFile closed (Just bytes) path expr grid instant idle) → IfOk r (AnswersFile closed found path expr grid instant idle)
+    bytes_answered E bytes r is_found h = IfOk-weaker r (AnswersFile closed (Just bytes) path expr grid instant idle) (AnswersFile closed found path expr grid instant idle) (over_bytes bytes is_found) h
 
     -- the report of an outcome is of status 0 or 1
     outcome_rests : (got : Outcome) (notes : List (List ℕ)) → IsOneOf (3 ∷ 6 ∷ []) (outcome_report got notes).status → idle
@@ -58,19 +58,19 @@ module _ (path expr : List ℕ) (grid : Grid) (instant : Bool) (idle : Type 0) w
     outcome_rests (outcome.Failed at mark) notes h = absurd (cc)
     outcome_rests (outcome.TooManyRows at) notes h = absurd (cc)
 
-    report_is : (got : Answered) (report : Report) → AnswersFile found path expr grid instant idle got → ReportsAnswered path got report → ReportsQuery found path expr grid instant idle report
-    report_is (end.Outcome got) report h r = subst (ReportsQuery found path expr grid instant idle) (sym r.2)
+    report_is : (got : Answered) (report : Report) → AnswersFile closed found path expr grid instant idle got → ReportsAnswered path got report → ReportsQuery closed found path expr grid instant idle report
+    report_is (end.Outcome got) report h r = subst (ReportsQuery closed found path expr grid instant idle) (sym r.2)
         (record { is = answered h.bytes h.kept h.script got r.0 h.is_found h.is_read h.over r.1; rests = outcome_rests got r.0 })
-    report_is (end.Stopped stop.Gone) report h r = subst (ReportsQuery found path expr grid instant idle) (sym r) (record { is = gone h.0; rests = λ _. h.1 })
-    report_is (end.Stopped (stop.Refused why)) report h r = subst (ReportsQuery found path expr grid instant idle) (sym r) (record { is = refused h.0.0 why h.0.1 h.0.2; rests = λ _. h.1 })
+    report_is (end.Stopped stop.Gone) report h r = subst (ReportsQuery closed found path expr grid instant idle) (sym r) (record { is = gone h.0; rests = λ _. h.1 })
+    report_is (end.Stopped (stop.Refused why)) report h r = subst (ReportsQuery closed found path expr grid instant idle) (sym r) (record { is = refused h.0.0 why h.0.1 h.0.2; rests = λ _. h.1 })
 
-    module _ (before now : Option (List ℕ)) (got : Answered) (h : AnswersFile found path expr grid instant idle got) where
-      cut_is : IsCutReport (ReportsAnswered path got) before now → IsCutReport (Queried found path expr grid instant) before now
+    module _ (before now : Option (List ℕ)) (got : Answered) (h : AnswersFile closed found path expr grid instant idle got) where
+      cut_is : IsCutReport (ReportsAnswered path got) before now → IsCutReport (Queried closed found path expr grid instant) before now
       cut_is (Nothing same) = Nothing same
       cut_is (Partly report r front) = Partly report (report_is got report h r).is front
 
       pub query_ends : (r : Result Status SinkFail) → Ends (ReportsAnswered path got) (IsCutReport (ReportsAnswered path got) before now) before now r
-          → Ends (ReportsQuery found path expr grid instant idle) (IsCutReport (Queried found path expr grid instant) before now) before now r
+          → Ends (ReportsQuery closed found path expr grid instant idle) (IsCutReport (Queried closed found path expr grid instant) before now) before now r
       query_ends (Ok status) e = (e.0, report_is got e.0 h e.1, e.2)
       query_ends (Err cause) e = cut_is e
 

@@ -16,7 +16,7 @@ use Rattle.promql_tool.specs.Files.{All, Gone, IsJudged, JudgedFile, Last, Refus
 use Rattle.promql_tool.specs.Found.{Have, IsFound, Just}
 use Rattle.promql_tool.specs.Query.{Queried, answered, gone as query_gone, outcome_report, refused as query_refused}
 use Rattle.promql_tool.specs.Reading.{IsNoScript, IsRefusedFor}
-use Rattle.promql_tool.specs.Report.{HasReport, IsReport, files_asked, files_of, misused, queried, tested, worked}
+use Rattle.promql_tool.specs.Report.{HasReport, IsReport, closed_asked, closed_of, files_asked, files_of, misused, queried, tested, worked}
 use Rattle.promql_tool.specs.Runs.{Misused, Queries, ReportsFiles, ReportsWords, ReportsWorkload, Tested, Works}
 use Rattle.promql_tool.specs.Texts.{Report, refusal_text, usage}
 use Rattle.promql_tool.specs.Workload.{loaded_text, workload_path, workload_text}
@@ -36,9 +36,9 @@ told_each (Some files) P each = each files
 -- what holds of each text holds of that of a workload
 pub made_each : (wish : Option Wish) (P : List ℕ → Type 0) → ((text : List ℕ) → P text) → IfMade wish P
 made_each None P each = tt
-made_each (Some (test paths)) P each = tt
-made_each (Some (query moments path expr)) P each = tt
-made_each (Some (workload series)) P each = each (workload_text series)
+made_each (Some (test closed paths)) P each = tt
+made_each (Some (query closed moments path expr)) P each = tt
+made_each (Some (workload closed series)) P each = each (workload_text series)
 
 -- what holds of each holds of the first
 pub first_of : (paths : List (List ℕ)) (P : List ℕ → Type 0) → ((path : List ℕ) → P path) → IfFirst paths P
@@ -62,7 +62,7 @@ outcome_is (outcome.Refused refusal) notes P p0 p1 = p1
 outcome_is (outcome.Failed at mark) notes P p0 p1 = p1
 outcome_is (outcome.TooManyRows at) notes P p0 p1 = p1
 
-query_is : {found : List ℕ → Option (List ℕ) → Type 0} {path expr : List ℕ} {grid : Grid} {instant : Bool} {report : Report} → Queried found path expr grid instant report → (P : ℕ → Type 0) → P 0 → P 1 → P 3 → P 6 → P report.status
+query_is : {closed : Bool} {found : List ℕ → Option (List ℕ) → Type 0} {path expr : List ℕ} {grid : Grid} {instant : Bool} {report : Report} → Queried closed found path expr grid instant report → (P : ℕ → Type 0) → P 0 → P 1 → P 3 → P 6 → P report.status
 query_is (query_gone h) P p0 p1 p3 p6 = p3
 query_is (query_refused bytes why h w) P p0 p1 p3 p6 = p6
 query_is (answered bytes kept script got notes h read over are) P p0 p1 p3 p6 = outcome_is got notes P p0 p1
@@ -70,51 +70,51 @@ query_is (answered bytes kept script got notes h read over are) P p0 p1 p3 p6 = 
 -- the status of a report
 pub report_is : (words : List (List ℕ)) (found : List ℕ → Option (List ℕ) → Type 0) (report : Report) → IsReport words found report → (P : ℕ → Type 0) → P 0 → P 1 → P 2 → P 3 → P 6 → P report.status
 report_is words found report (misused none) P p0 p1 p2 p3 p6 = p2
-report_is words found report (tested paths files last is seen) P p0 p1 p2 p3 p6 = last_is files last P p0 p1 p3 p6
-report_is words found report (queried grid instant path expr said is q) P p0 p1 p2 p3 p6 = query_is q P p0 p1 p3 p6
-report_is words found report (worked series files last is seen) P p0 p1 p2 p3 p6 = last_is files last P p0 p1 p3 p6
+report_is words found report (tested closed paths files last is seen) P p0 p1 p2 p3 p6 = last_is files last P p0 p1 p3 p6
+report_is words found report (queried closed grid instant path expr said is q) P p0 p1 p2 p3 p6 = query_is q P p0 p1 p3 p6
+report_is words found report (worked closed series files last is seen) P p0 p1 p2 p3 p6 = last_is files last P p0 p1 p3 p6
 
 -- ---- reports over the files that are told
 
 module _ (f g : List ℕ → Option (List ℕ) → Type 0) (some : (path bytes : List ℕ) → f path (Some bytes) → g path (Some bytes)) where
-  query_so : {path expr : List ℕ} {grid : Grid} {instant : Bool} {report : Report} → ((path : List ℕ) → f path None → report.status ≡ 3 → g path None) → Queried f path expr grid instant report
-      → Queried g path expr grid instant report
+  query_so : {path expr : List ℕ} {grid : Grid} {instant : Bool} {report : Report} {closed : Bool} → ((path : List ℕ) → f path None → report.status ≡ 3 → g path None) → Queried closed f path expr grid instant report
+      → Queried closed g path expr grid instant report
   query_so {path} none (query_gone h) = query_gone (none path h refl)
   query_so {path} none (query_refused bytes why h w) = query_refused bytes why (some path bytes h) w
   query_so {path} none (answered bytes kept script got notes h read over are) = answered bytes kept script got notes (some path bytes h) read over are
 
   pub report_so : (words : List (List ℕ)) (report : Report) → ((path : List ℕ) → f path None → report.status ≡ 3 → g path None) → IsReport words f report → IsReport words g report
   report_so words report none (misused h) = misused h
-  report_so words report none (tested paths files last is seen) =
-      tested paths files last is (sees_so f g some paths files last (λ path h at. none path h (ap (last_status files) at)) seen)
-  report_so words report none (queried grid instant path expr said is q) = queried grid instant path expr said is (query_so none q)
-  report_so words report none (worked series files last is seen) = worked series files last is seen
+  report_so words report none (tested closed paths files last is seen) =
+      tested closed paths files last is (sees_so f g some closed paths files last (λ path h at. none path h (ap (last_status files) at)) seen)
+  report_so words report none (queried closed grid instant path expr said is q) = queried closed grid instant path expr said is (query_so none q)
+  report_so words report none (worked closed series files last is seen) = worked closed series files last is seen
 
 -- ---- what was seen
 
-module _ (found : List ℕ → Option (List ℕ) → Type 0) where
-  judged_all : (P : List ℕ → Type 0) → ((path : List ℕ) → (v : _) → IsJudged found path v → P path) → (paths : List (List ℕ)) (files : List JudgedFile) (last : Last) → last ≡ All → Sees found paths files last → AllByRecursion P paths
+module _ (closed : Bool) (found : List ℕ → Option (List ℕ) → Type 0) where
+  judged_all : (P : List ℕ → Type 0) → ((path : List ℕ) → (v : _) → IsJudged closed found path v → P path) → (paths : List (List ℕ)) (files : List JudgedFile) (last : Last) → last ≡ All → Sees closed found paths files last → AllByRecursion P paths
   judged_all P each paths files last is all = tt
   judged_all P each paths files last is (gone path later h) = absurd (cc)
   judged_all P each paths files last is (refused path bytes refusal later h why) = absurd (cc)
   judged_all P each paths files last is (judged path verdicts later more end h seen) = (each path verdicts h, judged_all P each later more end is seen)
 
   -- no file was judged where the first one can't be
-  none_judged : (first : List ℕ) (rest paths : List (List ℕ)) (files : List JudgedFile) (last : Last) → paths ≡ first ∷ rest → ((v : _) → IsJudged found first v → ⊥) → Sees found paths files last → files ≡ []
+  none_judged : (first : List ℕ) (rest paths : List (List ℕ)) (files : List JudgedFile) (last : Last) → paths ≡ first ∷ rest → ((v : _) → IsJudged closed found first v → ⊥) → Sees closed found paths files last → files ≡ []
   none_judged first rest paths files last is never all = refl
   none_judged first rest paths files last is never (gone path later h) = refl
   none_judged first rest paths files last is never (refused path bytes refusal later h why) = refl
   none_judged first rest paths files last is never (judged path verdicts later more end h seen) =
-      let same : path ≡ first = cc in absurd (never verdicts (subst (λ (p : List ℕ). IsJudged found p verdicts) same h))
+      let same : path ≡ first = cc in absurd (never verdicts (subst (λ (p : List ℕ). IsJudged closed found p verdicts) same h))
 
-  none_left : (paths : List (List ℕ)) (files : List JudgedFile) (last : Last) → length paths ≤ 0 → Sees found paths files last → last ≡ All
+  none_left : (paths : List (List ℕ)) (files : List JudgedFile) (last : Last) → length paths ≤ 0 → Sees closed found paths files last → last ≡ All
   none_left paths files last few all = refl
   none_left paths files last few (gone path later h) = absurd (omega arith)
   none_left paths files last few (refused path bytes refusal later h why) = absurd (omega arith)
   none_left paths files last few (judged path verdicts later more end h seen) = absurd (omega arith)
 
   -- no file was judged where the only one isn't
-  alone : (paths : List (List ℕ)) (files : List JudgedFile) (last : Last) → length paths ≤ 1 → (last ≡ All → ⊥) → Sees found paths files last → files ≡ []
+  alone : (paths : List (List ℕ)) (files : List JudgedFile) (last : Last) → length paths ≤ 1 → (last ≡ All → ⊥) → Sees closed found paths files last → files ≡ []
   alone paths files last few ends all = refl
   alone paths files last few ends (gone path later h) = refl
   alone paths files last few ends (refused path bytes refusal later h why) = refl
@@ -124,8 +124,8 @@ module _ (found : List ℕ → Option (List ℕ) → Type 0) where
 -- ---- the clauses of a run that ended with a report
 
 -- a file that was judged can be run
-runs_not : (files : List ℕ → Option (List ℕ)) (sound : Type 0) (path : List ℕ) (v : _) → IsUnrun (files path) → IsJudged (IsFound (Some files) sound) path v → ⊥
-runs_not files sound path v unrun j = let never = subst IsUnrun j.is_found.if_some unrun in never j.kept j.script j.is_run
+runs_not : (closed : Bool) (files : List ℕ → Option (List ℕ)) (sound : Type 0) (path : List ℕ) (v : _) → IsUnrun (files path) → IsJudged closed (IsFound (Some files) sound) path v → ⊥
+runs_not closed files sound path v unrun j = let never = subst IsUnrun j.is_found.if_some unrun in never j.kept j.script j.is_run
 
 -- bytes that were found are told
 told_some : (files : List ℕ → Option (List ℕ)) (sound : Type 0) (path bytes : List ℕ) → IsFound (Some files) sound path (Some bytes) → Have files path (Some bytes)
@@ -133,13 +133,17 @@ told_some files sound path bytes h = h.if_some
 
 pub is_report : (words : List (List ℕ)) (found : List ℕ → Option (List ℕ) → Type 0) (idle : Type 0) (report : Report) → ReportsWords words found idle report → IsReport words found report
 is_report words found idle report (Misused none rests) = misused none
-is_report words found idle report (Tested paths said is f) = subst (IsReport words found) (sym f.is) (tested paths f.files f.last is f.seen)
-is_report words found idle report (Queries grid instant path expr said is q) = queried grid instant path expr said is q.is
-is_report words found idle report (Works series said is w) = subst (IsReport words found) (sym w.is) (worked series w.files w.last is w.seen)
+is_report words found idle report (Tested closed paths said is f) = subst (IsReport words found) (sym f.is) (tested closed paths f.files f.last is f.seen)
+is_report words found idle report (Queries closed grid instant path expr said is q) = queried closed grid instant path expr said is q.is
+is_report words found idle report (Works closed series said is w) = subst (IsReport words found) (sym w.is) (worked closed series w.files w.last is w.seen)
 
 -- the files of words that ask for such
 named : (words : List (List ℕ)) (wish : Option Wish) → asked words ≡ wish → files_asked wish ≡ files_of words
 named words wish is = ap files_asked (sym is)
+
+-- and their edge
+edged : (words : List (List ℕ)) (wish : Option Wish) → asked words ≡ wish → closed_asked wish ≡ closed_of words
+edged words wish is = ap closed_asked (sym is)
 
 module _ (words : List (List ℕ)) (idle : Type 0) (before now : Option (List ℕ)) (status : ℕ) where
   pub status_is : (found : List ℕ → Option (List ℕ) → Type 0) (report : Report) → ReportsWords words found idle report → Reports before now status report → (P : ℕ → Type 0) → P 0 → P 1 → P 2 → P 3 → P 6 → P status
@@ -155,91 +159,91 @@ module _ (words : List (List ℕ)) (idle : Type 0) (before now : Option (List �
   -- 2
   pub misuse_is : (found : List ℕ → Option (List ℕ) → Type 0) (report : Report) → ReportsWords words found idle report → Reports before now status report → status ≡ 2 → (asked words ≡ None) × (now ≡ appended before usage)
   misuse_is found report (Misused none rests) r two = (none, r.text_is)
-  misuse_is found report (Tested paths said is f) r two =
+  misuse_is found report (Tested closed paths said is f) r two =
       absurd (last_is f.files f.last (λ n. n ≡ 2 → ⊥) (λ e. omega (arith, e)) (λ e. omega (arith, e)) (λ e. omega (arith, e)) (λ e. omega (arith, e)) (sym (ap (λ (x : Report). x.status) f.is) ∙ sym r.status_is ∙ two))
-  misuse_is found report (Queries grid instant path expr said is q) r two =
+  misuse_is found report (Queries closed grid instant path expr said is q) r two =
       absurd (query_is q.is (λ n. n ≡ 2 → ⊥) (λ e. omega (arith, e)) (λ e. omega (arith, e)) (λ e. omega (arith, e)) (λ e. omega (arith, e)) (sym r.status_is ∙ two))
-  misuse_is found report (Works series said is w) r two =
+  misuse_is found report (Works closed series said is w) r two =
       absurd (last_is w.files w.last (λ n. n ≡ 2 → ⊥) (λ e. omega (arith, e)) (λ e. omega (arith, e)) (λ e. omega (arith, e)) (λ e. omega (arith, e)) (sym (ap (λ (x : Report). x.status) w.is) ∙ sym r.status_is ∙ two))
 
   module _ (found : List ℕ → Option (List ℕ) → Type 0) where
     -- 6
-    files_refused : (paths : List (List ℕ)) (files : List JudgedFile) (last : Last) → paths ≡ files_of words → Sees found paths files last → Reports before now status (report_of files last) → status ≡ 6
+    files_refused : (closed : Bool) (paths : List (List ℕ)) (files : List JudgedFile) (last : Last) → closed ≡ closed_of words → paths ≡ files_of words → Sees closed found paths files last → Reports before now status (report_of files last) → status ≡ 6
         → IsRefused words found before now
-    files_refused paths files All is seen r six = absurd (verdict_status (all_failed files == 0) (λ n. n ≡ 6 → ⊥) (λ e. omega (arith, e)) (λ e. omega (arith, e)) (sym r.status_is ∙ six))
-    files_refused paths files (Gone path) is seen r six = absurd (omega (arith, r.status_is, six))
-    files_refused paths files (Refused path why) is seen r six =
-        refuses files path why (subst (λ (ps : List (List ℕ)). Sees found ps files (Refused path why)) is seen) r.text_is
+    files_refused closed paths files All edge is seen r six = absurd (verdict_status (all_failed files == 0) (λ n. n ≡ 6 → ⊥) (λ e. omega (arith, e)) (λ e. omega (arith, e)) (sym r.status_is ∙ six))
+    files_refused closed paths files (Gone path) edge is seen r six = absurd (omega (arith, r.status_is, six))
+    files_refused closed paths files (Refused path why) edge is seen r six =
+        refuses files path why (subst (λ (b : Bool). Sees b found (files_of words) files (Refused path why)) edge (subst (λ (ps : List (List ℕ)). Sees closed found ps files (Refused path why)) is seen)) r.text_is
 
-    query_refused_is : (path expr : List ℕ) (grid : Grid) (instant : Bool) (report : Report) → path ∷ [] ≡ files_of words → Queried found path expr grid instant report → Reports before now status report → status ≡ 6
+    query_refused_is : (closed : Bool) (path expr : List ℕ) (grid : Grid) (instant : Bool) (report : Report) → path ∷ [] ≡ files_of words → Queried closed found path expr grid instant report → Reports before now status report → status ≡ 6
         → IsRefused words found before now
-    query_refused_is path expr grid instant report is (query_gone h) r six = absurd (omega (arith, r.status_is, six))
-    query_refused_is path expr grid instant report is (query_refused bytes why h w) r six =
-        refuses [] path why (subst (λ (ps : List (List ℕ)). Sees found ps [] (Refused path why)) is (refused path bytes why [] h w)) r.text_is
-    query_refused_is path expr grid instant report is (answered bytes kept script got notes h read over are) r six =
+    query_refused_is closed path expr grid instant report is (query_gone h) r six = absurd (omega (arith, r.status_is, six))
+    query_refused_is closed path expr grid instant report is (query_refused bytes why h w) r six =
+        refuses [] path why (subst (λ (ps : List (List ℕ)). Sees (closed_of words) found ps [] (Refused path why)) is (refused path bytes why [] h w)) r.text_is
+    query_refused_is closed path expr grid instant report is (answered bytes kept script got notes h read over are) r six =
         absurd (outcome_is got notes (λ n. n ≡ 6 → ⊥) (λ e. omega (arith, e)) (λ e. omega (arith, e)) (sym r.status_is ∙ six))
 
     -- the script of a workload is refused
-    script_refused : (series : ℕ) (paths : List (List ℕ)) (files : List JudgedFile) (last : Last) → paths ≡ workload_path ∷ [] → Sees (Just (workload_text series)) paths files last
+    script_refused : (closed : Bool) (series : ℕ) (paths : List (List ℕ)) (files : List JudgedFile) (last : Last) → paths ≡ workload_path ∷ [] → Sees closed (Just (workload_text series)) paths files last
         → last_status files last ≡ 6 → (why : Refusing) × IsRefusedFor (workload_text series) why × ((report_of files last).text ≡ refusal_text workload_path why)
-    script_refused series paths files last is all six = absurd (cc)
-    script_refused series paths files last is (gone path later h) six = absurd (omega (arith, six))
-    script_refused series paths files last is (refused path bytes why later h w) six =
+    script_refused closed series paths files last is all six = absurd (cc)
+    script_refused closed series paths files last is (gone path later h) six = absurd (omega (arith, six))
+    script_refused closed series paths files last is (refused path bytes why later h w) six =
         let same : path ≡ workload_path = cc in
         let made : bytes ≡ workload_text series = cc in
         (why, subst (λ (b : List ℕ). IsRefusedFor b why) made w, ap (λ (p : List ℕ). refusal_text p why) same)
-    script_refused series paths files last is (judged path verdicts later more end j seen) six =
+    script_refused closed series paths files last is (judged path verdicts later more end j seen) six =
         let none : length later ≤ 0 = omega (arith, ap length is) in
-        let ends = none_left (Just (workload_text series)) later more end none seen in
+        let ends = none_left closed (Just (workload_text series)) later more end none seen in
         absurd (verdict_status (all_failed files == 0) (λ n. n ≡ 6 → ⊥) (λ e. omega (arith, e)) (λ e. omega (arith, e)) (sym (ap (last_status files) ends) ∙ six))
 
-    workload_refused : (series : ℕ) (report : Report) → asked words ≡ Some (workload series) → ReportsWorkload series idle report → Reports before now status report → status ≡ 6 → IsRefused words found before now
-    workload_refused series report is w r six =
+    workload_refused : (closed : Bool) (series : ℕ) (report : Report) → asked words ≡ Some (workload closed series) → ReportsWorkload closed series idle report → Reports before now status report → status ≡ 6 → IsRefused words found before now
+    workload_refused closed series report is w r six =
         let whole = subst (Reports before now status) w.is r in
-        let why = script_refused series (workload_path ∷ []) w.files w.last refl w.seen (sym whole.status_is ∙ six) in
-        makes series why.0 is why.1 (whole.text_is ∙ ap (λ (l : List ℕ). appended before (loaded_text series ++ l)) why.2)
+        let why = script_refused closed series (workload_path ∷ []) w.files w.last refl w.seen (sym whole.status_is ∙ six) in
+        makes closed series why.0 is why.1 (whole.text_is ∙ ap (λ (l : List ℕ). appended before (loaded_text series ++ l)) why.2)
 
     pub refusal_is : (report : Report) → ReportsWords words found idle report → Reports before now status report → status ≡ 6 → IsRefused words found before now
     refusal_is report (Misused none rests) r six = absurd (omega (arith, r.status_is, six))
-    refusal_is report (Tested paths said is f) r six =
-        files_refused paths f.files f.last (named words (Some (test paths)) is) f.seen (subst (Reports before now status) f.is r) six
-    refusal_is report (Queries grid instant path expr said is q) r six =
-        query_refused_is path expr grid instant said (named words (Some (query (moments_in grid instant) path expr)) is) q.is r six
-    refusal_is report (Works series said is w) r six = workload_refused series said is w r six
+    refusal_is report (Tested closed paths said is f) r six =
+        files_refused closed paths f.files f.last (edged words (Some (test closed paths)) is) (named words (Some (test closed paths)) is) f.seen (subst (Reports before now status) f.is r) six
+    refusal_is report (Queries closed grid instant path expr said is q) r six =
+        query_refused_is closed path expr grid instant said (named words (Some (query closed (moments_in grid instant) path expr)) is) q.is r six
+    refusal_is report (Works closed series said is w) r six = workload_refused closed series said is w r six
 
     -- 3
-    files_gone : (paths : List (List ℕ)) (files : List JudgedFile) (last : Last) → paths ≡ files_of words → Sees found paths files last → Reports before now status (report_of files last) → status ≡ 3
-        → IsGone (files_of words) found before now
-    files_gone paths files All is seen r three = absurd (verdict_status (all_failed files == 0) (λ n. n ≡ 3 → ⊥) (λ e. omega (arith, e)) (λ e. omega (arith, e)) (sym r.status_is ∙ three))
-    files_gone paths files (Gone path) is seen r three =
-        record { files = files; path = path; seen = subst (λ (ps : List (List ℕ)). Sees found ps files (Gone path)) is seen; written = r.text_is }
-    files_gone paths files (Refused path why) is seen r three = absurd (omega (arith, r.status_is, three))
+    files_gone : (closed : Bool) (paths : List (List ℕ)) (files : List JudgedFile) (last : Last) → closed ≡ closed_of words → paths ≡ files_of words → Sees closed found paths files last → Reports before now status (report_of files last) → status ≡ 3
+        → IsGone (closed_of words) (files_of words) found before now
+    files_gone closed paths files All edge is seen r three = absurd (verdict_status (all_failed files == 0) (λ n. n ≡ 3 → ⊥) (λ e. omega (arith, e)) (λ e. omega (arith, e)) (sym r.status_is ∙ three))
+    files_gone closed paths files (Gone path) edge is seen r three =
+        record { files = files; path = path; seen = subst (λ (b : Bool). Sees b found (files_of words) files (Gone path)) edge (subst (λ (ps : List (List ℕ)). Sees closed found ps files (Gone path)) is seen); written = r.text_is }
+    files_gone closed paths files (Refused path why) edge is seen r three = absurd (omega (arith, r.status_is, three))
 
-    query_gone_is : (path expr : List ℕ) (grid : Grid) (instant : Bool) (report : Report) → path ∷ [] ≡ files_of words → Queried found path expr grid instant report → Reports before now status report → status ≡ 3
-        → IsGone (files_of words) found before now
-    query_gone_is path expr grid instant report is (query_gone h) r three =
-        record { files = []; path = path; seen = subst (λ (ps : List (List ℕ)). Sees found ps [] (Gone path)) is (gone path [] h); written = r.text_is }
-    query_gone_is path expr grid instant report is (query_refused bytes why h w) r three = absurd (omega (arith, r.status_is, three))
-    query_gone_is path expr grid instant report is (answered bytes kept script got notes h read over are) r three =
+    query_gone_is : (closed : Bool) (path expr : List ℕ) (grid : Grid) (instant : Bool) (report : Report) → path ∷ [] ≡ files_of words → Queried closed found path expr grid instant report → Reports before now status report → status ≡ 3
+        → IsGone (closed_of words) (files_of words) found before now
+    query_gone_is closed path expr grid instant report is (query_gone h) r three =
+        record { files = []; path = path; seen = subst (λ (ps : List (List ℕ)). Sees (closed_of words) found ps [] (Gone path)) is (gone path [] h); written = r.text_is }
+    query_gone_is closed path expr grid instant report is (query_refused bytes why h w) r three = absurd (omega (arith, r.status_is, three))
+    query_gone_is closed path expr grid instant report is (answered bytes kept script got notes h read over are) r three =
         absurd (outcome_is got notes (λ n. n ≡ 3 → ⊥) (λ e. omega (arith, e)) (λ e. omega (arith, e)) (sym r.status_is ∙ three))
 
     -- the script of a workload is there
-    script_there : (series : ℕ) (paths : List (List ℕ)) (files : List JudgedFile) (last : Last) → paths ≡ workload_path ∷ [] → Sees (Just (workload_text series)) paths files last → last_status files last ≡ 3 → ⊥
-    script_there series paths files last is all three = verdict_status true (λ n. n ≡ 3 → ⊥) (λ e. omega (arith, e)) (λ e. omega (arith, e)) three
-    script_there series paths files last is (gone path later h) three = cc
-    script_there series paths files last is (refused path bytes why later h w) three = omega (arith, three)
-    script_there series paths files last is (judged path verdicts later more end j seen) three =
+    script_there : (closed : Bool) (series : ℕ) (paths : List (List ℕ)) (files : List JudgedFile) (last : Last) → paths ≡ workload_path ∷ [] → Sees closed (Just (workload_text series)) paths files last → last_status files last ≡ 3 → ⊥
+    script_there closed series paths files last is all three = verdict_status true (λ n. n ≡ 3 → ⊥) (λ e. omega (arith, e)) (λ e. omega (arith, e)) three
+    script_there closed series paths files last is (gone path later h) three = cc
+    script_there closed series paths files last is (refused path bytes why later h w) three = omega (arith, three)
+    script_there closed series paths files last is (judged path verdicts later more end j seen) three =
         let none : length later ≤ 0 = omega (arith, ap length is) in
-        let ends = none_left (Just (workload_text series)) later more end none seen in
+        let ends = none_left closed (Just (workload_text series)) later more end none seen in
         verdict_status (all_failed files == 0) (λ n. n ≡ 3 → ⊥) (λ e. omega (arith, e)) (λ e. omega (arith, e)) (sym (ap (last_status files) ends) ∙ three)
 
-    pub gone_is : (report : Report) → ReportsWords words found idle report → Reports before now status report → status ≡ 3 → IsGone (files_of words) found before now
+    pub gone_is : (report : Report) → ReportsWords words found idle report → Reports before now status report → status ≡ 3 → IsGone (closed_of words) (files_of words) found before now
     gone_is report (Misused none rests) r three = absurd (omega (arith, r.status_is, three))
-    gone_is report (Tested paths said is f) r three =
-        files_gone paths f.files f.last (named words (Some (test paths)) is) f.seen (subst (Reports before now status) f.is r) three
-    gone_is report (Queries grid instant path expr said is q) r three =
-        query_gone_is path expr grid instant said (named words (Some (query (moments_in grid instant) path expr)) is) q.is r three
-    gone_is report (Works series said is w) r three = absurd (script_there series (workload_path ∷ []) w.files w.last refl w.seen (sym (ap (λ (x : Report). x.status) w.is) ∙ sym r.status_is ∙ three))
+    gone_is report (Tested closed paths said is f) r three =
+        files_gone closed paths f.files f.last (edged words (Some (test closed paths)) is) (named words (Some (test closed paths)) is) f.seen (subst (Reports before now status) f.is r) three
+    gone_is report (Queries closed grid instant path expr said is q) r three =
+        query_gone_is closed path expr grid instant said (named words (Some (query closed (moments_in grid instant) path expr)) is) q.is r three
+    gone_is report (Works closed series said is w) r three = absurd (script_there closed series (workload_path ∷ []) w.files w.last refl w.seen (sym (ap (λ (x : Report). x.status) w.is) ∙ sym r.status_is ∙ three))
 
     -- nothing was evaluated
     not_all : (files : List JudgedFile) (last : Last) → IsOneOf (2 ∷ 3 ∷ 6 ∷ []) (last_status files last) → last ≡ All → ⊥
@@ -249,16 +253,16 @@ module _ (words : List (List ℕ)) (idle : Type 0) (before now : Option (List �
 
     pub idle_is : (report : Report) → ReportsWords words found idle report → Reports before now status report → IsOneOf (2 ∷ 3 ∷ 6 ∷ []) status → length (files_of words) ≤ 1 → idle
     idle_is report (Misused none rests) r one few = rests
-    idle_is report (Tested paths said is f) r one few =
+    idle_is report (Tested closed paths said is f) r one few =
         let told = subst (IsOneOf (2 ∷ 3 ∷ 6 ∷ [])) (r.status_is ∙ ap (λ (x : Report). x.status) f.is) one in
-        let short = subst (λ (ps : List (List ℕ)). length ps ≤ 1) (sym (named words (Some (test paths)) is)) few in
-        f.rests (alone found paths f.files f.last short (not_all f.files f.last told) f.seen)
-    idle_is report (Queries grid instant path expr said is q) r one few =
+        let short = subst (λ (ps : List (List ℕ)). length ps ≤ 1) (sym (named words (Some (test closed paths)) is)) few in
+        f.rests (alone closed found paths f.files f.last short (not_all f.files f.last told) f.seen)
+    idle_is report (Queries closed grid instant path expr said is q) r one few =
         let told = subst (IsOneOf (2 ∷ 3 ∷ 6 ∷ [])) r.status_is one in
         q.rests (query_is q.is (λ n. IsOneOf (2 ∷ 3 ∷ 6 ∷ []) n → IsOneOf (3 ∷ 6 ∷ []) n) (λ e. absurd (cc)) (λ e. absurd (cc)) (λ e. refl) (λ e. refl) told)
-    idle_is report (Works series said is w) r one few =
+    idle_is report (Works closed series said is w) r one few =
         let told = subst (IsOneOf (2 ∷ 3 ∷ 6 ∷ [])) (r.status_is ∙ ap (λ (x : Report). x.status) w.is) one in
-        w.rests (alone (Just (workload_text series)) (workload_path ∷ []) w.files w.last (omega arith) (not_all w.files w.last told) w.seen)
+        w.rests (alone closed (Just (workload_text series)) (workload_path ∷ []) w.files w.last (omega arith) (not_all w.files w.last told) w.seen)
 
   module _ (sound : Type 0) where
     not_three : IsOneOf (0 ∷ 1 ∷ 2 ∷ 6 ∷ []) status → status ≡ 3 → ⊥
@@ -277,14 +281,14 @@ module _ (words : List (List ℕ)) (idle : Type 0) (before now : Option (List �
         inl (report, report_so (IsFound (Some files) sound) (Have files) (told_some files sound) words report (λ path none three. none.if_sound s) (is_report words (IsFound (Some files) sound) idle report h), r.status_is)
 
     pub gone_told : (told : Option (List ℕ → Option (List ℕ))) (report : Report) → ReportsWords words (IsFound told sound) idle report → Reports before now status report
-        → IfSome told (λ files. sound → status ≡ 3 → IsGone (files_of words) (Have files) before now)
+        → IfSome told (λ files. sound → status ≡ 3 → IsGone (closed_of words) (files_of words) (Have files) before now)
     gone_told None report h r = tt
     gone_told (Some files) report h r = λ s three.
         let g = gone_is (IsFound (Some files) sound) report h r three in
         record {
           files = g.files;
           path = g.path;
-          seen = sees_so (IsFound (Some files) sound) (Have files) (told_some files sound) (files_of words) g.files (Gone g.path) (λ path none at. none.if_sound s) g.seen;
+          seen = sees_so (IsFound (Some files) sound) (Have files) (told_some files sound) (closed_of words) (files_of words) g.files (Gone g.path) (λ path none at. none.if_sound s) g.seen;
           written = g.written;
         }
 
@@ -296,77 +300,77 @@ module _ (words : List (List ℕ)) (idle : Type 0) (before now : Option (List �
       Runs path = IsUnrun (files path) → ⊥
 
       -- a file that can't be run ends the run
-      files_stop : (paths : List (List ℕ)) (seen_files : List JudgedFile) (last : Last) → Sees Over paths seen_files last → status ≡ last_status seen_files last → (path : List ℕ) → Contains paths path → IsUnrun (files path)
+      files_stop : (closed : Bool) (paths : List (List ℕ)) (seen_files : List JudgedFile) (last : Last) → Sees closed Over paths seen_files last → status ≡ last_status seen_files last → (path : List ℕ) → Contains paths path → IsUnrun (files path)
           → IsOneOf (3 ∷ 4 ∷ 6 ∷ 7 ∷ []) status
-      files_stop paths seen_files All seen is path among unrun =
-          let each = All-from_recursion Runs paths (judged_all Over Runs (λ p v j unrun. runs_not files sound p v unrun j) paths seen_files All refl seen) in
+      files_stop closed paths seen_files All seen is path among unrun =
+          let each = All-from_recursion Runs paths (judged_all closed Over Runs (λ p v j unrun. runs_not closed files sound p v unrun j) paths seen_files All refl seen) in
           absurd (All-contains Runs paths path each among unrun)
-      files_stop paths seen_files (Gone gone_path) seen is path among unrun = subst (IsOneOf (3 ∷ 4 ∷ 6 ∷ 7 ∷ [])) (sym is) refl
-      files_stop paths seen_files (Refused bad why) seen is path among unrun = subst (IsOneOf (3 ∷ 4 ∷ 6 ∷ 7 ∷ [])) (sym is) refl
+      files_stop closed paths seen_files (Gone gone_path) seen is path among unrun = subst (IsOneOf (3 ∷ 4 ∷ 6 ∷ 7 ∷ [])) (sym is) refl
+      files_stop closed paths seen_files (Refused bad why) seen is path among unrun = subst (IsOneOf (3 ∷ 4 ∷ 6 ∷ 7 ∷ [])) (sym is) refl
 
-      query_stops : (file expr : List ℕ) (grid : Grid) (instant : Bool) (report : Report) → Queried Over file expr grid instant report → status ≡ report.status → (path : List ℕ) → Contains (file ∷ []) path
+      query_stops : (closed : Bool) (file expr : List ℕ) (grid : Grid) (instant : Bool) (report : Report) → Queried closed Over file expr grid instant report → status ≡ report.status → (path : List ℕ) → Contains (file ∷ []) path
           → IsUnrun (files path) → IsOneOf (3 ∷ 4 ∷ 6 ∷ 7 ∷ []) status
-      query_stops file expr grid instant report (query_gone h) is path among unrun = subst (IsOneOf (3 ∷ 4 ∷ 6 ∷ 7 ∷ [])) (sym is) refl
-      query_stops file expr grid instant report (query_refused bytes why h w) is path among unrun = subst (IsOneOf (3 ∷ 4 ∷ 6 ∷ 7 ∷ [])) (sym is) refl
-      query_stops file expr grid instant report (answered bytes kept script got notes h read over are) is path among unrun =
+      query_stops closed file expr grid instant report (query_gone h) is path among unrun = subst (IsOneOf (3 ∷ 4 ∷ 6 ∷ 7 ∷ [])) (sym is) refl
+      query_stops closed file expr grid instant report (query_refused bytes why h w) is path among unrun = subst (IsOneOf (3 ∷ 4 ∷ 6 ∷ 7 ∷ [])) (sym is) refl
+      query_stops closed file expr grid instant report (answered bytes kept script got notes h read over are) is path among unrun =
           let runs : Runs file = λ no. (subst IsUnrun h.if_some no) kept script (record { is_read = read; series = over.series; taken = over.left }) in
           absurd (All-contains Runs (file ∷ []) path (All-from_recursion Runs (file ∷ []) (runs, tt)) among unrun)
 
       stops : (report : Report) → ReportsWords words Over idle report → Reports before now status report → (path : List ℕ) → Contains (files_of words) path → IsUnrun (files path) → IsOneOf (3 ∷ 4 ∷ 6 ∷ 7 ∷ []) status
       stops report (Misused none rests) r path among unrun =
           let nowhere = subst (λ (ps : List (List ℕ)). Contains ps path) (sym (named words None none)) among in absurd (omega (arith, nowhere.1))
-      stops report (Works series said is w) r path among unrun =
-          let nowhere = subst (λ (ps : List (List ℕ)). Contains ps path) (sym (named words (Some (workload series)) is)) among in absurd (omega (arith, nowhere.1))
-      stops report (Tested paths said is f) r path among unrun =
-          files_stop paths f.files f.last f.seen (r.status_is ∙ ap (λ (x : Report). x.status) f.is) path (subst (λ (ps : List (List ℕ)). Contains ps path) (sym (named words (Some (test paths)) is)) among) unrun
-      stops report (Queries grid instant file expr said is q) r path among unrun =
-          query_stops file expr grid instant said q.is r.status_is path (subst (λ (ps : List (List ℕ)). Contains ps path) (sym (named words (Some (query (moments_in grid instant) file expr)) is)) among) unrun
+      stops report (Works closed series said is w) r path among unrun =
+          let nowhere = subst (λ (ps : List (List ℕ)). Contains ps path) (sym (named words (Some (workload closed series)) is)) among in absurd (omega (arith, nowhere.1))
+      stops report (Tested closed paths said is f) r path among unrun =
+          files_stop closed paths f.files f.last f.seen (r.status_is ∙ ap (λ (x : Report). x.status) f.is) path (subst (λ (ps : List (List ℕ)). Contains ps path) (sym (named words (Some (test closed paths)) is)) among) unrun
+      stops report (Queries closed grid instant file expr said is q) r path among unrun =
+          query_stops closed file expr grid instant said q.is r.status_is path (subst (λ (ps : List (List ℕ)). Contains ps path) (sym (named words (Some (query closed (moments_in grid instant) file expr)) is)) among) unrun
 
       -- nothing was evaluated where the first file can't be run
-      files_idle : (paths : List (List ℕ)) (report : Report) → ReportsFiles Over paths idle report → IfFirst paths (λ path. IsUnrun (files path) → IsOneOf (3 ∷ 6 ∷ []) status → idle)
-      files_idle [] report f = tt
-      files_idle (first ∷ rest) report f = λ unrun one. f.rests (none_judged Over first rest (first ∷ rest) f.files f.last refl (λ v j. runs_not files sound first v unrun j) f.seen)
+      files_idle : (closed : Bool) (paths : List (List ℕ)) (report : Report) → ReportsFiles closed Over paths idle report → IfFirst paths (λ path. IsUnrun (files path) → IsOneOf (3 ∷ 6 ∷ []) status → idle)
+      files_idle closed [] report f = tt
+      files_idle closed (first ∷ rest) report f = λ unrun one. f.rests (none_judged closed Over first rest (first ∷ rest) f.files f.last refl (λ v j. runs_not closed files sound first v unrun j) f.seen)
 
       idle_first : (report : Report) → ReportsWords words Over idle report → Reports before now status report → IfFirst (files_of words) (λ path. IsUnrun (files path) → IsOneOf (3 ∷ 6 ∷ []) status → idle)
       idle_first report (Misused none rests) r = first_of (files_of words) (λ path. IsUnrun (files path) → IsOneOf (3 ∷ 6 ∷ []) status → idle) (λ path unrun one. rests)
-      idle_first report (Works series said is w) r =
-          subst (λ (ps : List (List ℕ)). IfFirst ps (λ path. IsUnrun (files path) → IsOneOf (3 ∷ 6 ∷ []) status → idle)) (named words (Some (workload series)) is) tt
-      idle_first report (Tested paths said is f) r =
-          subst (λ (ps : List (List ℕ)). IfFirst ps (λ path. IsUnrun (files path) → IsOneOf (3 ∷ 6 ∷ []) status → idle)) (named words (Some (test paths)) is) (files_idle paths said f)
-      idle_first report (Queries grid instant file expr said is q) r =
+      idle_first report (Works closed series said is w) r =
+          subst (λ (ps : List (List ℕ)). IfFirst ps (λ path. IsUnrun (files path) → IsOneOf (3 ∷ 6 ∷ []) status → idle)) (named words (Some (workload closed series)) is) tt
+      idle_first report (Tested closed paths said is f) r =
+          subst (λ (ps : List (List ℕ)). IfFirst ps (λ path. IsUnrun (files path) → IsOneOf (3 ∷ 6 ∷ []) status → idle)) (named words (Some (test closed paths)) is) (files_idle closed paths said f)
+      idle_first report (Queries closed grid instant file expr said is q) r =
           first_of (files_of words) (λ path. IsUnrun (files path) → IsOneOf (3 ∷ 6 ∷ []) status → idle) (λ path unrun one. q.rests (subst (IsOneOf (3 ∷ 6 ∷ [])) r.status_is one))
 
       -- a first file that isn't there
       not_some : (path bytes : List ℕ) (P : Type 0) → files path ≡ None → Have files path (Some bytes) → P
       not_some path bytes P none some = absurd (cc)
 
-      missing_first : (first : List ℕ) (rest paths : List (List ℕ)) (seen_files : List JudgedFile) (last : Last) → paths ≡ first ∷ rest → files first ≡ None → Sees Over paths seen_files last → status ≡ last_status seen_files last
+      missing_first : (closed : Bool) (first : List ℕ) (rest paths : List (List ℕ)) (seen_files : List JudgedFile) (last : Last) → paths ≡ first ∷ rest → files first ≡ None → Sees closed Over paths seen_files last → status ≡ last_status seen_files last
           → IsOneOf (3 ∷ 4 ∷ 7 ∷ []) status
-      missing_first first rest paths seen_files last is none all at = absurd (cc)
-      missing_first first rest paths seen_files last is none (gone path later h) at = subst (IsOneOf (3 ∷ 4 ∷ 7 ∷ [])) (sym at) refl
-      missing_first first rest paths seen_files last is none (refused path bytes why later h w) at =
+      missing_first closed first rest paths seen_files last is none all at = absurd (cc)
+      missing_first closed first rest paths seen_files last is none (gone path later h) at = subst (IsOneOf (3 ∷ 4 ∷ 7 ∷ [])) (sym at) refl
+      missing_first closed first rest paths seen_files last is none (refused path bytes why later h w) at =
           let same : path ≡ first = cc in not_some path bytes _ (ap files same ∙ none) h.if_some
-      missing_first first rest paths seen_files last is none (judged path verdicts later more end j seen) at =
+      missing_first closed first rest paths seen_files last is none (judged path verdicts later more end j seen) at =
           let same : path ≡ first = cc in not_some path j.bytes _ (ap files same ∙ none) j.is_found.if_some
 
-      files_missing : (paths : List (List ℕ)) (report : Report) → ReportsFiles Over paths idle report → status ≡ report.status → IfFirst paths (λ path. files path ≡ None → IsOneOf (3 ∷ 4 ∷ 7 ∷ []) status)
-      files_missing [] report f is = tt
-      files_missing (first ∷ rest) report f is = λ none. missing_first first rest (first ∷ rest) f.files f.last refl none f.seen (is ∙ ap (λ (x : Report). x.status) f.is)
+      files_missing : (closed : Bool) (paths : List (List ℕ)) (report : Report) → ReportsFiles closed Over paths idle report → status ≡ report.status → IfFirst paths (λ path. files path ≡ None → IsOneOf (3 ∷ 4 ∷ 7 ∷ []) status)
+      files_missing closed [] report f is = tt
+      files_missing closed (first ∷ rest) report f is = λ none. missing_first closed first rest (first ∷ rest) f.files f.last refl none f.seen (is ∙ ap (λ (x : Report). x.status) f.is)
 
-      query_missing : (file expr : List ℕ) (grid : Grid) (instant : Bool) (report : Report) → Queried Over file expr grid instant report → status ≡ report.status → files file ≡ None → IsOneOf (3 ∷ 4 ∷ 7 ∷ []) status
-      query_missing file expr grid instant report (query_gone h) is none = subst (IsOneOf (3 ∷ 4 ∷ 7 ∷ [])) (sym is) refl
-      query_missing file expr grid instant report (query_refused bytes why h w) is none = not_some file bytes _ none h.if_some
-      query_missing file expr grid instant report (answered bytes kept script got notes h read over are) is none = not_some file bytes _ none h.if_some
+      query_missing : (closed : Bool) (file expr : List ℕ) (grid : Grid) (instant : Bool) (report : Report) → Queried closed Over file expr grid instant report → status ≡ report.status → files file ≡ None → IsOneOf (3 ∷ 4 ∷ 7 ∷ []) status
+      query_missing closed file expr grid instant report (query_gone h) is none = subst (IsOneOf (3 ∷ 4 ∷ 7 ∷ [])) (sym is) refl
+      query_missing closed file expr grid instant report (query_refused bytes why h w) is none = not_some file bytes _ none h.if_some
+      query_missing closed file expr grid instant report (answered bytes kept script got notes h read over are) is none = not_some file bytes _ none h.if_some
 
       missing : (report : Report) → ReportsWords words Over idle report → Reports before now status report → IfFirst (files_of words) (λ path. files path ≡ None → IsOneOf (3 ∷ 4 ∷ 7 ∷ []) status)
       missing report (Misused none rests) r = subst (λ (ps : List (List ℕ)). IfFirst ps (λ path. files path ≡ None → IsOneOf (3 ∷ 4 ∷ 7 ∷ []) status)) (named words None none) tt
-      missing report (Works series said is w) r =
-          subst (λ (ps : List (List ℕ)). IfFirst ps (λ path. files path ≡ None → IsOneOf (3 ∷ 4 ∷ 7 ∷ []) status)) (named words (Some (workload series)) is) tt
-      missing report (Tested paths said is f) r =
-          subst (λ (ps : List (List ℕ)). IfFirst ps (λ path. files path ≡ None → IsOneOf (3 ∷ 4 ∷ 7 ∷ []) status)) (named words (Some (test paths)) is) (files_missing paths said f r.status_is)
-      missing report (Queries grid instant file expr said is q) r =
-          subst (λ (ps : List (List ℕ)). IfFirst ps (λ path. files path ≡ None → IsOneOf (3 ∷ 4 ∷ 7 ∷ []) status)) (named words (Some (query (moments_in grid instant) file expr)) is)
-          (query_missing file expr grid instant said q.is r.status_is)
+      missing report (Works closed series said is w) r =
+          subst (λ (ps : List (List ℕ)). IfFirst ps (λ path. files path ≡ None → IsOneOf (3 ∷ 4 ∷ 7 ∷ []) status)) (named words (Some (workload closed series)) is) tt
+      missing report (Tested closed paths said is f) r =
+          subst (λ (ps : List (List ℕ)). IfFirst ps (λ path. files path ≡ None → IsOneOf (3 ∷ 4 ∷ 7 ∷ []) status)) (named words (Some (test closed paths)) is) (files_missing closed paths said f r.status_is)
+      missing report (Queries closed grid instant file expr said is q) r =
+          subst (λ (ps : List (List ℕ)). IfFirst ps (λ path. files path ≡ None → IsOneOf (3 ∷ 4 ∷ 7 ∷ []) status)) (named words (Some (query closed (moments_in grid instant) file expr)) is)
+          (query_missing closed file expr grid instant said q.is r.status_is)
 
     pub outside_told : (told : Option (List ℕ → Option (List ℕ))) (report : Report) → ReportsWords words (IsFound told sound) idle report → Reports before now status report
         → IfSome told (λ files. (path : List ℕ) → Contains (files_of words) path → IsUnrun (files path) → IsOneOf (3 ∷ 4 ∷ 6 ∷ 7 ∷ []) status)
@@ -384,32 +388,32 @@ module _ (words : List (List ℕ)) (idle : Type 0) (before now : Option (List �
     missing_told (Some files) report h r = missing files report h r
 
   -- the script of a workload that can't be run
-  script_stops : (series : ℕ) (paths : List (List ℕ)) (files : List JudgedFile) (last : Last) → paths ≡ workload_path ∷ [] → Sees (Just (workload_text series)) paths files last → IsNoScript (workload_text series)
+  script_stops : (closed : Bool) (series : ℕ) (paths : List (List ℕ)) (files : List JudgedFile) (last : Last) → paths ≡ workload_path ∷ [] → Sees closed (Just (workload_text series)) paths files last → IsNoScript (workload_text series)
       → last_status files last ≡ 6
-  script_stops series paths files last is all never = absurd (cc)
-  script_stops series paths files last is (gone path later h) never = absurd (cc)
-  script_stops series paths files last is (refused path bytes why later h w) never = refl
-  script_stops series paths files last is (judged path verdicts later more end j seen) never =
+  script_stops closed series paths files last is all never = absurd (cc)
+  script_stops closed series paths files last is (gone path later h) never = absurd (cc)
+  script_stops closed series paths files last is (refused path bytes why later h w) never = refl
+  script_stops closed series paths files last is (judged path verdicts later more end j seen) never =
       let made : j.bytes ≡ workload_text series = let h = j.is_found in cc in
       absurd (subst IsNoScript (sym made) never j.kept j.script j.is_run)
 
-  made_so : (wish : Option Wish) (series : ℕ) (P : List ℕ → Type 0) → asked words ≡ wish → ((series : ℕ) → wish ≡ Some (workload series) → P (workload_text series)) → IfMade wish P
+  made_so : (wish : Option Wish) (series : ℕ) (P : List ℕ → Type 0) → asked words ≡ wish → ((closed : Bool) (series : ℕ) → wish ≡ Some (workload closed series) → P (workload_text series)) → IfMade wish P
   made_so None series P is each = tt
-  made_so (Some (test paths)) series P is each = tt
-  made_so (Some (query moments path expr)) series P is each = tt
-  made_so (Some (workload count)) series P is each = each count refl
+  made_so (Some (test closed paths)) series P is each = tt
+  made_so (Some (query closed moments path expr)) series P is each = tt
+  made_so (Some (workload closed count)) series P is each = each closed count refl
 
-  stops_made : (found : List ℕ → Option (List ℕ) → Type 0) (report : Report) (series : ℕ) → ReportsWords words found idle report → Reports before now status report → asked words ≡ Some (workload series)
+  stops_made : (found : List ℕ → Option (List ℕ) → Type 0) (report : Report) (edge : Bool) (series : ℕ) → ReportsWords words found idle report → Reports before now status report → asked words ≡ Some (workload edge series)
       → IsNoScript (workload_text series) → IsOneOf (4 ∷ 6 ∷ 7 ∷ []) status
-  stops_made found report series (Misused none rests) r is never = absurd (cc)
-  stops_made found report series (Tested paths said tests f) r is never = absurd (cc)
-  stops_made found report series (Queries grid instant path expr said queries q) r is never = absurd (cc)
-  stops_made found report series (Works count said works w) r is never =
+  stops_made found report edge series (Misused none rests) r is never = absurd (cc)
+  stops_made found report edge series (Tested closed paths said tests f) r is never = absurd (cc)
+  stops_made found report edge series (Queries closed grid instant path expr said queries q) r is never = absurd (cc)
+  stops_made found report edge series (Works closed count said works w) r is never =
       let same : series ≡ count = cc in
-      let six = script_stops count (workload_path ∷ []) w.files w.last refl w.seen (subst (λ (n : ℕ). IsNoScript (workload_text n)) same never) in
+      let six = script_stops closed count (workload_path ∷ []) w.files w.last refl w.seen (subst (λ (n : ℕ). IsNoScript (workload_text n)) same never) in
       subst (IsOneOf (4 ∷ 6 ∷ 7 ∷ [])) (sym (r.status_is ∙ ap (λ (x : Report). x.status) w.is ∙ six)) refl
 
   pub made_is : (found : List ℕ → Option (List ℕ) → Type 0) (report : Report) → ReportsWords words found idle report → Reports before now status report
       → IfMade (asked words) (λ text. IsNoScript text → IsOneOf (4 ∷ 6 ∷ 7 ∷ []) status)
   made_is found report h r =
-      made_so (asked words) 0 (λ text. IsNoScript text → IsOneOf (4 ∷ 6 ∷ 7 ∷ []) status) refl (λ series is never. stops_made found report series h r is never)
+      made_so (asked words) 0 (λ text. IsNoScript text → IsOneOf (4 ∷ 6 ∷ 7 ∷ []) status) refl (λ edge series is never. stops_made found report edge series h r is never)

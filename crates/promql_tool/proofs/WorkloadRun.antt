@@ -1,5 +1,5 @@
 -- A run over one text, and of a workload.
-use Rattle.std.proofs.Common.{◌≡◌, ℕ, ◌+◌, List, [], ◌∷◌, ◌++◌, Option, Result, Ok, Err, refl, sym, ap, subst, ◌∙◌, append-nil}
+use Rattle.std.proofs.Common.{◌≡◌, ℕ, ◌+◌, Bool, List, [], ◌∷◌, ◌++◌, Option, Result, Ok, Err, refl, sym, ap, subst, ◌∙◌, append-nil}
 use Rattle.edge_io.specs.Written.{appended, WroteFront}
 use Rattle.edge_io.specs.declared.sink.SinkFail.{SinkFail}
 use Rattle.promql_tool.specs.Files.{report_of, waiting}
@@ -11,11 +11,11 @@ use Rattle.promql_tool.specs.Workload.{loaded_text, workload_path, workload_text
 use Rattle.promql_tool.specs.declared.print.Status.{Status}
 use Rattle.edge_io.specs.Fronts.{appended-appended, front_last}
 
-module _ (series : ℕ) (before mid now : Option (List ℕ)) (idle : Type 0) (loaded : mid ≡ appended before (loaded_text series)) where
+module _ (closed : Bool) (series : ℕ) (before mid now : Option (List ℕ)) (idle : Type 0) (loaded : mid ≡ appended before (loaded_text series)) where
   -- what stands behind the line of how much is loaded
   pub behind_loaded : (r : Result Status SinkFail)
-      → Ends (ReportsFiles (Just (workload_text series)) (workload_path ∷ []) idle) (IsCutFiles (Just (workload_text series)) (workload_path ∷ []) mid now) mid now r
-      → Ends (ReportsWorkload series idle) (IsCutWorkload series before now) before now r
+      → Ends (ReportsFiles closed (Just (workload_text series)) (workload_path ∷ []) idle) (IsCutFiles closed (Just (workload_text series)) (workload_path ∷ []) mid now) mid now r
+      → Ends (ReportsWorkload closed series idle) (IsCutWorkload closed series before now) before now r
   behind_loaded (Ok status) e =
       let f = e.1 in (
         workload_report series f.files f.last,
@@ -30,5 +30,5 @@ module _ (series : ℕ) (before mid now : Option (List ℕ)) (idle : Type 0) (lo
   behind_loaded (Err cause) (Late files last seen front) = Almost files last seen (front_last (loaded_text series) (report_of files last).text loaded front)
 
 -- the line of how much is loaded was cut off
-pub loaded_cut : (series : ℕ) (before now : Option (List ℕ)) → WroteFront before now (loaded_text series) → IsCutWorkload series before now
-loaded_cut series before now front = Begun [] (waiting (workload_path ∷ [])) (subst (WroteFront before now) (sym (append-nil (loaded_text series))) front)
+pub loaded_cut : (closed : Bool) (series : ℕ) (before now : Option (List ℕ)) → WroteFront before now (loaded_text series) → IsCutWorkload closed series before now
+loaded_cut closed series before now front = Begun [] (waiting (workload_path ∷ [])) (subst (WroteFront before now) (sym (append-nil (loaded_text series))) front)

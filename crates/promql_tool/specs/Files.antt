@@ -1,5 +1,5 @@
 -- What a run over files sees of them, and its report. (promqltest; the texts are this project's own.)
-use Rattle.std.specs.Prelude.{◌≡◌, ℕ, ◌==◌, if◌then◌else◌, List, [], ◌∷◌, ◌++◌, Option, None, Some, sum_by}
+use Rattle.std.specs.Prelude.{◌≡◌, ℕ, Bool, ◌==◌, if◌then◌else◌, List, [], ◌∷◌, ◌++◌, Option, None, Some, sum_by}
 use Rattle.std.specs.List.{flat_map}
 use Rattle.script_read.specs.Outcomes.{PatternList}
 use Rattle.script_read.specs.declared.script.Command.{Command}
@@ -21,18 +21,18 @@ pub data Last : Type 0 where
   Gone : List ℕ → Last
   Refused : List ℕ → Refusal → Last
 
--- A file is there, and these are the verdicts of its script, which begins with no samples. That a fetch of a path finds
--- bytes, or none, is said by `found`.
-pub record IsJudged (found : List ℕ → Option (List ℕ) → Type 0) (path : List ℕ) (verdicts : List Judged) : Type 0 where
+-- A file is there, and these are the verdicts of its script, which begins with no samples, over windows that are closed on the
+-- left or open. That a fetch of a path finds bytes, or none, is said by `found`.
+pub record IsJudged (closed : Bool) (found : List ℕ → Option (List ℕ) → Type 0) (path : List ℕ) (verdicts : List Judged) : Type 0 where
   pub bytes : List ℕ
   pub is_found : found path (Some bytes)
   pub kept : PatternList
   pub script : Script
   pub is_run : IsRunnable kept bytes script
-  pub are : AreVerdicts kept [] script.commands verdicts
+  pub are : AreVerdicts closed kept [] script.commands verdicts
 
 -- A file is there, and these are the verdicts of the first commands of its script.
-pub record IsRunning (found : List ℕ → Option (List ℕ) → Type 0) (path : List ℕ) (verdicts : List Judged) : Type 0 where
+pub record IsRunning (closed : Bool) (found : List ℕ → Option (List ℕ) → Type 0) (path : List ℕ) (verdicts : List Judged) : Type 0 where
   pub bytes : List ℕ
   pub is_found : found path (Some bytes)
   pub kept : PatternList
@@ -41,16 +41,16 @@ pub record IsRunning (found : List ℕ → Option (List ℕ) → Type 0) (path :
   pub done : List Command
   pub left : List Command
   pub parts : done ++ left ≡ script.commands
-  pub are : AreVerdicts kept [] done verdicts
+  pub are : AreVerdicts closed kept [] done verdicts
 
 -- What a run over files sees, which are taken in order: the first ones are judged, until none is left, or one isn't there, or
 -- is refused.
-pub data Sees (found : List ℕ → Option (List ℕ) → Type 0) : List (List ℕ) → List JudgedFile → Last → Type 0 where
-  all : Sees found [] [] All
-  gone : (path : List ℕ) (paths : List (List ℕ)) → found path None → Sees found (path ∷ paths) [] (Gone path)
-  refused : (path bytes : List ℕ) (refusal : Refusal) (paths : List (List ℕ)) → found path (Some bytes) → IsRefusedFor bytes refusal → Sees found (path ∷ paths) [] (Refused path refusal)
-  judged : (path : List ℕ) (verdicts : List Judged) (paths : List (List ℕ)) (files : List JudgedFile) (last : Last) → IsJudged found path verdicts → Sees found paths files last
-      → Sees found (path ∷ paths) (record { path = path; verdicts = verdicts } ∷ files) last
+pub data Sees (closed : Bool) (found : List ℕ → Option (List ℕ) → Type 0) : List (List ℕ) → List JudgedFile → Last → Type 0 where
+  all : Sees closed found [] [] All
+  gone : (path : List ℕ) (paths : List (List ℕ)) → found path None → Sees closed found (path ∷ paths) [] (Gone path)
+  refused : (path bytes : List ℕ) (refusal : Refusal) (paths : List (List ℕ)) → found path (Some bytes) → IsRefusedFor bytes refusal → Sees closed found (path ∷ paths) [] (Refused path refusal)
+  judged : (path : List ℕ) (verdicts : List Judged) (paths : List (List ℕ)) (files : List JudgedFile) (last : Last) → IsJudged closed found path verdicts → Sees closed found paths files last
+      → Sees closed found (path ∷ paths) (record { path = path; verdicts = verdicts } ∷ files) last
 
 -- the lines of the files that were judged
 abbrev pub files_text : List JudgedFile → List ℕ
@@ -81,8 +81,8 @@ report_of files last = record { text = files_text files ++ last_text files last;
 
 -- What a run over files writes at first, before its last line: nothing, or the lines of the first verdicts of its first file, or
 -- all lines of that file and then what the run over the later ones writes at first.
-pub data Begins (found : List ℕ → Option (List ℕ) → Type 0) : List (List ℕ) → List ℕ → Type 0 where
-  waiting : (paths : List (List ℕ)) → Begins found paths []
-  running : (path : List ℕ) (verdicts : List Judged) (paths : List (List ℕ)) → IsRunning found path verdicts → Begins found (path ∷ paths) (lines_text path verdicts)
-  judged : (path : List ℕ) (verdicts : List Judged) (paths : List (List ℕ)) (text : List ℕ) → IsJudged found path verdicts → Begins found paths text
-      → Begins found (path ∷ paths) (lines_text path verdicts ++ text)
+pub data Begins (closed : Bool) (found : List ℕ → Option (List ℕ) → Type 0) : List (List ℕ) → List ℕ → Type 0 where
+  waiting : (paths : List (List ℕ)) → Begins closed found paths []
+  running : (path : List ℕ) (verdicts : List Judged) (paths : List (List ℕ)) → IsRunning closed found path verdicts → Begins closed found (path ∷ paths) (lines_text path verdicts)
+  judged : (path : List ℕ) (verdicts : List Judged) (paths : List (List ℕ)) (text : List ℕ) → IsJudged closed found path verdicts → Begins closed found paths text
+      → Begins closed found (path ∷ paths) (lines_text path verdicts ++ text)

@@ -68,55 +68,55 @@ RefusesLoads script (refusal.Range line) = samples_left script ≡ Err (runner.R
 RefusesLoads script (refusal.Load refused) = samples_left script ≡ Err (runner.Refused refused)
 
 -- what a script came to that was run
-abbrev pub ScriptComesTo : PatternList → List ℕ → Script → Option (List ℕ) → Option (List ℕ) → Type 0 → FileEnd → Type 0
-ScriptComesTo kept path script before now idle (JudgedTo totals) = HasRun kept path script before now totals × (series : AllSeries) × (samples_left script ≡ Ok series)
-ScriptComesTo kept path script before now idle (Stopped Gone) = ⊥
-ScriptComesTo kept path script before now idle (Stopped (Refused refusal)) = RefusesLoads script refusal × (now ≡ before) × idle
+abbrev pub ScriptComesTo : Bool → PatternList → List ℕ → Script → Option (List ℕ) → Option (List ℕ) → Type 0 → FileEnd → Type 0
+ScriptComesTo closed kept path script before now idle (JudgedTo totals) = HasRun closed kept path script before now totals × (series : AllSeries) × (samples_left script ≡ Ok series)
+ScriptComesTo closed kept path script before now idle (Stopped Gone) = ⊥
+ScriptComesTo closed kept path script before now idle (Stopped (Refused refusal)) = RefusesLoads script refusal × (now ≡ before) × idle
 
 -- A run over a script was cut off: nothing was written, or its loads are taken and a front of its lines was written.
-pub data IsCutScript (kept : PatternList) (path : List ℕ) (script : Script) (before now : Option (List ℕ)) : Type 0 where
-  Unrun : now ≡ before → IsCutScript kept path script before now
-  Cut : (series : AllSeries) → samples_left script ≡ Ok series → WasCut kept path script before now → IsCutScript kept path script before now
+pub data IsCutScript (closed : Bool) (kept : PatternList) (path : List ℕ) (script : Script) (before now : Option (List ℕ)) : Type 0 where
+  Unrun : now ≡ before → IsCutScript closed kept path script before now
+  Cut : (series : AllSeries) → samples_left script ≡ Ok series → WasCut closed kept path script before now → IsCutScript closed kept path script before now
 
 -- a file was judged, its lines were written, and so many of its evaluations pass and fail
-pub record HasJudged (found : List ℕ → Option (List ℕ) → Type 0) (path : List ℕ) (before now : Option (List ℕ)) (totals : Totals) : Type 0 where
+pub record HasJudged (closed : Bool) (found : List ℕ → Option (List ℕ) → Type 0) (path : List ℕ) (before now : Option (List ℕ)) (totals : Totals) : Type 0 where
   pub verdicts : List Judged
-  pub judged : IsJudged found path verdicts
+  pub judged : IsJudged closed found path verdicts
   pub written : now ≡ appended before (lines_text path verdicts)
   pub passed : totals.passed ≡ passed_in verdicts
   pub failed : totals.failed ≡ failed_in verdicts
 
 -- what a file came to; `idle` holds where nothing was evaluated
-abbrev pub ComesTo : Finds → List ℕ → Option (List ℕ) → Option (List ℕ) → Type 0 → FileEnd → Type 0
-ComesTo found path before now idle (JudgedTo totals) = HasJudged found path before now totals
-ComesTo found path before now idle (Stopped stop) = Stops found path stop × (now ≡ before) × idle
+abbrev pub ComesTo : Bool → Finds → List ℕ → Option (List ℕ) → Option (List ℕ) → Type 0 → FileEnd → Type 0
+ComesTo closed found path before now idle (JudgedTo totals) = HasJudged closed found path before now totals
+ComesTo closed found path before now idle (Stopped stop) = Stops found path stop × (now ≡ before) × idle
 
 -- A run over a file was cut off: nothing was written, or a front of the lines of its first verdicts.
-pub data IsCutFile (found : List ℕ → Option (List ℕ) → Type 0) (path : List ℕ) (before now : Option (List ℕ)) : Type 0 where
-  Unwritten : now ≡ before → IsCutFile found path before now
-  Running : (verdicts : List Judged) → IsRunning found path verdicts → WroteFront before now (lines_text path verdicts) → IsCutFile found path before now
+pub data IsCutFile (closed : Bool) (found : List ℕ → Option (List ℕ) → Type 0) (path : List ℕ) (before now : Option (List ℕ)) : Type 0 where
+  Unwritten : now ≡ before → IsCutFile closed found path before now
+  Running : (verdicts : List Judged) → IsRunning closed found path verdicts → WroteFront before now (lines_text path verdicts) → IsCutFile closed found path before now
 
 -- ---- queries
 
 -- what a query over a script came to
-abbrev pub AnswersScript : Script → List ℕ → Grid → Bool → Type 0 → Answered → Type 0
-AnswersScript script expr grid instant idle (answered.Outcome got) = IsAnswerOver script expr grid instant got
-AnswersScript script expr grid instant idle (answered.Stopped Gone) = ⊥
-AnswersScript script expr grid instant idle (answered.Stopped (Refused refusal)) = RefusesLoads script refusal × idle
+abbrev pub AnswersScript : Bool → Script → List ℕ → Grid → Bool → Type 0 → Answered → Type 0
+AnswersScript closed script expr grid instant idle (answered.Outcome got) = IsAnswerOver script expr grid instant closed got
+AnswersScript closed script expr grid instant idle (answered.Stopped Gone) = ⊥
+AnswersScript closed script expr grid instant idle (answered.Stopped (Refused refusal)) = RefusesLoads script refusal × idle
 
 -- a query over a file has this outcome
-pub record IsAnswered (found : List ℕ → Option (List ℕ) → Type 0) (path expr : List ℕ) (grid : Grid) (instant : Bool) (got : Outcome) : Type 0 where
+pub record IsAnswered (closed : Bool) (found : List ℕ → Option (List ℕ) → Type 0) (path expr : List ℕ) (grid : Grid) (instant : Bool) (got : Outcome) : Type 0 where
   pub bytes : List ℕ
   pub is_found : found path (Some bytes)
   pub kept : PatternList
   pub script : Script
   pub is_read : IsReadAs kept bytes (Ok script)
-  pub over : IsAnswerOver script expr grid instant got
+  pub over : IsAnswerOver script expr grid instant closed got
 
 -- what a query over a file came to
-abbrev pub AnswersFile : Finds → List ℕ → List ℕ → Grid → Bool → Type 0 → Answered → Type 0
-AnswersFile found path expr grid instant idle (answered.Outcome got) = IsAnswered found path expr grid instant got
-AnswersFile found path expr grid instant idle (answered.Stopped stop) = Stops found path stop × idle
+abbrev pub AnswersFile : Bool → Finds → List ℕ → List ℕ → Grid → Bool → Type 0 → Answered → Type 0
+AnswersFile closed found path expr grid instant idle (answered.Outcome got) = IsAnswered closed found path expr grid instant got
+AnswersFile closed found path expr grid instant idle (answered.Stopped stop) = Stops found path stop × idle
 
 -- ---- reports
 
@@ -131,21 +131,21 @@ last_at path Gone = GoneAt path
 last_at path (Refused refusal) = RefusedAt path refusal
 
 -- a report of files; nothing was evaluated where no file was judged
-pub record ReportsFiles (found : List ℕ → Option (List ℕ) → Type 0) (paths : List (List ℕ)) (idle : Type 0) (report : Report) : Type 0 where
+pub record ReportsFiles (closed : Bool) (found : List ℕ → Option (List ℕ) → Type 0) (paths : List (List ℕ)) (idle : Type 0) (report : Report) : Type 0 where
   pub files : List JudgedFile
   pub last : Last
-  pub seen : Sees found paths files last
+  pub seen : Sees closed found paths files last
   pub is : report ≡ report_of files last
   pub rests : files ≡ [] → idle
 
 -- a run over files was cut off, before its last line or in it
-pub data IsCutFiles (found : List ℕ → Option (List ℕ) → Type 0) (paths : List (List ℕ)) (before now : Option (List ℕ)) : Type 0 where
-  Early : (text : List ℕ) → Begins found paths text → WroteFront before now text → IsCutFiles found paths before now
-  Late : (files : List JudgedFile) (last : Last) → Sees found paths files last → WroteFront before now (report_of files last).text → IsCutFiles found paths before now
+pub data IsCutFiles (closed : Bool) (found : List ℕ → Option (List ℕ) → Type 0) (paths : List (List ℕ)) (before now : Option (List ℕ)) : Type 0 where
+  Early : (text : List ℕ) → Begins closed found paths text → WroteFront before now text → IsCutFiles closed found paths before now
+  Late : (files : List JudgedFile) (last : Last) → Sees closed found paths files last → WroteFront before now (report_of files last).text → IsCutFiles closed found paths before now
 
 -- a report of a query; nothing was evaluated where the file isn't run
-pub record ReportsQuery (found : List ℕ → Option (List ℕ) → Type 0) (path expr : List ℕ) (grid : Grid) (instant : Bool) (idle : Type 0) (report : Report) : Type 0 where
-  pub is : Queried found path expr grid instant report
+pub record ReportsQuery (closed : Bool) (found : List ℕ → Option (List ℕ) → Type 0) (path expr : List ℕ) (grid : Grid) (instant : Bool) (idle : Type 0) (report : Report) : Type 0 where
+  pub is : Queried closed found path expr grid instant report
   pub rests : IsOneOf (3 ∷ 6 ∷ []) report.status → idle
 
 -- nothing was written, or a front of such a report
@@ -164,28 +164,28 @@ ReportsAnswered path (answered.Outcome got) report = (notes : List (List ℕ)) �
 ReportsAnswered path (answered.Stopped stop) report = report ≡ stop_report path stop
 
 -- a report of a workload; nothing was evaluated where its script was refused
-pub record ReportsWorkload (series : ℕ) (idle : Type 0) (report : Report) : Type 0 where
+pub record ReportsWorkload (closed : Bool) (series : ℕ) (idle : Type 0) (report : Report) : Type 0 where
   pub files : List JudgedFile
   pub last : Last
-  pub seen : Sees (Just (workload_text series)) (workload_path ∷ []) files last
+  pub seen : Sees closed (Just (workload_text series)) (workload_path ∷ []) files last
   pub is : report ≡ workload_report series files last
   pub rests : files ≡ [] → idle
 
 -- a run of a workload was cut off: nothing was written, or a front of how much it loads and of the lines of its first verdicts, or
 -- of its whole report
-pub data IsCutWorkload (series : ℕ) (before now : Option (List ℕ)) : Type 0 where
-  Unmade : now ≡ before → IsCutWorkload series before now
-  Begun : (text : List ℕ) → Begins (Just (workload_text series)) (workload_path ∷ []) text → WroteFront before now (loaded_text series ++ text) → IsCutWorkload series before now
-  Almost : (files : List JudgedFile) (last : Last) → Sees (Just (workload_text series)) (workload_path ∷ []) files last → WroteFront before now (workload_report series files last).text
-      → IsCutWorkload series before now
+pub data IsCutWorkload (closed : Bool) (series : ℕ) (before now : Option (List ℕ)) : Type 0 where
+  Unmade : now ≡ before → IsCutWorkload closed series before now
+  Begun : (text : List ℕ) → Begins closed (Just (workload_text series)) (workload_path ∷ []) text → WroteFront before now (loaded_text series ++ text) → IsCutWorkload closed series before now
+  Almost : (files : List JudgedFile) (last : Last) → Sees closed (Just (workload_text series)) (workload_path ∷ []) files last → WroteFront before now (workload_report series files last).text
+      → IsCutWorkload closed series before now
 
 -- a report of words, with what is known of the counters
 pub data ReportsWords (words : List (List ℕ)) (found : List ℕ → Option (List ℕ) → Type 0) (idle : Type 0) : Report → Type 0 where
   Misused : asked words ≡ None → idle → ReportsWords words found idle usage_report
-  Tested : (paths : List (List ℕ)) (report : Report) → asked words ≡ Some (test paths) → ReportsFiles found paths idle report → ReportsWords words found idle report
-  Queries : (grid : Grid) (instant : Bool) (path expr : List ℕ) (report : Report) → asked words ≡ Some (query (moments_in grid instant) path expr) → ReportsQuery found path expr grid instant idle report
+  Tested : (closed : Bool) (paths : List (List ℕ)) (report : Report) → asked words ≡ Some (test closed paths) → ReportsFiles closed found paths idle report → ReportsWords words found idle report
+  Queries : (closed : Bool) (grid : Grid) (instant : Bool) (path expr : List ℕ) (report : Report) → asked words ≡ Some (query closed (moments_in grid instant) path expr) → ReportsQuery closed found path expr grid instant idle report
       → ReportsWords words found idle report
-  Works : (series : ℕ) (report : Report) → asked words ≡ Some (workload series) → ReportsWorkload series idle report → ReportsWords words found idle report
+  Works : (closed : Bool) (series : ℕ) (report : Report) → asked words ≡ Some (workload closed series) → ReportsWorkload closed series idle report → ReportsWords words found idle report
 
 -- the bytes of lists
 abbrev pub bytes_of : List (Vec ℕ Global) → List (List ℕ)

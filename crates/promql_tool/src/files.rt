@@ -9,6 +9,7 @@ use crate::judge::{FileEnd, run_bytes, run_file};
 use crate::print::{Status, print_stop, print_totals};
 use edge_io::{Library, Sink, SinkFail};
 use holders::Text;
+use query_engine::Options;
 use std::alloc::Global;
 use std::sync::ledger::Ledger;
 use test_runner::Totals;
@@ -44,6 +45,7 @@ impl Tally {
 pub fn run_files<L: Library, S: Sink, W: Ledger>(
     alloc: Global,
     files: &[Text],
+    options: &Options,
     library: &mut L,
     out: &mut S,
     work: &mut Work<W>,
@@ -52,8 +54,8 @@ pub fn run_files<L: Library, S: Sink, W: Ledger>(
     ensures told { L.told library.new ≡ L.told library.old }
     ensures library_sound { L.sound library.old → L.sound library.new }
     ensures gone { IfOk result (λ status. status.0 ≡ 3 → Rose (L.faults library.old) (L.faults library.new)) }
-    ensures ends { Ends (ReportsFiles (IsFound (L.told library.old) (L.sound library.old)) files.now (work.new ≡ work.old))
-        (IsCutFiles (IsFound (L.told library.old) (L.sound library.old)) files.now (S.written out.old) (S.written out.new)) (S.written out.old) (S.written out.new) result }
+    ensures ends { Ends (ReportsFiles options.now.closed (IsFound (L.told library.old) (L.sound library.old)) files.now (work.new ≡ work.old))
+        (IsCutFiles options.now.closed (IsFound (L.told library.old) (L.sound library.old)) files.now (S.written out.old) (S.written out.new)) (S.written out.old) (S.written out.new) result }
     ensures cause { HasCause (S.faults out.old) (S.faults out.new) (IsErrOf result SinkFail.Failed) }
     ensures sound { S.sound out.old → S.sound out.new }
     ensures never { S.sound out.old → IsErrOf result SinkFail.Failed → ⊥ }
@@ -64,7 +66,7 @@ pub fn run_files<L: Library, S: Sink, W: Ledger>(
     };
     for file in files {
         let path = file.as_str();
-        match run_file(alloc, path, library, out, work)? {
+        match run_file(alloc, path, options, library, out, work)? {
             FileEnd::Judged(totals) => tally = tally.with(totals),
             FileEnd::Stopped(stop) => return print_stop(alloc, path, &stop, out),
         }
@@ -78,16 +80,17 @@ pub fn run_text<S: Sink, W: Ledger>(
     alloc: Global,
     path: &str,
     text: &[u8],
+    options: &Options,
     out: &mut S,
     work: &mut Work<W>,
 ) -> Result<Status, SinkFail>
-    ensures ends { Ends (ReportsFiles (Just text.now) (path.now ∷ []) (work.new ≡ work.old)) (IsCutFiles (Just text.now) (path.now ∷ []) (S.written out.old) (S.written out.new))
+    ensures ends { Ends (ReportsFiles options.now.closed (Just text.now) (path.now ∷ []) (work.new ≡ work.old)) (IsCutFiles options.now.closed (Just text.now) (path.now ∷ []) (S.written out.old) (S.written out.new))
         (S.written out.old) (S.written out.new) result }
     ensures cause { HasCause (S.faults out.old) (S.faults out.new) (IsErrOf result SinkFail.Failed) }
     ensures sound { S.sound out.old → S.sound out.new }
     ensures never { S.sound out.old → IsErrOf result SinkFail.Failed → ⊥ }
 {
-    match run_bytes(alloc, path, text, out, work)? {
+    match run_bytes(alloc, path, text, options, out, work)? {
         FileEnd::Judged(totals) => {
             let Totals { passed, failed } = totals;
             print_totals(alloc, u128::from(passed), u128::from(failed), out)

@@ -11,6 +11,7 @@ use crate::fault::{Refusal, Stop};
 use crate::fetch::{File, fetch_file, read_script};
 use edge_io::{Library, Sink, SinkFail};
 use match_rule::Patterns;
+use query_engine::Options;
 use script_read::{ReadFault, Script};
 use std::alloc::Global;
 use std::sync::ledger::Ledger;
@@ -39,18 +40,19 @@ fn run_script<S: Sink, W: Ledger>(
     path: &str,
     script: &Script,
     searches: &mut Patterns,
+    options: &Options,
     out: &mut S,
     work: &mut Work<W>,
 ) -> Result<FileEnd, SinkFail>
     requires kept { KeepsPatterns searches.old script.now }
     requires few { length script.now.commands < 2 ^ 32 }
-    ensures ran { IfOk result (ScriptComesTo searches.old path.now script.now (S.written out.old) (S.written out.new) (work.new ≡ work.old)) }
-    ensures cut { OnErr result (IsCutScript searches.old path.now script.now (S.written out.old) (S.written out.new)) }
+    ensures ran { IfOk result (ScriptComesTo options.now.closed searches.old path.now script.now (S.written out.old) (S.written out.new) (work.new ≡ work.old)) }
+    ensures cut { OnErr result (IsCutScript options.now.closed searches.old path.now script.now (S.written out.old) (S.written out.new)) }
     ensures cause { HasCause (S.faults out.old) (S.faults out.new) (IsErrOf result SinkFail.Failed) }
     ensures sound { S.sound out.old → S.sound out.new }
     ensures never { S.sound out.old → IsErrOf result SinkFail.Failed → ⊥ }
 {
-    match run(alloc, path, script, searches, out, work) {
+    match run(alloc, path, script, searches, options, out, work) {
         Ok(totals) => Ok(FileEnd::Judged(totals)),
         Err(RunnerFault::Refused(refusal)) => Ok(refused(Refusal::Load(refusal))),
         Err(RunnerFault::Range(line)) => Ok(refused(Refusal::Range(line))),
@@ -65,18 +67,27 @@ pub fn run_bytes<S: Sink, W: Ledger>(
     alloc: Global,
     path: &str,
     bytes: &[u8],
+    options: &Options,
     out: &mut S,
     work: &mut Work<W>,
 ) -> Result<FileEnd, SinkFail>
-    ensures ran { IfOk result (ComesTo (Just bytes.now) path.now (S.written out.old) (S.written out.new) (work.new ≡ work.old)) }
-    ensures cut { OnErr result (IsCutFile (Just bytes.now) path.now (S.written out.old) (S.written out.new)) }
+    ensures ran { IfOk result (ComesTo options.now.closed (Just bytes.now) path.now (S.written out.old) (S.written out.new) (work.new ≡ work.old)) }
+    ensures cut { OnErr result (IsCutFile options.now.closed (Just bytes.now) path.now (S.written out.old) (S.written out.new)) }
     ensures cause { HasCause (S.faults out.old) (S.faults out.new) (IsErrOf result SinkFail.Failed) }
     ensures sound { S.sound out.old → S.sound out.new }
     ensures never { S.sound out.old → IsErrOf result SinkFail.Failed → ⊥ }
 {
     let mut searches = Patterns::new(alloc);
     match read_script(alloc, bytes, &mut searches) {
-        Ok(script) => run_script(alloc, path, &script, &mut searches, out, work),
+        Ok(script) => run_script(
+            alloc,
+            path,
+            &script,
+            &mut searches,
+            options,
+            out,
+            work,
+        ),
         Err(ReadFault::Refused(refusal)) => Ok(refused(Refusal::Script(refusal))),
         Err(ReadFault::Memory) => Err(SinkFail::Memory),
     }
@@ -87,6 +98,7 @@ pub fn run_bytes<S: Sink, W: Ledger>(
 pub fn run_file<L: Library, S: Sink, W: Ledger>(
     alloc: Global,
     path: &str,
+    options: &Options,
     library: &mut L,
     out: &mut S,
     work: &mut Work<W>,
@@ -96,14 +108,14 @@ pub fn run_file<L: Library, S: Sink, W: Ledger>(
     ensures library_sound { L.sound library.old → L.sound library.new }
     ensures later { L.faults library.old ≤ L.faults library.new }
     ensures gone { IfOk result (λ end. end ≡ Stopped Gone → Rose (L.faults library.old) (L.faults library.new)) }
-    ensures ran { IfOk result (ComesTo (IsFound (L.told library.old) (L.sound library.old)) path.now (S.written out.old) (S.written out.new) (work.new ≡ work.old)) }
-    ensures cut { OnErr result (IsCutFile (IsFound (L.told library.old) (L.sound library.old)) path.now (S.written out.old) (S.written out.new)) }
+    ensures ran { IfOk result (ComesTo options.now.closed (IsFound (L.told library.old) (L.sound library.old)) path.now (S.written out.old) (S.written out.new) (work.new ≡ work.old)) }
+    ensures cut { OnErr result (IsCutFile options.now.closed (IsFound (L.told library.old) (L.sound library.old)) path.now (S.written out.old) (S.written out.new)) }
     ensures cause { HasCause (S.faults out.old) (S.faults out.new) (IsErrOf result SinkFail.Failed) }
     ensures sound { S.sound out.old → S.sound out.new }
     ensures never { S.sound out.old → IsErrOf result SinkFail.Failed → ⊥ }
 {
     match fetch_file(alloc, path, library)? {
-        File::Bytes(bytes) => run_bytes(alloc, path, bytes.as_slice(), out, work),
+        File::Bytes(bytes) => run_bytes(alloc, path, bytes.as_slice(), options, out, work),
         File::Stopped(stop) => Ok(FileEnd::Stopped(stop)),
     }
 }

@@ -14,18 +14,20 @@ use crate::text::note_lines;
 use edge_io::{Library, Sink, SinkFail};
 use match_rule::Patterns;
 use promql_meaning::Outcome;
+use query_engine::Options;
 use script_read::{ReadFault, Script};
 use std::alloc::{AllocError, Global};
 use std::sync::ledger::Ledger;
 use test_runner::{RunnerFault, answer};
 use ticks::{Grid, Work};
 
-/// An expression and the instants of a grid, or its first one where `instant` is told.
+/// An expression and the instants of a grid, or its first one where `instant` is told, and what is chosen for it.
 #[derive(Clone, Copy)]
 pub struct Question<'a> {
     pub expr: &'a str,
     pub grid: &'a Grid,
     pub instant: bool,
+    pub options: &'a Options,
 }
 
 /// What a question over a file came to.
@@ -50,14 +52,15 @@ fn answer_script<W: Ledger>(
     question: Question<'_>,
     work: &mut Work<W>,
 ) -> Result<Answered, AllocError>
-    ensures { IfOk result (AnswersScript script.now question.entry.expr.now question.entry.grid.now question.entry.instant (work.new ≡ work.old)) }
+    ensures { IfOk result (AnswersScript question.entry.options.now.closed script.now question.entry.expr.now question.entry.grid.now question.entry.instant (work.new ≡ work.old)) }
 {
     let Question {
         expr,
         grid,
         instant,
+        options,
     } = question;
-    match answer(alloc, script, expr, grid, instant, work) {
+    match answer(alloc, script, expr, grid, instant, options, work) {
         Ok(outcome) => Ok(Answered::Outcome(outcome)),
         Err(RunnerFault::Refused(refusal)) => Ok(refused(Refusal::Load(refusal))),
         Err(RunnerFault::Range(line)) => Ok(refused(Refusal::Range(line))),
@@ -73,7 +76,7 @@ fn answer_bytes<W: Ledger>(
     question: Question<'_>,
     work: &mut Work<W>,
 ) -> Result<Answered, AllocError>
-    ensures { (path : List ℕ) → IfOk result (AnswersFile (Just bytes.now) path question.entry.expr.now question.entry.grid.now question.entry.instant (work.new ≡ work.old)) }
+    ensures { (path : List ℕ) → IfOk result (AnswersFile question.entry.options.now.closed (Just bytes.now) path question.entry.expr.now question.entry.grid.now question.entry.instant (work.new ≡ work.old)) }
 {
     let mut searches = Patterns::new(alloc);
     match read_script(alloc, bytes, &mut searches) {
@@ -95,7 +98,7 @@ fn answer_file<L: Library, W: Ledger>(
     ensures told { L.told library.new ≡ L.told library.old }
     ensures sound { L.sound library.old → L.sound library.new }
     ensures gone { IfOk result (λ answered. answered ≡ Stopped Gone → Rose (L.faults library.old) (L.faults library.new)) }
-    ensures answered { IfOk result (AnswersFile (IsFound (L.told library.old) (L.sound library.old)) path.now question.entry.expr.now question.entry.grid.now question.entry.instant (work.new ≡ work.old)) }
+    ensures answered { IfOk result (AnswersFile question.entry.options.now.closed (IsFound (L.told library.old) (L.sound library.old)) path.now question.entry.expr.now question.entry.grid.now question.entry.instant (work.new ≡ work.old)) }
 {
     match fetch_file(alloc, path, library)? {
         File::Bytes(bytes) => answer_bytes(alloc, bytes.as_slice(), question, work),
@@ -139,8 +142,8 @@ pub fn run_query<L: Library, S: Sink, W: Ledger>(
     ensures told { L.told library.new ≡ L.told library.old }
     ensures library_sound { L.sound library.old → L.sound library.new }
     ensures gone { IfOk result (λ status. status.0 ≡ 3 → Rose (L.faults library.old) (L.faults library.new)) }
-    ensures ends { Ends (ReportsQuery (IsFound (L.told library.old) (L.sound library.old)) path.now question.entry.expr.now question.entry.grid.now question.entry.instant (work.new ≡ work.old))
-        (IsCutReport (Queried (IsFound (L.told library.old) (L.sound library.old)) path.now question.entry.expr.now question.entry.grid.now question.entry.instant) (S.written out.old) (S.written out.new))
+    ensures ends { Ends (ReportsQuery question.entry.options.now.closed (IsFound (L.told library.old) (L.sound library.old)) path.now question.entry.expr.now question.entry.grid.now question.entry.instant (work.new ≡ work.old))
+        (IsCutReport (Queried question.entry.options.now.closed (IsFound (L.told library.old) (L.sound library.old)) path.now question.entry.expr.now question.entry.grid.now question.entry.instant) (S.written out.old) (S.written out.new))
         (S.written out.old) (S.written out.new) result }
     ensures cause { HasCause (S.faults out.old) (S.faults out.new) (IsErrOf result SinkFail.Failed) }
     ensures sound { S.sound out.old → S.sound out.new }

@@ -5,7 +5,7 @@ ghost use Rattle.edge_io.specs.Written.{appended};
 ghost use Rattle.promql_tool.specs.Ends.{IfFirst, IfMade, IsCut, IsGone, IsOneOf, IsRefused, IsUnrun, Reports};
 ghost use Rattle.promql_tool.specs.Found.{Have, IsFound};
 ghost use Rattle.promql_tool.specs.Reading.{IsNoScript};
-ghost use Rattle.promql_tool.specs.Report.{HasReport, files_of};
+ghost use Rattle.promql_tool.specs.Report.{HasReport, closed_of, files_of};
 ghost use Rattle.promql_tool.specs.Runs.{Ends, ReportsWords};
 ghost use Rattle.promql_tool.specs.Texts.{usage};
 ghost use Rattle.std.specs.Prelude.{◌≡◌, ◌≤◌, ◌⊎◌, ℕ, [], ◌∷◌, List, Contains, None, length, map, string_bytes, IfOk, IfSome, IsErrOf};
@@ -16,6 +16,7 @@ use crate::print::{Status, print_usage};
 use crate::query::{Question, run_query};
 use crate::working::run_workload;
 use edge_io::{Library, Sink, SinkFail};
+use query_engine::Options;
 use std::alloc::Global;
 use std::sync::ledger::Ledger;
 use ticks::Work;
@@ -53,30 +54,39 @@ fn run_words<L: Library, S: Sink, W: Ledger>(
 {
     match read_words(alloc, words)? {
         None => print_usage(out),
-        Some(Asked::Test { files }) => run_files(alloc, files.as_slice(), library, out, work),
+        Some(Asked::Test { closed, files }) => {
+            let options = Options { closed };
+            run_files(alloc, files.as_slice(), &options, library, out, work)
+        }
         Some(
             Asked::Query {
+                closed,
                 grid,
                 instant,
                 file,
                 expr,
             },
         ) => {
+            let options = Options { closed };
             let question = Question {
                 expr: expr.as_str(),
                 grid: &grid,
                 instant,
+                options: &options,
             };
             run_query(alloc, file.as_str(), question, library, out, work)
         }
-        Some(Asked::Workload { count }) => run_workload(alloc, count, out, work),
+        Some(Asked::Workload { closed, count }) => {
+            let options = Options { closed };
+            run_workload(alloc, count, &options, out, work)
+        }
     }
 }
 
 /// Runs `promqltest FILE..`: fetches the files in order, judges each evaluation of a script over the samples that its file
 /// loads, and prints a line for each and the totals of all; or `query FILE EXPR`: answers an expression over the samples
-/// that a file loads; or `workload N`: makes a script of N series and runs it as a file. Samples are read by counted calls,
-/// in `work`. Status 0: all pass, or the query has an answer. 1: some don't pass, or the query was refused or failed. 2: the
+/// that a file loads; or `workload N`: makes a script of N series and runs it as a file. With `--edges v2` windows have their left
+/// edge too, as in Prometheus 2. Samples are read by counted calls, in `work`. Status 0: all pass, or the query has an answer. 1: some don't pass, or the query was refused or failed. 2: the
 /// words are no command. 3: a file can't be fetched. 4: a write failed. 6: a file is no script, or a load of it is refused.
 /// 7: memory ran out.
 pub fn run_tool<L: Library, S: Sink, W: Ledger>(
@@ -128,9 +138,9 @@ pub fn run_tool<L: Library, S: Sink, W: Ledger>(
     // Over a sound library that tells, exactly where it isn't there.
     ensures fetch { result.0 ≡ 3 → Rose (L.faults library.old) (L.faults library.new) }
     ensures fault_line { result.0 ≡ 3 →
-        IsGone (files_of (map string_bytes words.now)) (IsFound (L.told library.old) (L.sound library.old)) (S.written out.old) (S.written out.new) }
+        IsGone (closed_of (map string_bytes words.now)) (files_of (map string_bytes words.now)) (IsFound (L.told library.old) (L.sound library.old)) (S.written out.old) (S.written out.new) }
     ensures there { IfSome (L.told library.old) (λ files. L.sound library.old → result.0 ≡ 3 →
-        IsGone (files_of (map string_bytes words.now)) (Have files) (S.written out.old) (S.written out.new)) }
+        IsGone (closed_of (map string_bytes words.now)) (files_of (map string_bytes words.now)) (Have files) (S.written out.old) (S.written out.new)) }
     ensures missing { IfSome (L.told library.old) (λ files. IfFirst (files_of (map string_bytes words.now)) (λ path.
         files path ≡ None → IsOneOf (3 ∷ 4 ∷ 7 ∷ []) result.0)) }
 

@@ -7,6 +7,7 @@ use crate::files::run_text;
 use crate::print::{Status, print_loaded};
 use crate::workload::workload_text;
 use edge_io::{Sink, SinkFail};
+use query_engine::Options;
 use std::alloc::Global;
 use std::sync::ledger::Ledger;
 use ticks::Work;
@@ -16,17 +17,18 @@ use ticks::Work;
 pub fn run_workload<S: Sink, W: Ledger>(
     alloc: Global,
     series: u32,
+    options: &Options,
     out: &mut S,
     work: &mut Work<W>,
 ) -> Result<Status, SinkFail>
     requires some { 1 ≤ series }
     requires few { series ≤ 20000 }
-    ensures ends { Ends (ReportsWorkload series (work.new ≡ work.old)) (IsCutWorkload series (S.written out.old) (S.written out.new)) (S.written out.old) (S.written out.new) result }
+    ensures ends { Ends (ReportsWorkload options.now.closed series (work.new ≡ work.old)) (IsCutWorkload options.now.closed series (S.written out.old) (S.written out.new)) (S.written out.old) (S.written out.new) result }
     ensures cause { HasCause (S.faults out.old) (S.faults out.new) (IsErrOf result SinkFail.Failed) }
     ensures sound { S.sound out.old → S.sound out.new }
     ensures never { S.sound out.old → IsErrOf result SinkFail.Failed → ⊥ }
 {
     let text = workload_text(alloc, series)?;
     print_loaded(alloc, series, out)?;
-    run_text(alloc, "workload", &text, out, work)
+    run_text(alloc, "workload", &text, options, out, work)
 }

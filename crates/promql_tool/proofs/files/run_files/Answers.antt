@@ -27,10 +27,10 @@ returns-in_err-totals-clause-ends g c =
     let later = IsFound (g.L.Library.told c.loop-file.library) (g.L.Library.sound c.loop-file.library) in
     let found = IsFound (g.L.Library.told c.args.library.now) (g.L.Library.sound c.args.library.now) in
     let here = next_file files i c.file-item.result path c.loop-file-test.true c.as_str-path.ensures c.file-item.is in
-    let run = subst (λ (left : List (List ℕ)). RunSoFar found files left before mid (c.loop-file.work ≡ c.args.work.now) c.loop-file.tally.passed c.loop-file.tally.failed) here c.loop-file.invariant.run in
-    let cut = cut_so later found path (found_since _ _ _ _ c.loop-file.invariant.told c.loop-file.invariant.library_sound path) mid now c.in_err-totals.ensures.cut in
+    let run = subst (λ (left : List (List ℕ)). RunSoFar c.args.options.now.closed found files left before mid (c.loop-file.work ≡ c.args.work.now) c.loop-file.tally.passed c.loop-file.tally.failed) here c.loop-file.invariant.run in
+    let cut = cut_so later found path (found_since _ _ _ _ c.loop-file.invariant.told c.loop-file.invariant.library_sound path) c.args.options.now.closed mid now c.in_err-totals.ensures.cut in
     let p = err_from_is_err_and c.from_residual.result c.from_residual.ensures.1 in
-    rw p.1 (next_cut found files before path (drop (i + 1) files) mid _ _ _ run now cut)
+    rw p.1 (next_cut c.args.options.now.closed found files before path (drop (i + 1) files) mid _ _ _ run now cut)
 
 pub returns-in-Stopped-clause-fetched : goal.returns-in-Stopped-clause-fetched
 returns-in-Stopped-clause-fetched g c =
@@ -51,11 +51,11 @@ returns-in-Stopped-clause-ends g c =
     let later = IsFound (g.L.Library.told c.loop-file.library) (g.L.Library.sound c.loop-file.library) in
     let found = IsFound (g.L.Library.told c.args.library.now) (g.L.Library.sound c.args.library.now) in
     let here = next_file files i c.file-item.result path c.loop-file-test.true c.as_str-path.ensures c.file-item.is in
-    let run = subst (λ (left : List (List ℕ)). RunSoFar found files left before mid idle c.loop-file.tally.passed c.loop-file.tally.failed) here c.loop-file.invariant.run in
+    let run = subst (λ (left : List (List ℕ)). RunSoFar c.args.options.now.closed found files left before mid idle c.loop-file.tally.passed c.loop-file.tally.failed) here c.loop-file.invariant.run in
     let to = found_since _ _ _ _ c.loop-file.invariant.told c.loop-file.invariant.library_sound path in
-    let came = comes_so later found path to mid now (c.run_file.new.work ≡ c.loop-file.work) (Stopped c.in-Stopped.stop) (rw c.in-Stopped.is at c.in_ok-totals.ensures.ran) in
-    let run_on = subst (λ (w : Option (List ℕ)). RunSoFar found files (path ∷ drop (i + 1) files) before w idle c.loop-file.tally.passed c.loop-file.tally.failed) (sym came.1) run in
-    stop_printed found files before path (drop (i + 1) files) now idle _ _ run_on c.in-Stopped.stop (g.S.Sink.written c.print_stop.new.out) _ c.print_stop.result came.0 (λ rests. came.2 ∙ rests)
+    let came = comes_so later found path to c.args.options.now.closed mid now (c.run_file.new.work ≡ c.loop-file.work) (Stopped c.in-Stopped.stop) (rw c.in-Stopped.is at c.in_ok-totals.ensures.ran) in
+    let run_on = subst (λ (w : Option (List ℕ)). RunSoFar c.args.options.now.closed found files (path ∷ drop (i + 1) files) before w idle c.loop-file.tally.passed c.loop-file.tally.failed) (sym came.1) run in
+    stop_printed c.args.options.now.closed found files before path (drop (i + 1) files) now idle _ _ run_on c.in-Stopped.stop (g.S.Sink.written c.print_stop.new.out) _ c.print_stop.result came.0 (λ rests. came.2 ∙ rests)
     c.print_stop.ensures.ok c.print_stop.ensures.err
 
 pub loop-file-preserved : goal.loop-file-preserved
@@ -73,13 +73,13 @@ loop-file-preserved g c =
     let totals = c.in-Judged.totals in
     let tally = c.loop-file.tally in
     let here = next_file files i c.file-item.result path c.loop-file-test.true c.as_str-path.ensures c.file-item.is in
-    let run = subst (λ (left : List (List ℕ)). RunSoFar found files left before mid idle tally.passed tally.failed) here c.loop-file.invariant.run in
+    let run = subst (λ (left : List (List ℕ)). RunSoFar c.args.options.now.closed found files left before mid idle tally.passed tally.failed) here c.loop-file.invariant.run in
     let to = found_since _ _ _ _ c.loop-file.invariant.told c.loop-file.invariant.library_sound path in
-    let came = comes_so later found path to mid now (c.run_file.new.work ≡ c.loop-file.work) (Judged totals) (rw c.in-Judged.is at c.in_ok-totals.ensures.ran) in
-    let more = one_more found files before path (drop (i + 1) files) mid idle tally.passed tally.failed run now totals later_idle came in
+    let came = comes_so later found path to c.args.options.now.closed mid now (c.run_file.new.work ≡ c.loop-file.work) (Judged totals) (rw c.in-Judged.is at c.in_ok-totals.ensures.ran) in
+    let more = one_more c.args.options.now.closed found files before path (drop (i + 1) files) mid idle tally.passed tally.failed run now totals later_idle came in
     let sums = c.with-tally.ensures in
-    let counted = subst (λ (n : ℕ). RunSoFar found files (drop (i + 1) files) before now later_idle n c.with-tally.result.failed) (sym sums.passed)
-    (subst (λ (n : ℕ). RunSoFar found files (drop (i + 1) files) before now later_idle (tally.passed + totals.passed) n) (sym sums.failed) more) in
+    let counted = subst (λ (n : ℕ). RunSoFar c.args.options.now.closed found files (drop (i + 1) files) before now later_idle n c.with-tally.result.failed) (sym sums.passed)
+    (subst (λ (n : ℕ). RunSoFar c.args.options.now.closed found files (drop (i + 1) files) before now later_idle (tally.passed + totals.passed) n) (sym sums.failed) more) in
     record {
       run = counted;
       few_passed = omega (arith, sums.few_passed);
@@ -102,5 +102,5 @@ returns-clause-ends g c =
     let idle = c.loop-file.work ≡ c.args.work.now in
     let tally = c.loop-file.tally in
     let none = drop_all c.loop-file.file-index files c.loop-file-test.false in
-    let run = subst (λ (left : List (List ℕ)). RunSoFar found files left before mid idle tally.passed tally.failed) none c.loop-file.invariant.run in
-    totals_printed found files before mid idle tally.passed tally.failed run (g.S.Sink.written c.print_totals.new.out) c.print_totals.result c.print_totals.ensures.ok c.print_totals.ensures.err
+    let run = subst (λ (left : List (List ℕ)). RunSoFar c.args.options.now.closed found files left before mid idle tally.passed tally.failed) none c.loop-file.invariant.run in
+    totals_printed c.args.options.now.closed found files before mid idle tally.passed tally.failed run (g.S.Sink.written c.print_totals.new.out) c.print_totals.result c.print_totals.ensures.ok c.print_totals.ensures.err

@@ -6,7 +6,7 @@ use Rattle.promql_tool.proofs.files.run_files.Given as goal
 
 abbrev pub invariant-loop-file : goal.invariant-loop-file
 invariant-loop-file g l = record {
-  run : RunSoFar (IsFound (g.L.Library.told l.fn.library) (g.L.Library.sound l.fn.library)) l.files (drop l.file-index l.files) (g.S.Sink.written l.fn.out) (g.S.Sink.written l.out) (l.work ≡ l.fn.work)
+  run : RunSoFar l.options.closed (IsFound (g.L.Library.told l.fn.library) (g.L.Library.sound l.fn.library)) l.files (drop l.file-index l.files) (g.S.Sink.written l.fn.out) (g.S.Sink.written l.out) (l.work ≡ l.fn.work)
       l.tally.passed l.tally.failed;
   few_passed : l.tally.passed ≤ l.file-index * 2 ^ 32;
   few_failed : l.tally.failed ≤ l.file-index * 2 ^ 32;

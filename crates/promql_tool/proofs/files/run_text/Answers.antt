@@ -8,9 +8,9 @@ pub returns-in_err-totals-clause-ends : goal.returns-in_err-totals-clause-ends
 returns-in_err-totals-clause-ends g c =
     let path = c.args.path.now in
     let before = g.S.Sink.written c.args.out.now in
-    let run = none_run (Just c.args.text.now) (path ∷ []) before (Unit {0}) tt in
+    let run = none_run c.args.options.now.closed (Just c.args.text.now) (path ∷ []) before (Unit {0}) tt in
     let p = err_from_is_err_and c.from_residual.result c.from_residual.ensures.1 in
-    rw p.1 (next_cut (Just c.args.text.now) (path ∷ []) before path [] before (Unit {0}) 0 0 run (g.S.Sink.written c.run_bytes.new.out) c.in_err-totals.ensures.cut)
+    rw p.1 (next_cut c.args.options.now.closed (Just c.args.text.now) (path ∷ []) before path [] before (Unit {0}) 0 0 run (g.S.Sink.written c.run_bytes.new.out) c.in_err-totals.ensures.cut)
 
 pub returns-in-Judged-clause-ends : goal.returns-in-Judged-clause-ends
 returns-in-Judged-clause-ends g c =
@@ -23,9 +23,9 @@ returns-in-Judged-clause-ends g c =
     let came = rw c.in-Judged.is at c.in_ok-totals.ensures.ran in
     let passed : 0 + totals.passed ≡ c.from.result = omega (arith, c.from.ensures) in
     let failed : 0 + totals.failed ≡ c.from-in-Judged.result = omega (arith, c.from-in-Judged.ensures) in
-    let run = one_more found (path ∷ []) before path [] before (Unit {0}) 0 0 (none_run found (path ∷ []) before (Unit {0}) tt) now totals idle came in
-    let counted = subst (λ (n : ℕ). RunSoFar found (path ∷ []) [] before now idle c.from.result n) failed (subst (λ (n : ℕ). RunSoFar found (path ∷ []) [] before now idle n (0 + totals.failed)) passed run) in
-    totals_printed found (path ∷ []) before now idle c.from.result c.from-in-Judged.result counted (g.S.Sink.written c.print_totals.new.out) c.print_totals.result
+    let run = one_more c.args.options.now.closed found (path ∷ []) before path [] before (Unit {0}) 0 0 (none_run c.args.options.now.closed found (path ∷ []) before (Unit {0}) tt) now totals idle came in
+    let counted = subst (λ (n : ℕ). RunSoFar c.args.options.now.closed found (path ∷ []) [] before now idle c.from.result n) failed (subst (λ (n : ℕ). RunSoFar c.args.options.now.closed found (path ∷ []) [] before now idle n (0 + totals.failed)) passed run) in
+    totals_printed c.args.options.now.closed found (path ∷ []) before now idle c.from.result c.from-in-Judged.result counted (g.S.Sink.written c.print_totals.new.out) c.print_totals.result
     c.print_totals.ensures.ok c.print_totals.ensures.err
 
 pub returns-in-Stopped-clause-ends : goal.returns-in-Stopped-clause-ends
@@ -36,6 +36,6 @@ returns-in-Stopped-clause-ends g c =
     let now = g.S.Sink.written c.run_bytes.new.out in
     let idle = c.run_bytes.new.work ≡ c.args.work.now in
     let came = rw c.in-Stopped.is at c.in_ok-totals.ensures.ran in
-    let run = subst (λ (w : Option (List ℕ)). RunSoFar found (path ∷ []) (path ∷ []) before w (Unit {0}) 0 0) (sym came.1) (none_run found (path ∷ []) before (Unit {0}) tt) in
-    stop_printed found (path ∷ []) before path [] now (Unit {0}) 0 0 run c.in-Stopped.stop (g.S.Sink.written c.print_stop.new.out) idle c.print_stop.result came.0 (λ rests. came.2)
+    let run = subst (λ (w : Option (List ℕ)). RunSoFar c.args.options.now.closed found (path ∷ []) (path ∷ []) before w (Unit {0}) 0 0) (sym came.1) (none_run c.args.options.now.closed found (path ∷ []) before (Unit {0}) tt) in
+    stop_printed c.args.options.now.closed found (path ∷ []) before path [] now (Unit {0}) 0 0 run c.in-Stopped.stop (g.S.Sink.written c.print_stop.new.out) idle c.print_stop.result came.0 (λ rests. came.2)
     c.print_stop.ensures.ok c.print_stop.ensures.err

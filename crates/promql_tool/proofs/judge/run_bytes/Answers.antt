@@ -4,10 +4,10 @@ use Rattle.promql_tool.proofs.Judging.{bytes_come, bytes_cut}
 use Rattle.promql_tool.proofs.judge.run_bytes.Goals as goal
 
 pub returns-in-Ok-clause-ran : goal.returns-in-Ok-clause-ran
-returns-in-Ok-clause-ran g c = bytes_come c.read_script.new.searches c.args.bytes.now c.in-Ok.script c.in-Ok.ensures.said c.args.path.now _ _ _ _ c.run_script.result c.run_script.ensures.ran
+returns-in-Ok-clause-ran g c = bytes_come c.read_script.new.searches c.args.bytes.now c.in-Ok.script c.in-Ok.ensures.said c.args.options.now.closed c.args.path.now _ _ _ _ c.run_script.result c.run_script.ensures.ran
 
 pub returns-in-Ok-clause-cut : goal.returns-in-Ok-clause-cut
-returns-in-Ok-clause-cut g c = bytes_cut c.read_script.new.searches c.args.bytes.now c.in-Ok.script c.in-Ok.ensures.said c.args.path.now _ _ _ c.run_script.result c.run_script.ensures.cut
+returns-in-Ok-clause-cut g c = bytes_cut c.read_script.new.searches c.args.bytes.now c.in-Ok.script c.in-Ok.ensures.said c.args.options.now.closed c.args.path.now _ _ _ c.run_script.result c.run_script.ensures.cut
 
 pub returns-in-Err-Refused-clause-ran : goal.returns-in-Err-Refused-clause-ran
 returns-in-Err-Refused-clause-ran g c =

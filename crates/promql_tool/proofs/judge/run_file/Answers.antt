@@ -7,10 +7,10 @@ pub returns-in-Bytes-clause-cut : goal.returns-in-Bytes-clause-cut
 returns-in-Bytes-clause-cut g c =
     let found = IsFound (g.L.Library.told c.args.library.now) (g.L.Library.sound c.args.library.now) in
     let is_found = subst (λ (bytes : List ℕ). found c.args.path.now (Some bytes)) (sym c.as_slice.ensures) (rw c.in-Bytes.is at c.in_ok-bytes.ensures.file) in
-    bytes_cut _ found c.args.path.now c.as_slice.result.now is_found _ _ c.run_bytes.result c.run_bytes.ensures.cut
+    bytes_cut _ _ found c.args.path.now c.as_slice.result.now is_found _ _ c.run_bytes.result c.run_bytes.ensures.cut
 
 pub returns-in-Bytes-clause-ran : goal.returns-in-Bytes-clause-ran
 returns-in-Bytes-clause-ran g c =
     let found = IsFound (g.L.Library.told c.args.library.now) (g.L.Library.sound c.args.library.now) in
     let is_found = subst (λ (bytes : List ℕ). found c.args.path.now (Some bytes)) (sym c.as_slice.ensures) (rw c.in-Bytes.is at c.in_ok-bytes.ensures.file) in
-    bytes_came _ found c.args.path.now c.as_slice.result.now is_found _ _ c.run_bytes.result _ c.run_bytes.ensures.ran
+    bytes_came _ _ found c.args.path.now c.as_slice.result.now is_found _ _ c.run_bytes.result _ c.run_bytes.ensures.ran

@@ -4,7 +4,7 @@ use Rattle.promql_tool.proofs.Querying.{script_answered}
 use Rattle.promql_tool.proofs.query.answer_bytes.Goals as goal
 
 pub returns-in-Ok : goal.returns-in-Ok
-returns-in-Ok g c = λ path. script_answered path _ _ _ _ _ c.read_script.new.searches c.args.bytes.now c.in-Ok.script c.answer_script.result c.in-Ok.ensures.said c.answer_script.ensures
+returns-in-Ok g c = λ path. script_answered _ path _ _ _ _ _ c.read_script.new.searches c.args.bytes.now c.in-Ok.script c.answer_script.result c.in-Ok.ensures.said c.answer_script.ensures
 
 pub returns-in-Err-Refused : goal.returns-in-Err-Refused
 returns-in-Err-Refused g c =

@@ -5,4 +5,4 @@ use Rattle.promql_tool.proofs.query.run_query.Goals as goal
 pub returns-clause-ends : goal.returns-clause-ends
 returns-clause-ends g c =
     let found = IsFound (g.L.Library.told c.args.library.now) (g.L.Library.sound c.args.library.now) in
-    query_ends c.args.path.now _ _ _ _ found _ _ c.in_ok-answered.answered c.in_ok-answered.ensures.answered c.print_answered.result c.print_answered.ensures.ends
+    query_ends _ c.args.path.now _ _ _ _ found _ _ c.in_ok-answered.answered c.in_ok-answered.ensures.answered c.print_answered.result c.print_answered.ensures.ends
