@@ -175,6 +175,19 @@ const RUNS: &str = r##"
 2|usage: promqltest [options] FILE.. or query [options] FILE EXPR;|workload  0|0|0
 2|usage: promqltest [options] FILE.. or query [options] FILE EXPR;|workload  20001|0|0
 2|usage: promqltest [options] FILE.. or query [options] FILE EXPR;|workload  a.test|0|0
+2|usage: promqltest [options] FILE.. or query [options] FILE EXPR;|promqltest  --edges  v4  a.test|0|0
+2|usage: promqltest [options] FILE.. or query [options] FILE EXPR;|promqltest  --edges=  a.test|0|0
+2|usage: promqltest [options] FILE.. or query [options] FILE EXPR;|promqltest  --edges  v2  --edges  v2  a.test|0|0
+2|usage: promqltest [options] FILE.. or query [options] FILE EXPR;|query  --edges=v4  s.test  x|0|0
+2|usage: promqltest [options] FILE.. or query [options] FILE EXPR;|query  --edges=  s.test  x|0|0
+2|usage: promqltest [options] FILE.. or query [options] FILE EXPR;|workload  --edges=v2  5  --edges=v3|0|0
+1|PASS a.test:4;FAIL a.test:7 up expected 3 got 2;passed 1 failed 1;|promqltest  --edges  v2  a.test|0|0
+0|empty;|query  --at  7m  s.test  x|0|0
+0|x{i="1"} 3@420000;x{i="2"} 5@420000;|query  --edges  v2  --at  7m  s.test  x|0|0
+0|{i="1"} 2@120000;{i="2"} 2@120000;|query  --at  2m  s.test  count_over_time(x[2m])|0|0
+0|{i="1"} 3@120000;{i="2"} 3@120000;|query  --at  2m  --edges=v2  s.test  count_over_time(x[2m])|0|0
+0|{i="1"} 2@120000;{i="2"} 2@120000;|query  --edges=v3  --at  2m  s.test  count_over_time(x[2m])|0|0
+0|series 5 samples 305;PASS workload:8;PASS workload:11;PASS workload:17;passed 3 failed 0;|workload  --edges  v2  5|0|0
 "##;
 
 /// Appends a text with a line feed for each sign.

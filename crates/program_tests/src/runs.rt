@@ -7,6 +7,7 @@ use frac_text::write_number;
 use holders::{Items, Text};
 use match_rule::Patterns;
 use promql_meaning::{Answer, Outcome};
+use query_engine::Options;
 use script_check::{append_outcome, scripts_keep_their_patterns};
 use script_read::{ReadFault, Script};
 use std::alloc::{AllocError, Global};
@@ -165,6 +166,9 @@ fn outcome_text(
     }
 }
 
+/// Windows are open on the left.
+const OPEN: Options = Options { closed: false };
+
 /// Runs a script with counters of its own.
 fn run_counted<W: Ledger>(
     alloc: Global,
@@ -180,7 +184,7 @@ fn run_counted<W: Ledger>(
     requires few { length script.now.commands < 2 ^ 32 }
 {
     let mut work = Work::<W>::new(blank);
-    run(alloc, "a.test", script, searches, out, &mut work)
+    run(alloc, "a.test", script, searches, &OPEN, out, &mut work)
 }
 
 fn run_script(
@@ -209,7 +213,15 @@ fn answer_counted<W: Ledger>(
     requires three { blank.parts ≡ 3 }
 {
     let mut work = Work::<W>::new(blank);
-    answer(alloc, script, query.as_str(), grid, instant, &mut work)
+    answer(
+        alloc,
+        script,
+        query.as_str(),
+        grid,
+        instant,
+        &OPEN,
+        &mut work,
+    )
 }
 
 fn answer_query(

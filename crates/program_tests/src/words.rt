@@ -1,6 +1,8 @@
 use std::alloc::{AllocError, Global};
 use std::test::Fail;
-use tool_words::{Asked, commands_are_simple, read_words, words_say_what_they_spell};
+use tool_words::{
+    Asked, commands_are_simple, edges_are_asked_for, read_words, words_say_what_they_spell,
+};
 
 // Each line is what is asked for, and then the words, each behind a `|`. Times are in milliseconds.
 const ROWS: &str = "refused
@@ -140,13 +142,56 @@ refused|query|--from|0|--to|100000000000.001|--step|100000000000|f|e
 refused|query|--from=-100000000000.001|--to|0|--step|100000000000|f|e
 refused|query|--from|0|--to|1|--step|1|--from|0|f|e
 refused|query|--from|0|--to|1|--step|1|--to=1|f|e
-refused|query|f|e|--from|0|--to|1|--step";
+refused|query|f|e|--from|0|--to|1|--step
+closed test <a>|promqltest|--edges|v2|a
+closed test <a> <b>|promqltest|a|--edges=v2|b
+closed test <-x>|promqltest|--edges=v2|--|-x
+test <a>|promqltest|--edges|v3|a
+test <a>|promqltest|a|--edges=v3
+test <--edges> <v2>|promqltest|--|--edges|v2
+refused|promqltest|--edges|v4|a
+refused|promqltest|--edges=v4|a
+refused|promqltest|--edges||a
+refused|promqltest|--edges=|a
+refused|promqltest|--edges|V2|a
+refused|promqltest|--edges|v2 |a
+refused|promqltest|--edges=v|a
+refused|promqltest|--edges=v22|a
+refused|promqltest|--edges|2|a
+refused|promqltest|--edges|v2|--edges|v2|a
+refused|promqltest|--edges=v2|a|--edges=v3
+refused|promqltest|--edges|v2
+refused|promqltest|a|--edges
+refused|promqltest|--edge|v2|a
+closed query 0 to 0 by 1 at once: <f> <e>|query|--edges|v2|f|e
+closed query 60000 to 60000 by 1 at once: <f> <e>|query|f|--at|1m|e|--edges=v2
+closed query 0 to 60000 by 30000: <f> <e>|query|--from|0|--to|1m|--edges=v2|--step|30s|f|e
+query 0 to 0 by 1 at once: <f> <e>|query|f|e|--edges=v3
+query 0 to 0 by 1 at once: <f> <--edges=v2>|query|f|--|--edges=v2
+refused|query|--edges|v4|f|e
+refused|query|--edges=|f|e
+refused|query|--edges||f|e
+refused|query|--edges|v2|f|e|--edges|v2
+refused|query|--edges|v2|--at|1|--from|0|f|e
+closed workload 7|workload|--edges|v2|7
+closed workload 7|workload|7|--edges=v2
+workload 7|workload|--edges=v3|7
+refused|workload|--edges=v4|7
+refused|workload|--edges=|7
+refused|workload|--edges=v2|--edges=v2|7
+refused|workload|--edges|v2";
+
+/// Windows that are closed on the left are told.
+fn edge(closed: bool) -> &'static str {
+    if closed { "closed " } else { "" }
+}
 
 fn told(alloc: Global, asked: Option<Asked>) -> Result<String, AllocError> {
     match asked {
         None => String::from_str(alloc, "refused"),
-        Some(Asked::Test { files }) => {
-            let mut text = String::from_str(alloc, "test")?;
+        Some(Asked::Test { closed, files }) => {
+            let mut text = String::from_str(alloc, edge(closed))?;
+            text.push_str("test")?;
             for file in files.as_slice() {
                 let file = file.as_str();
                 text.push_str(format!(in alloc; " <{file}>")?.as_str())?;
@@ -155,18 +200,23 @@ fn told(alloc: Global, asked: Option<Asked>) -> Result<String, AllocError> {
         }
         Some(
             Asked::Query {
+                closed,
                 grid,
                 instant,
                 file,
                 expr,
             },
         ) => {
+            let edge = edge(closed);
             let kind = if instant { " at once" } else { "" };
             let (start, end, step) = (grid.start.0, grid.end.0, grid.step.0);
             let (file, expr) = (file.as_str(), expr.as_str());
-            format!(in alloc; "query {start} to {end} by {step}{kind}: <{file}> <{expr}>")
+            format!(in alloc; "{edge}query {start} to {end} by {step}{kind}: <{file}> <{expr}>")
         }
-        Some(Asked::Workload { count }) => format!(in alloc; "workload {count}"),
+        Some(Asked::Workload { closed, count }) => {
+            let edge = edge(closed);
+            format!(in alloc; "{edge}workload {count}")
+        }
     }
 }
 
@@ -174,6 +224,7 @@ fn told(alloc: Global, asked: Option<Asked>) -> Result<String, AllocError> {
 fn words_ask(rt: HostRuntime) -> Result<(), Fail> {
     commands_are_simple();
     words_say_what_they_spell();
+    edges_are_asked_for();
     let alloc = rt.alloc();
     for row in ROWS.split('\n') {
         let mut parts = row.split('|');

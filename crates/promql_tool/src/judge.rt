@@ -79,15 +79,7 @@ pub fn run_bytes<S: Sink, W: Ledger>(
 {
     let mut searches = Patterns::new(alloc);
     match read_script(alloc, bytes, &mut searches) {
-        Ok(script) => run_script(
-            alloc,
-            path,
-            &script,
-            &mut searches,
-            options,
-            out,
-            work,
-        ),
+        Ok(script) => run_script(alloc, path, &script, &mut searches, options, out, work),
         Err(ReadFault::Refused(refusal)) => Ok(refused(Refusal::Script(refusal))),
         Err(ReadFault::Memory) => Err(SinkFail::Memory),
     }

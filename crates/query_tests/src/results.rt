@@ -6,7 +6,7 @@ mod rows;
 use frac_text::write_number;
 use label_set::{Labels, METRIC_NAME, Text};
 use promql_meaning::{Answer, Outcome, ResultSeries};
-use query_engine::evaluate;
+use query_engine::{Options, evaluate};
 use sample_store::Store;
 use std::alloc::{AllocError, Global};
 use std::marker::Brand;
@@ -173,6 +173,9 @@ fn outcome_text(alloc: Global, outcome: &Outcome) -> Result<Vec<u8>, AllocError>
     Ok(text)
 }
 
+/// Windows are open on the left.
+const OPEN: Options = Options { closed: false };
+
 fn counted<W: Ledger>(
     alloc: Global,
     store: &Store,
@@ -185,7 +188,15 @@ fn counted<W: Ledger>(
     requires three { blank.parts ≡ 3 }
 {
     let mut work = Work::<W>::new(blank);
-    evaluate(alloc, query.as_str(), &when.0, when.1, store, &mut work)
+    evaluate(
+        alloc,
+        query.as_str(),
+        &when.0,
+        when.1,
+        &OPEN,
+        store,
+        &mut work,
+    )
 }
 
 /// What a text comes to, with counters that nobody reads.

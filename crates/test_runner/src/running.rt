@@ -112,14 +112,7 @@ fn run_commands<S: Sink, W: Ledger>(
     let mut totals = Totals::NONE;
     for command in script.commands.as_slice() {
         let more = run_command(
-            alloc,
-            path,
-            command,
-            options,
-            &mut store,
-            searches,
-            out,
-            work,
+            alloc, path, command, options, &mut store, searches, out, work,
         )?;
         totals = totals.plus(more);
     }
