@@ -57,7 +57,7 @@ pub fn called(alloc: Global, f: Func, arguments: Items<Given>, t: Ms) -> Result<
 }
 
 /// What an element function is called with: a calendar function that is given nothing takes the instant.
-#[tactic(auto, using(crate::proofs::Completed::given_is_kept, crate::proofs::Completed::nothing_is_kept))]
+#[tactic(auto, using(crate::proofs::Completed::given_is_kept))]
 fn completed(
     alloc: Global,
     f: Element,
