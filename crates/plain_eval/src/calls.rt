@@ -2,7 +2,7 @@
 ghost use Rattle.plain_eval.specs.Frames.{IsFramed};
 ghost use Rattle.promql_meaning.specs.Buckets.{bucket_quantiles as quantiles_of_buckets};
 ghost use Rattle.promql_meaning.specs.Givens.{step_of, with_scalar, words_of};
-ghost use Rattle.promql_meaning.specs.Meaning.{called, completed, step_at, words_at};
+ghost use Rattle.promql_meaning.specs.Meaning.{called, completed, or_instant, step_at, words_at};
 ghost use Rattle.promql_meaning.specs.Relabels.{label_joined as label_joined_of};
 ghost use Rattle.std.specs.List.{AllByRecursion};
 ghost use Rattle.std.specs.Prelude.{◌≡◌, drop, map, Some, true, slice_get, IfOk};
@@ -57,7 +57,6 @@ pub fn called(alloc: Global, f: Func, arguments: Items<Given>, t: Ms) -> Result<
 }
 
 /// What an element function is called with: a calendar function that is given nothing takes the instant.
-#[tactic(auto, using(crate::proofs::Completed::given_is_kept))]
 fn completed(
     alloc: Global,
     f: Element,
@@ -66,11 +65,18 @@ fn completed(
 ) -> Result<Items<Given>, AllocError>
     ensures { IfOk result (λ all. all ≡ completed f arguments t.0) }
 {
-    let mut arguments = arguments;
-    if !arguments.as_slice().is_empty() {
-        return Ok(arguments);
+    match f {
+        Element::Calendar(_) => or_instant(alloc, arguments, t),
+        _ => Ok(arguments),
     }
-    if let Element::Calendar(_) = f {
+}
+
+#[tactic(auto, using(crate::proofs::Completed::none_is_instant, crate::proofs::Completed::some_are_kept))]
+fn or_instant(alloc: Global, arguments: Items<Given>, t: Ms) -> Result<Items<Given>, AllocError>
+    ensures { IfOk result (λ all. all ≡ or_instant arguments t.0) }
+{
+    let mut arguments = arguments;
+    if arguments.as_slice().is_empty() {
         arguments.push(Given::Vector(time_step(alloc, t)?))?;
     }
     Ok(arguments)

@@ -76,9 +76,14 @@ abbrev pub applied : Element → List Given → Step
 applied Round arguments = applied_to Round (rounding arguments) (rounding arguments) (step_at arguments 0)
 applied f arguments = applied_to f (step_at arguments 1) (step_at arguments 2) (step_at arguments 0)
 
--- what an element function is called with: a calendar function that is given nothing takes vector(time())
+-- vector(time()) where no argument is given
+abbrev pub or_instant : List Given → ℤ → List Given
+or_instant [] t = given.Vector (time_step t) ∷ []
+or_instant (g ∷ gs) t = g ∷ gs
+
+-- what an element function is called with: a calendar function that is given nothing takes the instant
 abbrev pub completed : Element → List Given → ℤ → List Given
-completed (Calendar part) [] t = given.Vector (time_step t) ∷ []
+completed (Calendar part) arguments t = or_instant arguments t
 completed f arguments t = arguments
 
 -- a function of windows and of a scalar, with the marks of both
