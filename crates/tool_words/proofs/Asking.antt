@@ -9,7 +9,7 @@ use Rattle.tool_words.specs.Asked.{AsksForEdges, EdgesAreAskedFor, Wish, asked, 
 use Rattle.ticks.specs.Moments.{Moments, is_grid}
 use Rattle.tool_words.specs.Said.{Item, Text, places_of, said, value_of}
 use Rattle.tool_words.specs.Tells.{Holds, Tells}
-use Rattle.tool_words.specs.Views.{HasSeries, IsOneInstant, wish_of}
+use Rattle.tool_words.specs.Views.{HasFiles, HasSeries, IsOneInstant, wish_of}
 use Rattle.tool_words.specs.declared.asked.Asked.{Asked}
 use Rattle.tool_words.specs.declared.asked.Asked.TheVariants as wanted
 use Rattle.ticks.specs.declared.moment.Ms.{Ms}
@@ -83,35 +83,44 @@ workload_chosen : (closed : Option Bool) (words : List Text) → IfSome (workloa
 workload_chosen None words = tt
 workload_chosen (Some closed) words = workload_sound closed words
 
-workloads_sound : (said : Option (List Item)) → IfSome (option_and_then workload_of said) Sound
+pub workloads_sound : (said : Option (List Item)) → IfSome (option_and_then workload_of said) Sound
 workloads_sound None = tt
 workloads_sound (Some items) = workload_chosen (edges_in items) (places_of items)
 
 -- what the items of a query ask for
-queries_sound : (said : Option (List Item)) → IfSome (option_and_then query_of said) Sound
+pub queries_sound : (said : Option (List Item)) → IfSome (option_and_then query_of said) Sound
 queries_sound None = tt
 queries_sound (Some items) = query_sound (edges_in items) _
     (moments_alone (value_of (codes "at") items) (value_of (codes "from") items) (value_of (codes "to") items) (value_of (codes "step") items)) (places_of items)
 
-is_one_instant : (o : Option Asked) (said : Option (List Item)) → option_map wish_of o ≡ option_and_then query_of said → IfSome o IsOneInstant
-is_one_instant None said is = tt
-is_one_instant (Some (wanted.Test closed files)) said is = tt
-is_one_instant (Some (wanted.Query closed grid instant file expr)) said is = subst (λ (w : Option Wish). IfSome w Sound) (sym is) (queries_sound said)
-is_one_instant (Some (wanted.Workload closed count)) said is = tt
+-- what an answer stands for is sound, so the answer is
+module _ (w : Option Wish) (sound : IfSome w Sound) where
+  has_files : (o : Option Asked) → option_map wish_of o ≡ w → IfSome o HasFiles
+  has_files None is = tt
+  has_files (Some (wanted.Test closed files)) is = subst (λ (w : Option Wish). IfSome w Sound) (sym is) sound
+  has_files (Some (wanted.Query closed grid instant file expr)) is = tt
+  has_files (Some (wanted.Workload closed count)) is = tt
 
-pub one_instant : {E : Type 0} (r : Result (Option Asked) E) (said : Option (List Item)) → IfOk r (λ asked. option_map wish_of asked ≡ option_and_then query_of said)
-    → IfOk r (λ asked. IfSome asked IsOneInstant)
-one_instant r said read = IfOk-weaker r _ _ (λ asked is. is_one_instant asked said is) read
+  is_one_instant : (o : Option Asked) → option_map wish_of o ≡ w → IfSome o IsOneInstant
+  is_one_instant None is = tt
+  is_one_instant (Some (wanted.Test closed files)) is = tt
+  is_one_instant (Some (wanted.Query closed grid instant file expr)) is = subst (λ (w : Option Wish). IfSome w Sound) (sym is) sound
+  is_one_instant (Some (wanted.Workload closed count)) is = tt
 
-has_series : (o : Option Asked) (said : Option (List Item)) → option_map wish_of o ≡ option_and_then workload_of said → IfSome o HasSeries
-has_series None said is = tt
-has_series (Some (wanted.Test closed files)) said is = tt
-has_series (Some (wanted.Query closed grid instant file expr)) said is = tt
-has_series (Some (wanted.Workload closed count)) said is = subst (λ (w : Option Wish). IfSome w Sound) (sym is) (workloads_sound said)
+  has_series : (o : Option Asked) → option_map wish_of o ≡ w → IfSome o HasSeries
+  has_series None is = tt
+  has_series (Some (wanted.Test closed files)) is = tt
+  has_series (Some (wanted.Query closed grid instant file expr)) is = tt
+  has_series (Some (wanted.Workload closed count)) is = subst (λ (w : Option Wish). IfSome w Sound) (sym is) sound
 
-pub some_series : {E : Type 0} (r : Result (Option Asked) E) (said : Option (List Item)) → IfOk r (λ asked. option_map wish_of asked ≡ option_and_then workload_of said)
-    → IfOk r (λ asked. IfSome asked HasSeries)
-some_series r said read = IfOk-weaker r _ _ (λ asked is. has_series asked said is) read
+  pub some_files : {E : Type 0} (r : Result (Option Asked) E) → IfOk r (λ asked. option_map wish_of asked ≡ w) → IfOk r (λ asked. IfSome asked HasFiles)
+  some_files r read = IfOk-weaker r _ _ has_files read
+
+  pub one_instant : {E : Type 0} (r : Result (Option Asked) E) → IfOk r (λ asked. option_map wish_of asked ≡ w) → IfOk r (λ asked. IfSome asked IsOneInstant)
+  one_instant r read = IfOk-weaker r _ _ is_one_instant read
+
+  pub some_series : {E : Type 0} (r : Result (Option Asked) E) → IfOk r (λ asked. option_map wish_of asked ≡ w) → IfOk r (λ asked. IfSome asked HasSeries)
+  some_series r read = IfOk-weaker r _ _ has_series read
 
 -- ---- words that name no command
 

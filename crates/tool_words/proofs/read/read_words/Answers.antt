@@ -1,15 +1,39 @@
 use Rattle.std.proofs.Common.{drop, map}
-use Rattle.std.specs.Prelude.{string_bytes}
-use Rattle.tool_words.specs.Asked.{query_options, test_options}
+use Rattle.std.specs.Prelude.{option_and_then, string_bytes}
+use Rattle.tool_words.specs.Asked.{query_of, query_options, test_options, workload_of}
 use Rattle.tool_words.specs.Said.{said}
-use Rattle.tool_words.proofs.Asking.{no_command, one_instant, some_series}
+use Rattle.tool_words.proofs.Asking.{no_command, one_instant, queries_sound, some_files, some_series, workloads_sound}
 use Rattle.tool_words.proofs.read.read_words.Goals as goal
 
+pub returns-in-query-clause-files : goal.returns-in-query-clause-files
+returns-in-query-clause-files c =
+    let items = said query_options (drop 1 (map string_bytes c.args.words.now)) in
+    some_files (option_and_then query_of items) (queries_sound items) c.read_query.result c.read_query.ensures
+
 pub returns-in-query-clause-alone : goal.returns-in-query-clause-alone
-returns-in-query-clause-alone c = one_instant c.read_query.result (said query_options (drop 1 (map string_bytes c.args.words.now))) c.read_query.ensures
+returns-in-query-clause-alone c =
+    let items = said query_options (drop 1 (map string_bytes c.args.words.now)) in
+    one_instant (option_and_then query_of items) (queries_sound items) c.read_query.result c.read_query.ensures
+
+pub returns-in-query-clause-series : goal.returns-in-query-clause-series
+returns-in-query-clause-series c =
+    let items = said query_options (drop 1 (map string_bytes c.args.words.now)) in
+    some_series (option_and_then query_of items) (queries_sound items) c.read_query.result c.read_query.ensures
+
+pub returns-in-workload-clause-files : goal.returns-in-workload-clause-files
+returns-in-workload-clause-files c =
+    let items = said test_options (drop 1 (map string_bytes c.args.words.now)) in
+    some_files (option_and_then workload_of items) (workloads_sound items) c.read_workload.result c.read_workload.ensures
+
+pub returns-in-workload-clause-alone : goal.returns-in-workload-clause-alone
+returns-in-workload-clause-alone c =
+    let items = said test_options (drop 1 (map string_bytes c.args.words.now)) in
+    one_instant (option_and_then workload_of items) (workloads_sound items) c.read_workload.result c.read_workload.ensures
 
 pub returns-in-workload-clause-series : goal.returns-in-workload-clause-series
-returns-in-workload-clause-series c = some_series c.read_workload.result (said test_options (drop 1 (map string_bytes c.args.words.now))) c.read_workload.ensures
+returns-in-workload-clause-series c =
+    let items = said test_options (drop 1 (map string_bytes c.args.words.now)) in
+    some_series (option_and_then workload_of items) (workloads_sound items) c.read_workload.result c.read_workload.ensures
 
 pub returns-in_default-as_str-clause-wish : goal.returns-in_default-as_str-clause-wish
 returns-in_default-as_str-clause-wish c =
