@@ -29,6 +29,7 @@ with_edge closed (Node-F.Pair op left right pairing) = Node-F.Pair op left right
 with_edge closed (Node-F.Set op left right pairing) = Node-F.Set op left right pairing
 
 pub edged_rolls : (closed : Bool) (y : Node-F Node Expr) → edged_step closed y ≡ roll-Node (with_edge closed y)
+unfolding roll-Node denote.Hole.Carrier.roll
 edged_rolls closed (Node-F.Number value) = rolls-Number value
 edged_rolls closed (Node-F.Words text) = rolls-Words text
 edged_rolls closed (Node-F.Paren inner) = rolls-Paren inner

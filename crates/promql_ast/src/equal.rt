@@ -52,11 +52,17 @@ fn is_same_selector(a: &Selector, b: &Selector) -> bool
     are_same_rules(&a.rules, &b.rules) && a.moment == b.moment
 }
 
+fn is_same_moment(a: Moment, b: Moment) -> bool
+    ensures { IsTrue result ↔ (a ≡ b) }
+{
+    a == b
+}
+
 /// A range, a step and a moment.
 fn are_same_times(a: (Ms, Ms, Moment), b: (Ms, Ms, Moment)) -> bool
     ensures { IsTrue result ↔ (a ≡ b) }
 {
-    a == b
+    a.0 == b.0 && a.1 == b.1 && is_same_moment(a.2, b.2)
 }
 
 fn is_same_grouping(a: &Grouping, b: &Grouping) -> bool
