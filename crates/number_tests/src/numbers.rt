@@ -6,7 +6,7 @@ use std::cmp::Ordering;
 use std::test::Fail;
 use xfrac::{
     ArithOp, CompareOp, Held, LIMIT, NumFault, SumAcc, XFrac, abs, arith, ceil, cmp_total, compare,
-    floor, near, neg, of, parts, whole,
+    floor, near, neg, of, parts, whole, whole_count,
 };
 
 const TOP: i128 = 1_000_000_000_000_000_000_000_000_000_000;
@@ -173,6 +173,10 @@ fn forming(rt: HostRuntime) -> Result<(), Fail> {
     assert_eq!(rt; of(i128::MIN, i128::MAX), Err(NumFault::Overflow));
     assert_eq!(rt; of(2 * TOP, 4 * TOP)?, value((1, 2)));
     assert_eq!(rt; of(0, i128::MAX)?, whole(0));
+    assert_eq!(rt; whole_count(0), whole(0));
+    assert_eq!(rt; whole_count(LIMIT), value((TOP, 1)));
+    let most = 79_228_162_514_264_337_593_543_950_336;
+    assert_eq!(rt; whole_count(most), of(most as i128, 1)?);
     match of(-6, 4)? {
         XFrac::Fin(f) => assert_eq!(rt; parts(&f), (-3, 2)),
         other => assert_eq!(rt; other, XFrac::NaN, "a fraction"),
