@@ -11,6 +11,7 @@ pub mod Merges
 pub mod Ordered
 pub mod Partners
 pub mod Puts
+pub mod Reordered
 pub mod Sameness
 pub mod Slices
 pub mod WellFormedSteps

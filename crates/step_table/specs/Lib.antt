@@ -1,4 +1,5 @@
 pub mod Alike
+pub mod AllGathered
 pub mod Gathering
 pub mod Groups
 pub mod KeySets
@@ -10,6 +11,8 @@ pub mod OrderLaws
 pub mod Orders
 pub mod Outcomes
 pub mod Sets
+pub mod Shuffles
+pub mod Shuffling
 pub mod Timed
 pub mod Unions
 pub mod WellFormed

@@ -9,6 +9,7 @@ pub mod laws;
 mod marks;
 mod matching;
 mod operators;
+pub mod order_laws;
 mod orders;
 mod outcomes;
 mod set_operators;
