@@ -99,11 +99,17 @@ module _ (at : ℕ) (s : List ℕ) where
   sign_good None some = absurd (cc)
   sign_good (Some sign) some = refl
 
+  abbrev worded : TokenKind
+  worded = if is_query_word s then tokens.Word else tokens.Name
+
+  abbrev but_infinite : TokenKind
+  but_infinite = if is_word s (codes "nan") then tokens.Number NaN else worded
+
   name_good : is_utf8 s ≡ true → IsGood (name_kind s)
   name_good text =
-      cond_both (is_word s (codes "inf")) _ _ IsGood (λ _. refl)
-      (λ _. cond_both (is_word s (codes "nan")) _ _ IsGood (λ _. refl)
-      (λ _. cond_both (is_query_word s) _ _ IsGood (λ word. word_good (word_of s) word text)
+      cond_both (is_word s (codes "inf")) (tokens.Number PosInf) but_infinite IsGood (λ _. refl)
+      (λ _. cond_both (is_word s (codes "nan")) (tokens.Number NaN) worded IsGood (λ _. refl)
+      (λ _. cond_both (is_query_word s) tokens.Word tokens.Name IsGood (λ word. word_good (word_of s) word text)
       (λ _. ap (λ b. is_bad (if b then kinds.Name s else kinds.Bad (BadToken at))) text)))
 
   bad_good : (run : List ℕ) → IsGood (bad_kind at run)
