@@ -1,7 +1,7 @@
 #!/usr/bin/env bash
 # Judges each script below tests/scripts/, whose README.md says which must pass and which must fail. It prints a line for each
-# script that does otherwise, and last how many scripts passed and failed. It judges the scripts of tests/refusals.cases too,
-# and some of the size of the limits, which it makes. It ends with 0 where all passed.
+# script that does otherwise, and last how many scripts passed and failed. It runs tests/refusals.sh and
+# tests/limits.sh too. It ends with 0 where all passed.
 #   tests/scripts.sh                   by bin/promqltest; it fails where the release isn't of the sources that stand here
 #   tests/scripts.sh --program FILE    by this program, whatever the release is
 set -u
@@ -56,30 +56,6 @@ judge_one() {
     fi
 }
 
-# judge_large WANTED: judges a script that is too large, or no text, to stand here, which comes on standard input, by its status
-# and its last line.
-judge_large() {
-    local told
-    cat >"$room/large.test"
-    told=$(cd -- "$room" && "${program[@]}" promqltest large.test >told; echo "$? $(tail -n 1 told)")
-    [ "$told" = "$1" ] || fails "a large script: wanted $1, got $told"
-}
-
-# A script of so many series, and one that asks for a label value of so many bytes, in a query of seven more.
-series() { echo 'load 1m' && seq -f 'x%.0f 0' "$1"; }
-query() { printf 'eval instant at 0 x{a="%s"}\n' "$(head -c "$1" /dev/zero | tr '\0' b)"; }
-
-judge_limits() {
-    yes '' | head -c 4194304 | judge_large '0 passed 0 failed 0'
-    yes '' | head -c 4194305 | judge_large '6 REFUSED large.test:0 TooLarge'
-    printf 'load 1m\nx 1\n# \xff\n' | judge_large '6 REFUSED large.test:3 NotUtf8'
-    series 100000 | judge_large '0 passed 0 failed 0'
-    series 100001 | judge_large '6 REFUSED large.test:100002 TooManySeries'
-    query 65529 | judge_large '0 passed 1 failed 0'
-    query 65530 | judge_large '1 passed 0 failed 1'
-    { query 65530 && echo 'expect fail msg: TooLong at 0'; } | judge_large '0 passed 1 failed 0'
-}
-
 if [ "${1-}" = --program ]; then
     program=("$(readlink -f -- "$2")")
     start=("${program[@]}" promqltest)
@@ -104,7 +80,8 @@ for file in "${files[@]}"; do
 done
 judge_all "${together[@]}"
 for file in "${alone[@]}"; do judge_one "$file"; done
-judge_limits
-[ ! -e "$top/tests/refusals.sh" ] || "$top/tests/refusals.sh" "${program[-1]}" || failed=$((failed + 1))
+for more in refusals limits; do
+    [ ! -e "$top/tests/$more.sh" ] || "$top/tests/$more.sh" "${program[-1]}" || failed=$((failed + 1))
+done
 echo "scripts: ${#together[@]} that pass as they stand, ${#alone[@]} with files beside them, $failed failed"
 [ "$failed" -eq 0 ]
