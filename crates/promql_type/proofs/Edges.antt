@@ -1,17 +1,18 @@
 -- Typing looks at no moment.
 use Rattle.std.proofs.Common.{◌≡◌, ◌∙◌, ◌++◌, ℕ, Bool, List, [], ◌∷◌, map, ap, ap₂, sym, refl, subst}
 use Rattle.promql_ast.specs.Edged.{edged, edged_expr, edged_moment, edged_selector, edged_step}
-use Rattle.promql_ast.specs.EdgedFolds.{fold_unmoved, with_edge}
+use Rattle.promql_ast.specs.EdgedFolds.{edged_rolls, fold_unmoved, with_edge}
 use Rattle.promql_ast.specs.declared.refusal.QueryRefusal.{QueryRefusal}
 use Rattle.promql_ast.specs.declared.tree.Expr.{Expr}
 use Rattle.promql_ast.specs.declared.tree.Node.{Node}
-use Rattle.promql_ast.specs.declared.tree.Node.TheVariants.{Number, Words, Paren, Negate, Select, Range, Subquery, Call, Aggregate, Pair, Set}
+use Rattle.promql_ast.specs.declared.tree.Node.TheVariants.{Number, Words, Paren, Negate, Select, Range, Subquery, Call, Aggregate, Pair, Set, rolls-Number, rolls-Words, rolls-Paren, rolls-Negate, rolls-Select, rolls-Range, rolls-Subquery, rolls-Call, rolls-Aggregate, rolls-Pair, rolls-Set}
 use Rattle.promql_ast.specs.declared.tree.Node.TheOpen.{Node-F}
-use Rattle.promql_ast.specs.declared.tree.Node.TheViews.{roll-Node, roll-Expr, outs-Number, outs-Words, outs-Paren, outs-Negate, outs-Select, outs-Range, outs-Subquery, outs-Call, outs-Aggregate, outs-Pair, outs-Set}
-use Rattle.promql_ast.specs.declared.tree.Node.TheFolds.{map-Node, fold-Node, fold_out-Node, fold-roll-Node, fold-roll-Expr, ind-Expr}
+use Rattle.promql_ast.specs.declared.tree.Node.TheViews.{roll-Node, roll-Expr}
+use Rattle.promql_ast.specs.declared.tree.Node.TheFolds.{map-Node, fold-Node, fold-roll-Node, fold-roll-Expr, ind-Expr}
+use Rattle.promql_type.specs.declared.kind.Kind.{Kind}
 use Rattle.promql_type.specs.Answers.{refusals_of}
 use Rattle.promql_type.specs.Edges.{EdgesAreJudgedAlike, EdgesAreRefusedAlike, EdgesStayTyped}
-use Rattle.promql_type.specs.Judging.{Layer, expr_step, judged, node_step}
+use Rattle.promql_type.specs.Judging.{Judgement, Layer, expr_step, judged, node_step}
 use Rattle.promql_type.specs.Points.{crowded, crowded_expr, crowded_step}
 use Rattle.promql_type.specs.Rules.{result_refusals}
 use Rattle.promql_type.specs.Settled.{kind_of, settled, settled_expr, settled_pairing, settled_step}
@@ -52,13 +53,31 @@ crowded_alike : (closed : Bool) (e : Expr) → crowded (edged closed e) ≡ crow
 crowded_alike closed e = fold_unmoved closed crowded_step crowded_expr (crowded_by closed) e
 
 kind_alike : (closed : Bool) (e : Expr) → kind_of (edged closed e) ≡ kind_of e
-kind_alike closed e = ap (λ j. j.operand.gives) (judged_alike closed e)
+kind_alike closed e = ap (λ (j : Judgement). j.operand.gives) (judged_alike closed e)
 
 pub refused_alike : EdgesAreRefusedAlike
 refused_alike closed e =
-    ap₂ (λ j c. j.refusals ++ (c 1 ++ result_refusals j.operand.gives)) (judged_alike closed e) (crowded_alike closed e)
+    ap₂ (λ (j : Judgement) (c : ℕ → List QueryRefusal). j.refusals ++ (c 1 ++ result_refusals j.operand.gives)) (judged_alike closed e) (crowded_alike closed e)
 
 -- ---- the typed tree
+
+-- a node without the matching words that are dropped
+abbrev unpaired : Node-F Node Expr → Node-F Node Expr
+unpaired (Node-F.Pair op left right pairing) = Node-F.Pair op left right (settled_pairing (kind_of left) (kind_of right) pairing)
+unpaired y = y
+
+settled_rolls : (y : Node-F Node Expr) → settled_step y ≡ roll-Node (unpaired y)
+settled_rolls (Node-F.Number value) = sym (rolls-Number value)
+settled_rolls (Node-F.Words text) = sym (rolls-Words text)
+settled_rolls (Node-F.Paren inner) = sym (rolls-Paren inner)
+settled_rolls (Node-F.Negate inner) = sym (rolls-Negate inner)
+settled_rolls (Node-F.Select selector) = sym (rolls-Select selector)
+settled_rolls (Node-F.Range selector range) = sym (rolls-Range selector range)
+settled_rolls (Node-F.Subquery inner range step moment) = sym (rolls-Subquery inner range step moment)
+settled_rolls (Node-F.Call f arguments) = sym (rolls-Call f arguments)
+settled_rolls (Node-F.Aggregate f grouping arguments) = sym (rolls-Aggregate f grouping arguments)
+settled_rolls (Node-F.Pair op left right pairing) = sym (rolls-Pair op left right (settled_pairing (kind_of left) (kind_of right) pairing))
+settled_rolls (Node-F.Set op left right pairing) = sym (rolls-Set op left right pairing)
 
 module _ (closed : Bool) where
   abbrev edged_node : Node → Node
@@ -84,37 +103,30 @@ module _ (closed : Bool) where
   kind_same a = ap kind_of a.1 ∙ kind_alike closed (settled a.0)
 
   -- one level, where the children are the same
-  level : (y : Given) → node_settled (edged_step closed (map-Node Node Expr Node Expr edged_node (edged closed) (plain y)))
-      ≡ edged_node (settled_step (map-Node Node Expr Node Expr node_settled settled (plain y)))
-  level (Node-F.Number value) = (fold_out-Node Node Expr settled_step settled_expr (Number value) ∙ rw outs-Number refl) ∙ sym (fold_out-Node Node Expr (edged_step closed) edged_expr (Number value) ∙ rw outs-Number refl)
-  level (Node-F.Words text) = (fold_out-Node Node Expr settled_step settled_expr (Words text) ∙ rw outs-Words refl) ∙ sym (fold_out-Node Node Expr (edged_step closed) edged_expr (Words text) ∙ rw outs-Words refl)
-  level (Node-F.Paren e) = (fold_out-Node Node Expr settled_step settled_expr (Paren (edged closed e.0)) ∙ rw outs-Paren (ap Paren e.1)) ∙ sym (fold_out-Node Node Expr (edged_step closed) edged_expr (Paren (settled e.0)) ∙ rw outs-Paren refl)
-  level (Node-F.Negate e) = (fold_out-Node Node Expr settled_step settled_expr (Negate (edged closed e.0)) ∙ rw outs-Negate (ap Negate e.1)) ∙ sym (fold_out-Node Node Expr (edged_step closed) edged_expr (Negate (settled e.0)) ∙ rw outs-Negate refl)
-  level (Node-F.Select selector) = (fold_out-Node Node Expr settled_step settled_expr (Select (edged_selector closed selector)) ∙ rw outs-Select refl) ∙ sym (fold_out-Node Node Expr (edged_step closed) edged_expr (Select selector) ∙ rw outs-Select refl)
-  level (Node-F.Range selector range) = (fold_out-Node Node Expr settled_step settled_expr (Range (edged_selector closed selector) range) ∙ rw outs-Range refl) ∙ sym (fold_out-Node Node Expr (edged_step closed) edged_expr (Range selector range) ∙ rw outs-Range refl)
-  level (Node-F.Subquery e range step moment) =
-      (fold_out-Node Node Expr settled_step settled_expr (Subquery (edged closed e.0) range step (edged_moment closed moment)) ∙ rw outs-Subquery (ap (λ x. Subquery x range step (edged_moment closed moment)) e.1))
-      ∙ sym (fold_out-Node Node Expr (edged_step closed) edged_expr (Subquery (settled e.0) range step moment) ∙ rw outs-Subquery refl)
-  level (Node-F.Call f items) =
-      (fold_out-Node Node Expr settled_step settled_expr (Call f (map (edged closed) (map (λ e. e.0) items))) ∙ rw outs-Call (ap (λ xs. Call f xs) (all_same items)))
-      ∙ sym (fold_out-Node Node Expr (edged_step closed) edged_expr (Call f (map settled (map (λ e. e.0) items))) ∙ rw outs-Call refl)
-  level (Node-F.Aggregate f grouping items) =
-      (fold_out-Node Node Expr settled_step settled_expr (Aggregate f grouping (map (edged closed) (map (λ e. e.0) items))) ∙ rw outs-Aggregate (ap (λ xs. Aggregate f grouping xs) (all_same items)))
-      ∙ sym (fold_out-Node Node Expr (edged_step closed) edged_expr (Aggregate f grouping (map settled (map (λ e. e.0) items))) ∙ rw outs-Aggregate refl)
+  level : (y : Given) → settled_step (map-Node Node Expr Node Expr node_settled settled (with_edge closed (map-Node Node Expr Node Expr edged_node (edged closed) (plain y))))
+      ≡ edged_step closed (map-Node Node Expr Node Expr edged_node (edged closed) (unpaired (map-Node Node Expr Node Expr node_settled settled (plain y))))
+  level (Node-F.Number value) = refl
+  level (Node-F.Words text) = refl
+  level (Node-F.Paren e) = ap Paren e.1
+  level (Node-F.Negate e) = ap Negate e.1
+  level (Node-F.Select selector) = refl
+  level (Node-F.Range selector range) = refl
+  level (Node-F.Subquery e range step moment) = ap (λ (x : Expr). Subquery x range step (edged_moment closed moment)) e.1
+  level (Node-F.Call f items) = ap (λ (xs : List Expr). Call f xs) (all_same items)
+  level (Node-F.Aggregate f grouping items) = ap (λ (xs : List Expr). Aggregate f grouping xs) (all_same items)
   level (Node-F.Pair op a b pairing) =
-      let kept = settled_pairing (kind_of (settled a.0)) (kind_of (settled b.0)) pairing in
-      (fold_out-Node Node Expr settled_step settled_expr (Pair op (edged closed a.0) (edged closed b.0) pairing)
-      ∙ rw outs-Pair (ap₂ (λ k l. Pair op (settled (edged closed a.0)) (settled (edged closed b.0)) (settled_pairing k l pairing)) (kind_same a) (kind_same b)
-      ∙ ap₂ (λ x y. Pair op x y kept) a.1 b.1))
-      ∙ sym (fold_out-Node Node Expr (edged_step closed) edged_expr (Pair op (settled a.0) (settled b.0) kept) ∙ rw outs-Pair refl)
-  level (Node-F.Set op a b pairing) =
-      (fold_out-Node Node Expr settled_step settled_expr (Set op (edged closed a.0) (edged closed b.0) pairing) ∙ rw outs-Set (ap₂ (λ x y. Set op x y pairing) a.1 b.1))
-      ∙ sym (fold_out-Node Node Expr (edged_step closed) edged_expr (Set op (settled a.0) (settled b.0) pairing) ∙ rw outs-Set refl)
+      ap₂ (λ (k l : Kind). Pair op (settled (edged closed a.0)) (settled (edged closed b.0)) (settled_pairing k l pairing)) (kind_same a) (kind_same b)
+      ∙ ap₂ (λ (x y : Expr). Pair op x y (settled_pairing (kind_of (settled a.0)) (kind_of (settled b.0)) pairing)) a.1 b.1
+  level (Node-F.Set op a b pairing) = ap₂ (λ (x y : Expr). Set op x y pairing) a.1 b.1
 
   node_same : (y : Given) → IsSameNode (roll-Node (plain y))
   node_same y =
-      ap node_settled (fold-roll-Node Node Expr (edged_step closed) edged_expr (plain y)) ∙ level y
-      ∙ sym (ap edged_node (fold-roll-Node Node Expr settled_step settled_expr (plain y)))
+      let inner : Node-F Node Expr = map-Node Node Expr Node Expr edged_node (edged closed) (plain y) in
+      let typed : Node-F Node Expr = map-Node Node Expr Node Expr node_settled settled (plain y) in
+      ap node_settled (fold-roll-Node Node Expr (edged_step closed) edged_expr (plain y) ∙ edged_rolls closed inner)
+      ∙ fold-roll-Node Node Expr settled_step settled_expr (with_edge closed inner) ∙ level y
+      ∙ sym (ap edged_node (fold-roll-Node Node Expr settled_step settled_expr (plain y) ∙ settled_rolls typed)
+      ∙ fold-roll-Node Node Expr (edged_step closed) edged_expr (unpaired typed))
 
   expr_same : (at : ℕ) (n : Node) → IsSameNode n → IsSame (roll-Expr (record { at = at; node = n }))
   expr_same at n same =

@@ -13,7 +13,8 @@ use Rattle.promql_ast.specs.declared.tree.Expr.{Expr}
 use Rattle.promql_parse.specs.Parsing.{Parses}
 use Rattle.promql_type.specs.Answers.{IsLeastRefusal, MayFault, listed, refusals_of}
 use Rattle.promql_type.specs.Edges.{EdgesAreJudgedAlike, EdgesAreRefusedAlike, EdgesStayTyped}
-use Rattle.promql_type.specs.Judging.{judged}
+use Rattle.promql_type.specs.Judging.{Judgement, judged}
+use Rattle.promql_type.specs.declared.replace.Replacement.{Replacement}
 use Rattle.promql_type.specs.Refusals.{least}
 use Rattle.promql_type.specs.Replacements.{AreBuilt, AreKept, AreTaken, Kept}
 use Rattle.promql_type.specs.Settled.{settled}
@@ -29,13 +30,13 @@ use Rattle.ticks.specs.Durations.{hundred_years}
 -- what the tree with an edge is checked for, of the tree without
 module _ (closed : Bool) (tree : Expr) (judged_alike : EdgesAreJudgedAlike) (refused_alike : EdgesAreRefusedAlike) where
   same_patterns : (judged (edged closed tree)).replacements ≡ (judged tree).replacements
-  same_patterns = ap (λ j. j.replacements) (judged_alike closed tree)
+  same_patterns = ap (λ (j : Judgement). j.replacements) (judged_alike closed tree)
 
   pub same_least : (read kept : Kept) (refusal : QueryRefusal) → IsLeastRefusal (edged closed tree) read kept refusal → IsLeastRefusal tree read kept refusal
   same_least read kept refusal l = record {
     pattern = l.pattern;
-    built = subst (λ rs. AreBuilt read rs kept l.pattern) same_patterns l.built;
-    least_is = subst (λ rs. least (rs ++ listed l.pattern) ≡ Some refusal) (refused_alike closed tree) l.least_is;
+    built = subst (λ (rs : List Replacement). AreBuilt read rs kept l.pattern) same_patterns l.built;
+    least_is = subst (λ (rs : List QueryRefusal). least (rs ++ listed l.pattern) ≡ Some refusal) (refused_alike closed tree) l.least_is;
   }
 
 module _ (text : List ℕ) (closed : Bool) (read kept : Kept) (tree : Expr) (parses : Parses text [] read (Ok tree)) (judged_alike : EdgesAreJudgedAlike) (refused_alike : EdgesAreRefusedAlike)
