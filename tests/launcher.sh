@@ -326,7 +326,7 @@ release
 for asked in '' --help -h; do
     wanted "of $asked" 'usage: promqltest [options] FILE..
 2' "$(PATH=$less "$clone/bin/promqltest" $asked 2>"$room/said"; echo $?)"
-    wanted 'what is said' 1 "$(grep -c '^  workload N' "$room/said")"
+    wanted 'what is said' 1 "$(grep -c '^  workload ' "$room/said")"
 done 2>/dev/null
 PATH=$less "$clone/bin/promqltest" --version >/dev/null 2>"$room/said"
 wanted 'the release' "promqltest: the release, from the sources $(sed -n 's/^sources //p' "$clone/release/RELEASE"), by the toolchain $(cat "$room/kit/version")" "$(cat "$room/said")"

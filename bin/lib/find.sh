@@ -50,7 +50,7 @@ checksum() {
             {
                 awk 'FNR == 1 { split(FILENAME, part, "/") }
                     is_test && /^mod [a-z0-9_]+;/ { sub(/;/, "", $2); print part[2] "/" $2 }
-                    { is_test = /^#\[cfg\(test\)\]/ }' crates/*/src/lib.rt crates/*/src/main.rt
+                    { is_test = /^#\[cfg\(test\)\]/ }' crates/*/src/lib.rt crates/*/src/main.rt </dev/null
                 echo
                 find "${names[@]}" \( -name out -o -name must-fail -o -name data \) -prune -o \
                     -type f \( -name '*.rt' -o -name '*.antt' \) -print | sort
