@@ -1,5 +1,5 @@
 -- What users of topk and bottomk rely on: at most k rows of each group, and whoever is left out has k before it.
-use Rattle.std.specs.Prelude.{ℕ, ◌≤◌, ⊥, Bool, List, count_by}
+use Rattle.std.specs.Prelude.{ℕ, ◌≤◌, Bool, List, count_by}
 use Rattle.std.specs.BTreeMap.{is_at}
 use Rattle.std.specs.List.{AllByRecursion, Contains}
 use Rattle.label_set.specs.Labels.{labels_cmp}
