@@ -1,7 +1,5 @@
 pub mod EachRow
-pub mod Few
 pub mod Filled
-pub mod Filtered
 pub mod FirstStop
 pub mod LeftEdges
 pub mod Moments

@@ -13,7 +13,6 @@ pub mod NumberOrder
 pub mod Orders
 pub mod Outcomes
 pub mod Ranges
-pub mod RankLaws
 pub mod RankedGroups
 pub mod Ranks
 pub mod Reaches

@@ -1,7 +1,5 @@
 //! Laws of meanings that users rely on. The functions do nothing: each stands for what its contract says.
-ghost use Rattle.promql_meaning.specs.Filters.{MoreRulesFilterRows, MoreRulesFilterWindows};
 ghost use Rattle.promql_meaning.specs.Laws.{FixedSelectorStays, MeaningIsWellFormed, MinusTwice, MultiplesAreAll, OffsetIsEarlier, RanksArePart, SumOfEachRow, SumsOfSums};
-ghost use Rattle.promql_meaning.specs.RankLaws.{LeftOutAreBehind, RanksAreFew};
 ghost use Rattle.promql_meaning.specs.ResultLaws.{FirstStopIsFirst, NoStopIsNone, NotesStand, OrderRearranges, OrderRises};
 ghost use Rattle.promql_meaning.specs.LeftEdges.{ClosedHasTheEdge};
 ghost use Rattle.promql_meaning.specs.Steadiness.{MeaningStays};
@@ -90,20 +88,6 @@ pub fn notes_stand()
 pub fn order_rises()
     ensures rearranged { OrderRearranges }
     ensures rises { OrderRises }
-{
-    order_is_total();
-}
-
-/// A selector of more rules gives the rows and the windows of a selector that pass the further rules.
-pub fn more_rules_filter()
-    ensures rows { MoreRulesFilterRows }
-    ensures windows { MoreRulesFilterWindows }
-{}
-
-/// topk and bottomk keep at most k rows of each group, and a row that they leave out has k rows of its group before it.
-pub fn ranks_are_few()
-    ensures few { RanksAreFew }
-    ensures left_out { LeftOutAreBehind }
 {
     order_is_total();
 }
