@@ -13,5 +13,6 @@ pub mod Spelled
 pub mod Steady
 pub mod Summed
 pub mod Twice
+pub mod WalkMoments
 pub mod Weak
 pub mod WellMeant

@@ -23,3 +23,4 @@ pub mod Selecting
 pub mod Steadiness
 pub mod Subqueries
 pub mod Templates
+pub mod WalkMoments

@@ -4,6 +4,7 @@ ghost use Rattle.promql_meaning.specs.ResultLaws.{FirstStopIsFirst, NoStopIsNone
 ghost use Rattle.promql_meaning.specs.LeftEdges.{ClosedHasTheEdge};
 ghost use Rattle.promql_meaning.specs.Steadiness.{MeaningStays};
 ghost use Rattle.promql_meaning.specs.Reaches.{NeedsAreMet};
+ghost use Rattle.promql_meaning.specs.WalkMoments.{WalkMomentIsMoment};
 
 use step_table::laws::{steps_are_well_formed, unions_are_sets};
 use xfrac::laws::{
@@ -95,4 +96,9 @@ pub fn order_rises()
 /// The samples of a window that is closed on the left are the one on its edge, if there is one, and then those of the open one.
 pub fn closed_windows_have_the_edge()
     ensures { ClosedHasTheEdge }
+{}
+
+/// The moment of a walk with the fixed time and the offset of an expression is the moment of its meaning.
+pub fn walk_moments_are_moments()
+    ensures { WalkMomentIsMoment }
 {}
