@@ -1,12 +1,18 @@
-ghost use Rattle.std.specs.Prelude.{◌≡◌, [], None, Some, IfSome};
+ghost use Rattle.std.specs.Prelude.{◌≡◌, ◌≤◌, [], None, Some, length, IfOk, IfSome};
 ghost use Rattle.edge_io.specs.Causes.{CountsAtMostOne};
 ghost use Rattle.edge_io.specs.Told.{Tells};
 
 use crate::{Fetch, Fetched, Library, Sink, SinkFail};
 use std::fs;
-use std::io::Read;
+use std::io;
+use std::io::{ErrorKind, Read};
 use std::marker::Model;
-use std::rt::Files;
+use std::rt::{Clock, Files};
+use std::thread::sleep;
+use std::time::Duration;
+
+/// How long a write waits, in milliseconds, before it is tried again.
+const PAUSE: u64 = 1;
 
 /// The files of the system, by their paths. Of their bytes it tells nothing; contracts see it as its count of faults.
 #[derive(Drop)]
@@ -81,14 +87,15 @@ fn read_up_to<F: Read>(file: &mut F, limit: usize, into: &mut Vec<u8>) -> Result
     }
 }
 
-/// Standard output. Of its bytes it tells nothing; contracts see it as its count of faults.
+/// Standard output. Of its bytes it tells nothing; contracts see it as its count of faults. A pipe whose other side made it
+/// answer that a write would block is no fault: it is written to again after a pause, as long as it answers so.
 #[derive(Drop)]
-pub struct StdSink<'a, R: Print> {
+pub struct StdSink<'a, R: Print + Clock> {
     rt: &'a R,
     faults: u64,
 }
 
-impl<'a, R: Print> Model for StdSink<'a, R> {
+impl<'a, R: Print + Clock> Model for StdSink<'a, R> {
     ghost use Rattle.std.specs.Prelude.{ℕ};
 
     ghost Value = { ℕ };
@@ -96,7 +103,7 @@ impl<'a, R: Print> Model for StdSink<'a, R> {
     ghost view = { λ sink. sink.faults };
 }
 
-impl<'a, R: Print> StdSink<'a, R> {
+impl<'a, R: Print + Clock> StdSink<'a, R> {
     /// The output of the runtime. No write has failed yet.
     pub fn new(rt: &'a R) -> Self
         ensures { result ≡ 0 }
@@ -105,7 +112,7 @@ impl<'a, R: Print> StdSink<'a, R> {
     }
 }
 
-impl<R: Print> Sink for StdSink<'_, R> {
+impl<R: Print + Clock> Sink for StdSink<'_, R> {
     ghost written = { λ _. None };
 
     ghost faults = { λ faults. faults };
@@ -113,7 +120,7 @@ impl<R: Print> Sink for StdSink<'_, R> {
     ghost sound = { λ _. ⊥ };
 
     fn write(&mut self, piece: &[u8]) -> Result<usize, SinkFail> {
-        match self.rt.write_some(piece) {
+        match write_when_ready(self.rt, piece) {
             Ok(count) if count > 0 || piece.is_empty() => Ok(count),
             _ => {
                 self.faults = self.faults.saturating_add(1);
@@ -121,4 +128,19 @@ impl<R: Print> Sink for StdSink<'_, R> {
             }
         }
     }
+}
+
+/// Writes some of a piece, once the output takes some.
+fn write_when_ready<R: Print + Clock>(rt: &R, piece: &[u8]) -> io::Result<usize>
+    ensures { IfOk result (λ n. n ≤ length piece.now) }
+{
+    for _ in 0..u64::MAX {
+        match rt.write_some(piece) {
+            Err(error) if error.kind() == ErrorKind::WouldBlock => {
+                sleep(rt, Duration::from_millis(PAUSE));
+            }
+            answer => return answer,
+        }
+    }
+    rt.write_some(piece)
 }

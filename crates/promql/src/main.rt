@@ -10,7 +10,7 @@ use std::env;
 use std::io::ErrorKind;
 use std::marker::Brand;
 use std::process::ExitCode;
-use std::rt::{Env, Files};
+use std::rt::{Clock, Env, Files};
 use std::sync::ledger::{Blank, Ledger};
 use ticks::Work;
 
@@ -28,7 +28,7 @@ fn read_words<R: Env + AllocGlobal>(alloc: Global, rt: &R) -> Result<Vec<String>
 }
 
 /// Runs the words over the real files and the real output, with counters of its own.
-fn run_words<W: Ledger, R: Files + Print>(
+fn run_words<W: Ledger, R: Clock + Files + Print>(
     alloc: Global,
     rt: &R,
     words: &[String],

@@ -6,7 +6,9 @@ use std::alloc::{AllocError, Global};
 use std::cell::{Cell, RefCell};
 use std::fmt::Display;
 use std::io::ErrorKind;
+use std::rt::Clock;
 use std::test::Fail;
+use std::time::Duration;
 use std::{fs, io};
 
 fn numbers(alloc: Global, listed: &[u32]) -> Result<Items<u32>, AllocError> {
@@ -25,9 +27,11 @@ fn held(alloc: Global, bytes: &[u8]) -> Result<Items<u8>, AllocError> {
     Ok(items)
 }
 
-/// An output that takes at most so many bytes of a write, and fails at the write of a number, counted from 1.
+/// An output that takes at most so many bytes of a write, and fails at the write of a number, counted from 1. Before it takes
+/// any it answers so often that a write would block.
 #[derive(Drop)]
 struct NarrowOutput {
+    blocks: u32,
     most: usize,
     fails: u32,
     writes: Cell<u32>,
@@ -50,6 +54,9 @@ impl Print for NarrowOutput {
     fn write_some(&self, bytes: &[u8]) -> io::Result<usize> {
         let write = self.writes.get().saturating_add(1);
         self.writes.set(write);
+        if write <= self.blocks {
+            return Err(ErrorKind::WouldBlock.into());
+        }
         let count = bytes.len().min(self.most);
         let Ok(mut taken) = self.taken.try_borrow_mut() else {
             return Err(ErrorKind::Other.into());
@@ -58,6 +65,16 @@ impl Print for NarrowOutput {
             return Err(ErrorKind::Other.into());
         }
         Ok(count)
+    }
+}
+
+impl Clock for NarrowOutput {
+    fn monotonic(&self) -> io::Result<Duration> {
+        Ok(Duration::ZERO)
+    }
+
+    fn since_1970(&self) -> io::Result<Duration> {
+        Ok(Duration::ZERO)
     }
 }
 
@@ -128,15 +145,18 @@ fn the_system_serves(rt: HostRuntime) -> Result<(), Fail> {
 #[test]
 fn a_write_is_taken_in_parts(rt: HostRuntime) -> Result<(), Fail> {
     let rows = [
-        // the bytes of a write, the write that fails, the answer, what was taken, and the writes
-        (7, 0, Ok(()), "passed 1 failed 0\n", 3),
-        (18, 0, Ok(()), "passed 1 failed 0\n", 1),
-        (7, 3, Err(SinkFail::Failed), "passed 1 faile", 3),
-        (7, 1, Err(SinkFail::Failed), "", 1),
-        (0, 0, Err(SinkFail::Failed), "", 1),
+        // the writes that would block, the bytes of a write, the write that fails, the answer, what was taken, and the writes
+        (0, 7, 0, Ok(()), "passed 1 failed 0\n", 3),
+        (0, 18, 0, Ok(()), "passed 1 failed 0\n", 1),
+        (0, 7, 3, Err(SinkFail::Failed), "passed 1 faile", 3),
+        (0, 7, 1, Err(SinkFail::Failed), "", 1),
+        (0, 0, 0, Err(SinkFail::Failed), "", 1),
+        (3, 18, 0, Ok(()), "passed 1 failed 0\n", 4),
+        (3, 18, 4, Err(SinkFail::Failed), "", 4),
     ];
-    for (most, fails, answer, text, writes) in rows {
+    for (blocks, most, fails, answer, text, writes) in rows {
         let output = NarrowOutput {
+            blocks,
             most,
             fails,
             writes: Cell::new(0),
@@ -146,9 +166,9 @@ fn a_write_is_taken_in_parts(rt: HostRuntime) -> Result<(), Fail> {
         assert_eq!(rt;
             write_all(&mut sink, b"passed 1 failed 0\n"),
             answer,
-            "{most} {fails}"
+            "{blocks} {most} {fails}"
         );
-        assert_eq!(rt; output.writes.get(), writes, "{most} {fails}");
+        assert_eq!(rt; output.writes.get(), writes, "{blocks} {most} {fails}");
         if let Ok(taken) = output.taken.try_borrow() {
             assert_eq!(rt; taken.as_slice(), text.as_bytes(), "{most} {fails}");
         } else {
