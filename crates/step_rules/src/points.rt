@@ -1,10 +1,10 @@
 //! Instants a step apart, and the points of subqueries.
 ghost use Rattle.promql_meaning.specs.Selecting.{window_row};
-ghost use Rattle.promql_meaning.specs.Subqueries.{as_times, first_multiple, gathered_windows, instants, instants_up_to, multiples};
+ghost use Rattle.promql_meaning.specs.Subqueries.{as_times, first_multiple, gathered_windows, instants, instants_up_to, multiple_after, multiples};
 ghost use Rattle.step_table.specs.Timed.{timed};
 ghost use Rattle.std.specs.List.{AllByRecursion};
 ghost use Rattle.std.specs.Option.{option_to_list};
-ghost use Rattle.std.specs.Prelude.{◌≡◌, [], ◌++◌, ◌+◌, ◌<ℤ◌, ◌-ℤ◌, ◌+ℤ◌, pos, IfOk, OnOk};
+ghost use Rattle.std.specs.Prelude.{◌≡◌, [], ◌++◌, ◌+◌, ◌^◌, ◌<ℤ◌, ◌≤ℤ◌, ◌-ℤ◌, ◌+ℤ◌, neg_ℤ, pos, IfOk, OnOk};
 ghost use Rattle.step_table.specs.Unions.{united};
 ghost use Rattle.ticks.specs.Grids.{step_count};
 ghost use Rattle.ticks.specs.Walks.{IsTime};
@@ -13,7 +13,7 @@ use label_set::{Items, Labels};
 use promql_meaning::{WindowRow, Windows};
 use std::alloc::{AllocError, Global};
 use step_table::{Marks, Step, gather};
-use ticks::{Ms, last_before};
+use ticks::Ms;
 use xfrac::XFrac;
 
 /// The time a step later.
@@ -41,6 +41,17 @@ fn instants(alloc: Global, first: Ms, step: Ms, more: u64) -> Result<Items<Ms>, 
     Ok(us)
 }
 
+/// The least multiple of a step that is later than a time.
+fn multiple_after(step: Ms, time: Ms) -> Ms
+    requires low { neg_ℤ (pos (2 ^ 61)) ≤ℤ time.0 }
+    requires high { time.0 ≤ℤ pos (2 ^ 61) }
+    requires step { IsTime step.0 }
+    requires positive { pos 0 <ℤ step.0 }
+    ensures { result.0 ≡ multiple_after step.0 time.0 }
+{
+    Ms(time.0 + (step.0 - time.0.rem_euclid(step.0)))
+}
+
 /// The least multiple of a step that is later than a left edge, or on it where it is closed.
 fn first_multiple(step: Ms, edge: Ms, closed: bool) -> Ms
     requires edge { IsTime edge.0 }
@@ -48,8 +59,11 @@ fn first_multiple(step: Ms, edge: Ms, closed: bool) -> Ms
     requires positive { pos 0 <ℤ step.0 }
     ensures { result.0 ≡ first_multiple closed step.0 edge.0 }
 {
-    let before = last_before(edge, closed);
-    Ms(before.0 + (step.0 - before.0.rem_euclid(step.0)))
+    if closed {
+        multiple_after(step, Ms(edge.0 - 1))
+    } else {
+        multiple_after(step, edge)
+    }
 }
 
 /// How many steps fit between two times.
