@@ -3,3 +3,4 @@ pub mod Holding
 pub mod Kept
 pub mod LineByLine
 pub mod Sorted
+pub mod Uneven
