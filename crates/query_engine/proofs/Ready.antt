@@ -67,3 +67,16 @@ module _ (text : List ℕ) (closed : Bool) (read kept : Kept) (tree : Expr) (par
   refused (Ok t) least = tt
   refused (Err (Refused refusal)) least = untyped read kept tree refusal parses (same_least closed tree judged_alike refused_alike read kept refusal least)
   refused (Err Memory) least = tt
+
+  -- the same of what was handed on in its place
+  pub ready_of : (given : Expr) → given ≡ edged closed tree → (result : Result Typed TypeFault) → AreWithin (HaveTheirPatterns read) hundred_years time_limit (parts_of tree) → depth tree ≤ 128
+      → Gains read kept → IfOk result (λ t. tree_of t ≡ settled given) → OnOk result (refusals_of given ≡ []) → OnOk result (AreTaken read (judged given).replacements kept)
+      → IfOk result (λ t. AreKept kept (judged (tree_of t)).replacements (placed_of t)) → IfOk result (λ t. parts_of (tree_of t) ≡ parts_of given)
+      → IfOk result (λ t. depth (tree_of t) ≡ depth given) → IfOk result (IsReadyTree text closed kept)
+  ready_of given e result within few gains typed taken built placed parts deep =
+      ready result within few gains (subst (λ (g : Expr). IfOk result (λ t. tree_of t ≡ settled g)) e typed) (subst (λ (g : Expr). OnOk result (refusals_of g ≡ [])) e taken)
+      (subst (λ (g : Expr). OnOk result (AreTaken read (judged g).replacements kept)) e built) placed (subst (λ (g : Expr). IfOk result (λ t. parts_of (tree_of t) ≡ parts_of g)) e parts)
+      (subst (λ (g : Expr). IfOk result (λ t. depth (tree_of t) ≡ depth g)) e deep)
+
+  pub refused_of : (given : Expr) → given ≡ edged closed tree → (result : Result Typed TypeFault) → IfErr result (MayFault (IsLeastRefusal given read kept)) → IfErr result (MayFault (IsRefusedWith text))
+  refused_of given e result least = refused result (subst (λ (g : Expr). IfErr result (MayFault (IsLeastRefusal g read kept))) e least)
