@@ -3,13 +3,12 @@ ghost use Rattle.edge_io.specs.Causes.{CountsAtMostOne};
 ghost use Rattle.edge_io.specs.Told.{Tells};
 
 use crate::{Fetch, Fetched, Library, Sink, SinkFail};
-use std::fs;
-use std::io;
 use std::io::{ErrorKind, Read};
 use std::marker::Model;
 use std::rt::{Clock, Files};
 use std::thread::sleep;
 use std::time::Duration;
+use std::{fs, io};
 
 /// How long a write waits, in milliseconds, before it is tried again.
 const PAUSE: u64 = 1;
