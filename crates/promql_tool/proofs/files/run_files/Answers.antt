@@ -1,11 +1,11 @@
-use Rattle.std.proofs.Common.{◌≡◌, ◌+◌, ◌∷◌, List, ℕ, Option, drop, arith, sym, subst, ◌∙◌}
+use Rattle.std.proofs.Common.{◌≡◌, ◌+◌, ◌∷◌, List, ℕ, Option, drop, arith, refl, sym, subst, ◌∙◌}
 use Rattle.std.proofs.lemmas.List.{drop_all}
 use Rattle.std.proofs.lemmas.Result.{err_from_is_err_and}
 use Rattle.promql_tool.specs.Found.{IsFound}
 use Rattle.promql_tool.specs.declared.judge.FileEnd.TheVariants.{Judged, Stopped}
 use Rattle.promql_tool.proofs.Fetched.{fetched_next, front_fetched, next_file}
 use Rattle.promql_tool.proofs.Fetching.{found_since}
-use Rattle.promql_tool.proofs.FilesRun.{RunSoFar, next_cut, one_more, stop_printed, totals_printed}
+use Rattle.promql_tool.proofs.FilesRun.{RunSoFar, next_cut, none_run, one_more, stop_printed, totals_printed}
 use Rattle.promql_tool.proofs.Mapped.{comes_so, cut_so}
 use Rattle.promql_tool.proofs.files.run_files.Goals as goal
 
@@ -57,6 +57,21 @@ returns-in-Stopped-clause-ends g c =
     let run_on = subst (λ (w : Option (List ℕ)). RunSoFar c.args.options.now.closed found files (path ∷ drop (i + 1) files) before w idle c.loop-file.tally.passed c.loop-file.tally.failed) (sym came.1) run in
     stop_printed c.args.options.now.closed found files before path (drop (i + 1) files) now idle _ _ run_on c.in-Stopped.stop (g.S.Sink.written c.print_stop.new.out) _ c.print_stop.result came.0 (λ rests. came.2 ∙ rests)
     c.print_stop.ensures.ok c.print_stop.ensures.err
+
+pub loop-file-init : goal.loop-file-init
+loop-file-init g c =
+    let found = IsFound (g.L.Library.told c.args.library.now) (g.L.Library.sound c.args.library.now) in
+    record {
+      run = none_run c.args.options.now.closed found c.args.files.now (g.S.Sink.written c.args.out.now) (c.args.work.now ≡ c.args.work.now) refl;
+      few_passed = omega arith;
+      few_failed = omega arith;
+      fetched = refl;
+      told = refl;
+      library_sound = λ s. s;
+      library_later = omega arith;
+      sound = λ s. s;
+      later = omega arith;
+    }
 
 pub loop-file-preserved : goal.loop-file-preserved
 loop-file-preserved g c =

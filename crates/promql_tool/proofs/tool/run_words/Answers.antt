@@ -1,4 +1,4 @@
-use Rattle.std.proofs.Common.{◌≡◌, ◌∙◌, List, ℕ, Some, map, string_bytes, refl, sym, ap}
+use Rattle.std.proofs.Common.{◌≡◌, ◌∙◌, false, List, ℕ, Some, map, string_bytes, refl, sym, ap}
 use Rattle.tool_words.specs.Asked.{asked, query, test, workload}
 use Rattle.ticks.specs.Moments.{moments_in}
 use Rattle.promql_tool.specs.Found.{IsFound}
@@ -11,7 +11,7 @@ returns-in-None-clause-ends g c =
     let words = map string_bytes c.args.words.now in
     let found = IsFound (g.L.Library.told c.args.library.now) (g.L.Library.sound c.args.library.now) in
     let wish = rw c.in-None.is at c.in_ok-read_words.ensures.wish in
-    misuse_ends words _ found (g.S.Sink.written c.args.out.now) (g.S.Sink.written c.print_usage.new.out) _ c.print_usage.result (sym wish) refl c.print_usage.ensures.ok c.print_usage.ensures.err
+    misuse_ends words false found (g.S.Sink.written c.args.out.now) (g.S.Sink.written c.print_usage.new.out) _ c.print_usage.result (sym wish) refl c.print_usage.ensures.ok c.print_usage.ensures.err
 
 pub returns-in-Some-Test-clause-ends : goal.returns-in-Some-Test-clause-ends
 returns-in-Some-Test-clause-ends g c =
