@@ -495,6 +495,6 @@ fn words_are_run(rt: HostRuntime) -> Result<(), Fail> {
             rows = rows.saturating_add(1);
         }
     }
-    assert_eq!(rt; rows, 68);
+    assert_eq!(rt; rows, 81);
     Ok(())
 }
