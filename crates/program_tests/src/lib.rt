@@ -1,0 +1,11 @@
+//! Rows of the program: words, runs of scripts, and whole reports. The answers are worked out elsewhere.
+#![tactic(auto)]
+
+#[cfg(test)]
+mod reports;
+#[cfg(test)]
+mod runs;
+#[cfg(test)]
+mod words;
+#[cfg(test)]
+mod workloads;

@@ -1,0 +1,240 @@
+use std::alloc::{AllocError, Global};
+use std::test::Fail;
+use tool_words::{
+    Asked, commands_are_simple, edges_are_asked_for, read_words, words_say_what_they_spell,
+};
+
+// Each line is what is asked for, and then the words, each behind a `|`. Times are in milliseconds.
+const ROWS: &str = "refused
+refused|
+refused|--
+refused|--help
+refused|-h
+refused|help
+refused|load|1
+refused|workload
+refused|workload|
+refused|workload|0
+refused|workload|01
+refused|workload|20001
+refused|workload|-1
+refused|workload|--|-1
+refused|workload|+7
+refused|workload|1e3
+refused|workload|1.0
+refused|workload| 7
+refused|workload|٣
+refused|workload|4294967297
+refused|workload|99999999999999999999999999
+refused|workload|1|2
+refused|workload|--at|1|100
+refused|workload|--help
+workload 1|workload|1
+workload 100|workload|100
+workload 20000|workload|--|20000
+refused|PromQLTest|a
+refused|promqltest
+refused|promqltest|--
+refused|promqltest|--help
+refused|promqltest|-h
+refused|promqltest|a|--help
+refused|promqltest|a|-h
+refused|promqltest|a|--help|--
+refused|promqltest|-V|a
+refused|promqltest|-x
+refused|promqltest|-x|a
+refused|promqltest|a|-b
+refused|promqltest|-1|a
+refused|promqltest|-é|a
+refused|promqltest|---|a
+refused|promqltest|--=a|a
+refused|promqltest|--=|a
+refused|promqltest|--opts|all|a
+refused|promqltest|--opts=all|a
+refused|promqltest|a|--batch|64
+refused|promqltest|--engines=r=eu|a
+refused|promqltest|--at|1|a
+test <a.test>|promqltest|a.test
+test <a.test> <b.test>|promqltest|a.test|b.test
+test <b> <a> <b>|promqltest|b|a|b
+test <query> <promqltest>|promqltest|query|promqltest
+test <größe.test> <日>|promqltest|größe.test|日
+test <at=1> <=> <a b>|promqltest|at=1|=|a b
+test <->|promqltest|-
+test <>|promqltest|
+test <a> <> <b>|promqltest|a||b
+test <a>|promqltest|--|a
+test <a>|promqltest|a|--
+test <-x>|promqltest|--|-x
+test <a> <-h> <--help>|promqltest|a|--|-h|--help
+test <--> <--opts>|promqltest|--|--|--opts
+refused|query
+refused|query|f
+refused|query|f|--
+refused|query|f|e|g
+refused|query|f|e|--|g
+refused|query|--|f|e|--at|1
+refused|query|f|-1
+refused|query|f|e|-h
+refused|query|--help|f|e
+refused|query|--opts|none|f|e
+refused|query|f|e|--batch=1
+refused|query|--engines|r=eu|f|e
+query 0 to 0 by 1 at once: <f> <e>|query|f|e
+query 0 to 0 by 1 at once: <f> <sum by (a) (x{b='ü'})>|query|f|sum by (a) (x{b='ü'})
+query 0 to 0 by 1 at once: <f> <-1>|query|f|--|-1
+query 0 to 0 by 1 at once: <f> <-1>|query|--|f|-1
+query 0 to 0 by 1 at once: <--at> <1>|query|--|--at|1
+query 0 to 0 by 1 at once: <-> <->|query|-|-
+query 0 to 0 by 1 at once: <> <>|query||
+query 60000 to 60000 by 1 at once: <f> <e>|query|--at|1m|f|e
+query 60000 to 60000 by 1 at once: <f> <e>|query|f|--at|+1m|e
+query 5400000 to 5400000 by 1 at once: <f> <e>|query|f|e|--at=1h30m
+query -60000 to -60000 by 1 at once: <f> <e>|query|f|e|--at=-1m
+query 1500 to 1500 by 1 at once: <f> <->|query|f|--at|1.5|--|-
+query 100000000000000 to 100000000000000 by 1 at once: <f> <e>|query|--at|100000000000|f|e
+query -100000000000000 to -100000000000000 by 1 at once: <f> <e>|query|--at=-100000000000|f|e
+refused|query|--at|100000000000.001|f|e
+refused|query|--at|-1m|f|e
+refused|query|--at|-|f|e
+refused|query|--at||f|e
+refused|query|--at=|f|e
+refused|query|--at==1|f|e
+refused|query|--at=1=2|f|e
+refused|query|--at|1x|f|e
+refused|query|--at|0.0001|f|e
+refused|query|--at|NaN|f|e
+refused|query|--at|101y|f|e
+refused|query|f|e|--at
+refused|query|--at|--|f|e
+refused|query|--at|--from|f|e
+refused|query|--at|1|--at|1|f|e
+refused|query|--at=1|--at=1|f|e
+refused|query|--at|1|f|--at=1|e
+refused|query|--at=1|f|e|--at|1
+refused|query|--a|1|f|e
+refused|query|--a=1|f|e
+refused|query|--att|1|f|e
+refused|query|--AT|1|f|e
+refused|query|-at|1|f|e
+refused|query|---at|1|f|e
+refused|query|--at |1|f|e
+refused|query|--at|0|--from|0|f|e
+refused|query|--at=0|--to=0|f|e
+refused|query|--step=1|--at=0|f|e
+refused|query|--at|0|--from|0|--to|1|--step|1|f|e
+refused|query|--from|0|f|e
+refused|query|--from|0|--to|1|f|e
+refused|query|--from|0|--step|1|f|e
+refused|query|--to|1|--step|1|f|e
+query 0 to 60000 by 30000: <f> <e>|query|--from|0|--to|1m|--step|30s|f|e
+query -60000 to 120000 by 60000: <f> <e>|query|--step=1m|f|--to=2m|e|--from=-1m
+query 0 to 10999000 by 1000: <f> <1>|query|--from|0|--to|10999|--step|1|f|1
+query 5 to 5 by 7: <f> <-e>|query|f|--from=5ms|--to=0.005|--step|7ms|--|-e
+query -100000000000000 to 100000000000000 by 100000000000000: <f> <e>|query|--from=-100000000000|--to=100000000000|--step=100000000000|f|e
+refused|query|--from|0|--to|11000|--step|1|f|e
+refused|query|--from|0|--to|11000ms|--step|1ms|f|e
+refused|query|--from|1|--to|0|--step|1|f|e
+refused|query|--from|0|--to|1|--step|0|f|e
+refused|query|--from|0|--to|1|--step=-1|f|e
+refused|query|--from|0|--to|1|--step=|f|e
+refused|query|--from|0|--to|100000000000.001|--step|100000000000|f|e
+refused|query|--from=-100000000000.001|--to|0|--step|100000000000|f|e
+refused|query|--from|0|--to|1|--step|1|--from|0|f|e
+refused|query|--from|0|--to|1|--step|1|--to=1|f|e
+refused|query|f|e|--from|0|--to|1|--step
+closed test <a>|promqltest|--edges|v2|a
+closed test <a> <b>|promqltest|a|--edges=v2|b
+closed test <-x>|promqltest|--edges=v2|--|-x
+test <a>|promqltest|--edges|v3|a
+test <a>|promqltest|a|--edges=v3
+test <--edges> <v2>|promqltest|--|--edges|v2
+refused|promqltest|--edges|v4|a
+refused|promqltest|--edges=v4|a
+refused|promqltest|--edges||a
+refused|promqltest|--edges=|a
+refused|promqltest|--edges|V2|a
+refused|promqltest|--edges|v2 |a
+refused|promqltest|--edges=v|a
+refused|promqltest|--edges=v22|a
+refused|promqltest|--edges|2|a
+refused|promqltest|--edges|v2|--edges|v2|a
+refused|promqltest|--edges=v2|a|--edges=v3
+refused|promqltest|--edges|v2
+refused|promqltest|a|--edges
+refused|promqltest|--edge|v2|a
+closed query 0 to 0 by 1 at once: <f> <e>|query|--edges|v2|f|e
+closed query 60000 to 60000 by 1 at once: <f> <e>|query|f|--at|1m|e|--edges=v2
+closed query 0 to 60000 by 30000: <f> <e>|query|--from|0|--to|1m|--edges=v2|--step|30s|f|e
+query 0 to 0 by 1 at once: <f> <e>|query|f|e|--edges=v3
+query 0 to 0 by 1 at once: <f> <--edges=v2>|query|f|--|--edges=v2
+refused|query|--edges|v4|f|e
+refused|query|--edges=|f|e
+refused|query|--edges||f|e
+refused|query|--edges|v2|f|e|--edges|v2
+refused|query|--edges|v2|--at|1|--from|0|f|e
+closed workload 7|workload|--edges|v2|7
+closed workload 7|workload|7|--edges=v2
+workload 7|workload|--edges=v3|7
+refused|workload|--edges=v4|7
+refused|workload|--edges=|7
+refused|workload|--edges=v2|--edges=v2|7
+refused|workload|--edges|v2";
+
+/// Windows that are closed on the left are told.
+fn edge(closed: bool) -> &'static str {
+    if closed { "closed " } else { "" }
+}
+
+fn told(alloc: Global, asked: Option<Asked>) -> Result<String, AllocError> {
+    match asked {
+        None => String::from_str(alloc, "refused"),
+        Some(Asked::Test { closed, files }) => {
+            let mut text = String::from_str(alloc, edge(closed))?;
+            text.push_str("test")?;
+            for file in files.as_slice() {
+                let file = file.as_str();
+                text.push_str(format!(in alloc; " <{file}>")?.as_str())?;
+            }
+            Ok(text)
+        }
+        Some(
+            Asked::Query {
+                closed,
+                grid,
+                instant,
+                file,
+                expr,
+            },
+        ) => {
+            let edge = edge(closed);
+            let kind = if instant { " at once" } else { "" };
+            let (start, end, step) = (grid.start.0, grid.end.0, grid.step.0);
+            let (file, expr) = (file.as_str(), expr.as_str());
+            format!(in alloc; "{edge}query {start} to {end} by {step}{kind}: <{file}> <{expr}>")
+        }
+        Some(Asked::Workload { closed, count }) => {
+            let edge = edge(closed);
+            format!(in alloc; "{edge}workload {count}")
+        }
+    }
+}
+
+#[test]
+fn words_ask(rt: HostRuntime) -> Result<(), Fail> {
+    commands_are_simple();
+    words_say_what_they_spell();
+    edges_are_asked_for();
+    let alloc = rt.alloc();
+    for row in ROWS.split('\n') {
+        let mut parts = row.split('|');
+        let wanted = parts.next().unwrap_or("");
+        let mut words: Vec<String> = Vec::new(alloc);
+        for word in parts {
+            words.push(String::from_str(alloc, word)?)?;
+        }
+        let text = told(alloc, read_words(alloc, &words)?)?;
+        assert_eq!(rt; text.as_str(), wanted, "{row}");
+    }
+    Ok(())
+}
