@@ -1,13 +1,14 @@
 ghost use Rattle.std.specs.List.{filter_map};
 ghost use Rattle.std.specs.Option.{option_to_list};
-ghost use Rattle.std.specs.Prelude.{◌≡◌, ◌++◌, ◌∷◌, [], IfOk, OnOk};
+ghost use Rattle.std.specs.Prelude.{◌≡◌, ◌++◌, ◌∷◌, [], IfOk, OnErr, OnOk};
 ghost use Rattle.step_table.specs.Groups.{alone, gathered, lone_items, shared_names, shared_of, with_item};
 
 use label_set::{Items, Labels};
 use std::alloc::{AllocError, Global};
 use std::collections::BTreeMap;
 
-/// Adds an item to those that have its labels, behind them. The only error is want of memory.
+/// Adds an item to those that have its labels, behind them. The only error is want of memory; then the groups are as they
+/// were.
 pub fn add<T: Drop>(
     groups: &mut BTreeMap<Labels, Items<T>>,
     alloc: Global,
@@ -16,6 +17,7 @@ pub fn add<T: Drop>(
 ) -> Result<(), AllocError>
     ensures one_more { OnOk result (groups.new.entries ≡ with_item groups.old.entries labels item) }
     ensures gathered { OnOk result ((items : _) → groups.old.entries ≡ gathered items → groups.new.entries ≡ gathered (items ++ (labels, item) ∷ [])) }
+    ensures err { OnErr result (groups.new.entries ≡ groups.old.entries) }
 {
     if let Some(items) = groups.get_mut(&labels) {
         items.push(item)?;
