@@ -15,6 +15,7 @@ mod outcomes;
 mod set_operators;
 mod step;
 mod unions;
+mod windows;
 
 pub use cells::{Cell, CellRow, PartKind, StepCells};
 pub use groups::{Parted, add, gather, part, part_groups};
@@ -25,3 +26,4 @@ pub use outcomes::{Outcome, by_labels, settled, taken};
 pub use set_operators::combine;
 pub use step::{Row, Step, Table, step_of_rows};
 pub use unions::as_set;
+pub use windows::WindowRow;
