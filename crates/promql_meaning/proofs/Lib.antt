@@ -1,5 +1,7 @@
 pub mod EachRow
+pub mod Few
 pub mod Filled
+pub mod Filtered
 pub mod FirstStop
 pub mod LeftEdges
 pub mod Moments
@@ -16,3 +18,4 @@ pub mod Twice
 pub mod WalkMoments
 pub mod Weak
 pub mod WellMeant
+pub mod WithinLimits

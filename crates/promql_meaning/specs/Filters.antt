@@ -4,7 +4,7 @@ use Rattle.std.specs.Prelude.{◌≡◌, ℕ, ℤ, Bool, List, ◌++◌, filter,
 use Rattle.label_set.specs.declared.rules.Rule.{Rule}
 use Rattle.match_rule.specs.Patterns.{labels_pass}
 use Rattle.step_table.specs.declared.step.Row.{Row}
-use Rattle.promql_meaning.specs.declared.given.WindowRow.{WindowRow}
+use Rattle.step_table.specs.declared.windows.WindowRow.{WindowRow}
 use Rattle.promql_meaning.specs.Givens.{unstamped}
 use Rattle.promql_meaning.specs.Selecting.{AllSeries, newest_rows, passing, window_rows}
 

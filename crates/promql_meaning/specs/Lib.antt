@@ -8,11 +8,13 @@ pub mod Filters
 pub mod Givens
 pub mod Laws
 pub mod LeftEdges
+pub mod LimitLaws
 pub mod Meaning
 pub mod NumberOrder
 pub mod Orders
 pub mod Outcomes
 pub mod Ranges
+pub mod RankLaws
 pub mod RankedGroups
 pub mod Ranks
 pub mod Reaches

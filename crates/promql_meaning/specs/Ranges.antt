@@ -14,8 +14,8 @@ use Rattle.step_table.specs.declared.marks.Note.{Note}
 use Rattle.step_table.specs.declared.marks.Note.TheVariants.{NotCounter}
 use Rattle.step_table.specs.declared.outcomes.Outcome.{Outcome}
 use Rattle.step_table.specs.declared.step.Step.{Step}
+use Rattle.step_table.specs.declared.windows.WindowRow.{WindowRow}
 use Rattle.ticks.specs.declared.moment.Ms.{Ms}
-use Rattle.promql_meaning.specs.declared.given.WindowRow.{WindowRow}
 use Rattle.promql_meaning.specs.declared.given.Windows.{Windows}
 use Rattle.promql_meaning.specs.Elements.{nameless}
 use Rattle.promql_meaning.specs.Outcomes.{range_notes_of, with_notes}
@@ -29,15 +29,14 @@ window_labels _ names = nameless names
 abbrev pub frame_of : ℤ → Windows → WindowFrame
 frame_of t windows = record { eval = record { 0 = t }; moment = windows.moment; range = windows.range }
 
--- what a function gives of the samples of a window; of none it gives no row
-abbrev pub window_value : Window → WindowFrame → XFrac → List (Ms × XFrac) → Result (Option XFrac) NumFault
-window_value f frame arg [] = Ok None
-window_value f frame arg (s ∷ samples) =
-    over_of f (map (λ (x : Ms × XFrac). x.0) (s ∷ samples)) (map (λ (x : Ms × XFrac). x.1) (s ∷ samples)) frame arg
+-- what a function gives of the times and values of a window; of none it gives no row
+abbrev pub window_value : Window → WindowFrame → XFrac → List Ms → List XFrac → Result (Option XFrac) NumFault
+window_value f frame arg times [] = Ok None
+window_value f frame arg times (value ∷ values) = over_of f times (value ∷ values) frame arg
 
 abbrev pub window_outcome : Window → ℤ → XFrac → Windows → WindowRow → Outcome
 window_outcome f t arg windows row =
-    record { labels = window_labels f row.labels; value = window_value f (frame_of t windows) arg row.samples }
+    record { labels = window_labels f row.labels; value = window_value f (frame_of t windows) arg row.times row.values }
 
 -- ---- notes
 
@@ -66,7 +65,7 @@ has_value _ = false
 -- where rate or increase gives a row, the note of the series' name
 abbrev pub counter_note : Window → ℤ → XFrac → Windows → WindowRow → Option Note
 counter_note f t arg windows row =
-    if asks_counters f && has_value (window_value f (frame_of t windows) arg row.samples) then name_note (value_of row.labels metric_name) else None
+    if asks_counters f && has_value (window_value f (frame_of t windows) arg row.times row.values) then name_note (value_of row.labels metric_name) else None
 
 -- a quantile outside 0 to 1 has a note, where a window is there
 abbrev pub window_notes : Window → ℤ → XFrac → Windows → List Note

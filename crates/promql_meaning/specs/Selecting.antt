@@ -1,6 +1,6 @@
 -- What selectors give. (Prometheus querying, "Time series selectors", "Offset modifier", "@ modifier" and "Staleness"; ranges
 -- are open on the left as from Prometheus 3 on, or closed as before.)
-use Rattle.std.specs.Prelude.{ℕ, Bool, ◌&&◌, List, [], ◌∷◌, filter, Option, None, Some, ℤ, pos, ◌-ℤ◌, int_le}
+use Rattle.std.specs.Prelude.{ℕ, Bool, ◌&&◌, List, [], ◌∷◌, filter, map, Option, None, Some, ℤ, pos, ◌-ℤ◌, int_le}
 use Rattle.std.specs.BTreeMap.{insert_entry}
 use Rattle.std.specs.List.{filter_map, last_or}
 use Rattle.std.specs.Option.{option_map, option_and_then}
@@ -12,6 +12,7 @@ use Rattle.promql_ast.specs.declared.tree.Fixed.TheVariants.{At, Start, End}
 use Rattle.promql_ast.specs.declared.tree.Moment.{Moment}
 use Rattle.promql_ast.specs.declared.tree.Selector.{Selector}
 use Rattle.step_table.specs.Groups.{Names}
+use Rattle.step_table.specs.declared.windows.WindowRow.{WindowRow}
 use Rattle.ticks.specs.Edges.{is_from}
 use Rattle.ticks.specs.declared.grid.Grid.{Grid}
 use Rattle.ticks.specs.declared.moment.Ms.{Ms}
@@ -19,7 +20,6 @@ use Rattle.xfrac.specs.declared.value.Held.{Held}
 use Rattle.xfrac.specs.declared.value.Held.TheVariants.{Value, Stale}
 use Rattle.xfrac.specs.declared.value.XFrac.{XFrac}
 use Rattle.promql_meaning.specs.declared.given.Stamped.{Stamped}
-use Rattle.promql_meaning.specs.declared.given.WindowRow.{WindowRow}
 
 -- the samples of a series in rising time, and all series with their labels, no two with equal labels
 abbrev pub Samples : Type 0
@@ -101,10 +101,18 @@ abbrev pub selected : Asked → Selector → ℤ → List Stamped
 selected asked selector t =
     newest_rows selector.moment.closed (moment_of asked selector.moment t) (passing asked.samples asked.kept selector.rules)
 
--- samples under their labels; there is no window of no samples
+-- the times of samples, and their values
+abbrev pub sample_times : List (Ms × XFrac) → List Ms
+sample_times samples = map (λ (s : Ms × XFrac). s.0) samples
+
+abbrev pub sample_values : List (Ms × XFrac) → List XFrac
+sample_values samples = map (λ (s : Ms × XFrac). s.1) samples
+
+-- samples under their labels, their times beside their values; there is no window of no samples
 abbrev pub window_row : Names → List (Ms × XFrac) → Option WindowRow
 window_row names [] = None
-window_row names (sample ∷ samples) = Some (record { labels = names; samples = sample ∷ samples })
+window_row names (sample ∷ samples) =
+    Some (record { labels = names; times = sample_times (sample ∷ samples); values = sample_values (sample ∷ samples) })
 
 abbrev pub series_window : Bool → ℤ → ℤ → Names × Samples → Option WindowRow
 series_window closed m range series = window_row series.0 (window closed m range series.1)

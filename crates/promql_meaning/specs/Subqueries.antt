@@ -10,8 +10,8 @@ use Rattle.step_table.specs.Groups.{Names, gathered}
 use Rattle.step_table.specs.Timed.{StepAt, marks_of_steps, rows_of_steps, steps_over}
 use Rattle.step_table.specs.declared.marks.Marks.{Marks}
 use Rattle.step_table.specs.declared.step.Step.{Step}
+use Rattle.step_table.specs.declared.windows.WindowRow.{WindowRow}
 use Rattle.xfrac.specs.declared.value.XFrac.{XFrac}
-use Rattle.promql_meaning.specs.declared.given.WindowRow.{WindowRow}
 use Rattle.promql_meaning.specs.declared.given.Windows.{Windows}
 use Rattle.promql_meaning.specs.Givens.{no_marks}
 use Rattle.promql_meaning.specs.Selecting.{window_row}

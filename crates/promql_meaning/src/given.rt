@@ -3,7 +3,7 @@ ghost use Rattle.std.specs.Prelude.{◌≡◌, map, IfOk};
 
 use label_set::{Items, Labels, Rule, Text};
 use std::alloc::{AllocError, Global};
-use step_table::{Marks, Row, Step, step_of_rows};
+use step_table::{Marks, Row, Step, WindowRow, step_of_rows};
 use ticks::Ms;
 use xfrac::XFrac;
 
@@ -23,15 +23,8 @@ pub struct Selection {
     pub rows: Items<Stamped>,
 }
 
-/// The samples of one window under its labels, at least one, in rising time.
-#[derive(Drop)]
-pub struct WindowRow {
-    pub labels: Labels,
-    pub samples: Items<(Ms, XFrac)>,
-}
-
-/// The windows of one instant, in the order of labels: the samples in the `range` milliseconds up to `moment`, the left
-/// edge left out. A range selector has its rules in the order of the text, a subquery has none.
+/// The windows of one instant, in the order of labels: the times and values of the samples in the `range` milliseconds up to
+/// `moment`, at least one in each. A range selector has its rules in the order of the text, a subquery has none.
 #[derive(Drop)]
 pub struct Windows {
     pub moment: Ms,

@@ -1,5 +1,8 @@
 //! Laws of meanings that users rely on. The functions do nothing: each stands for what its contract says.
+ghost use Rattle.promql_meaning.specs.Filters.{MoreRulesFilterRows, MoreRulesFilterWindows};
 ghost use Rattle.promql_meaning.specs.Laws.{FixedSelectorStays, MeaningIsWellFormed, MinusTwice, MultiplesAreAll, OffsetIsEarlier, RanksArePart, SumOfEachRow, SumsOfSums};
+ghost use Rattle.promql_meaning.specs.LimitLaws.{AbsentLabelsAreWithin};
+ghost use Rattle.promql_meaning.specs.RankLaws.{LeftOutAreBehind, RanksAreFew};
 ghost use Rattle.promql_meaning.specs.ResultLaws.{FirstStopIsFirst, NoStopIsNone, NotesStand, OrderRearranges, OrderRises};
 ghost use Rattle.promql_meaning.specs.LeftEdges.{ClosedHasTheEdge};
 ghost use Rattle.promql_meaning.specs.Steadiness.{MeaningStays};
@@ -93,6 +96,20 @@ pub fn order_rises()
     order_is_total();
 }
 
+/// A selector of more rules gives the rows and the windows of a selector that pass the further rules.
+pub fn more_rules_filter()
+    ensures rows { MoreRulesFilterRows }
+    ensures windows { MoreRulesFilterWindows }
+{}
+
+/// topk and bottomk keep at most k rows of each group, and a row that they leave out has k rows of its group before it.
+pub fn ranks_are_few()
+    ensures few { RanksAreFew }
+    ensures left_out { LeftOutAreBehind }
+{
+    order_is_total();
+}
+
 /// The samples of a window that is closed on the left are the one on its edge, if there is one, and then those of the open one.
 pub fn closed_windows_have_the_edge()
     ensures { ClosedHasTheEdge }
@@ -101,4 +118,9 @@ pub fn closed_windows_have_the_edge()
 /// The moment of a walk with the fixed time and the offset of an expression is the moment of its meaning.
 pub fn walk_moments_are_moments()
     ensures { WalkMomentIsMoment }
+{}
+
+/// The labels of what is absent are those that the rules tell; there are none exactly where these would pass a limit of labels.
+pub fn absent_labels_are_within()
+    ensures { AbsentLabelsAreWithin }
 {}

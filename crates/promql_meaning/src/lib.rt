@@ -19,7 +19,7 @@ pub use aggregates::group;
 pub use answer::{Answer, Outcome, Point, ResultSeries};
 pub use buckets::Bucket;
 pub use elements::map_rows;
-pub use given::{Given, Selection, Stamped, WindowRow, Windows, barren, no_marks};
+pub use given::{Given, Selection, Stamped, Windows, barren, no_marks};
 pub use limits::{labels_with, without_label};
 pub use notes::{is_outside, range_notes, range_notes_of, with_notes};
 pub use ranks::value_order;
