@@ -1,4 +1,6 @@
 pub mod Cuts
 pub mod Finders
 pub mod Numbers
+pub mod Passing
+pub mod Searches
 pub mod Words

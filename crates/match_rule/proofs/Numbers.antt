@@ -1,25 +1,14 @@
 -- Where a pattern is among the kept ones.
-use Rattle.std.proofs.Common.{◌≡◌, ℕ, ◌<◌, ◌≤◌, ◌+◌, suc, zero, length-append, Bool, true, false, not, cond, List, [], ◌∷◌, ◌++◌, length, map, Option, None, Some, is_none, slice_get, refl, subst, sym, ap, ◌∙◌, arith, ◌&&◌, ◌||◌, bytes_eq}
+use Rattle.std.proofs.Common.{◌≡◌, ℕ, ◌<◌, ◌≤◌, ◌+◌, suc, zero, length-append, Bool, true, false, not, cond, List, [], ◌∷◌, ◌++◌, length, Option, None, Some, slice_get, refl, subst, sym, ap, arith, ◌&&◌, bytes_eq}
 use Rattle.std.specs.Prelude.{nat_lt, unwrap_or}
-use Rattle.std.specs.List.{position, position_or_len}
+use Rattle.std.specs.List.{position}
 use Rattle.std.proofs.lemmas.Bool.Decides.{nat_tests}
-use Rattle.std.proofs.lemmas.List.{length-map}
 use Rattle.std.proofs.lemmas.Slice.Eq.{bytes_eq-Decides}
-use Rattle.match_rule.specs.declared.patterns.Kept.{Kept}
-use Rattle.regex.specs.declared.string.regex.Regex.{Regex}
-use Rattle.std.specs.Option.{ForSome}
-use Rattle.match_rule.specs.Patterns.{IsFinder, is_pattern, is_plain, is_readable, number_of, regex_text}
-
-abbrev pub pattern_of : Kept → Bool × List ℕ
-pattern_of k = (k.whole, k.text)
+use Rattle.match_rule.specs.Patterns.{MayBeKept, is_pattern, is_readable, number_of}
 
 pub number_at_most : (q : Bool × List ℕ) (ps : List (Bool × List ℕ)) → number_of q ps ≤ length ps
 number_at_most q [] = omega arith
 number_at_most q (p ∷ ps) = let h = number_at_most q ps in elim (is_pattern q p) as (λ b. cond (not b) (1 + number_of q ps) 0 ≤ suc (length ps)) [ true ↦ omega arith | false ↦ omega arith ]
-
-mapped : (q : Bool × List ℕ) (ks : List Kept) → position_or_len (λ k. is_pattern q (pattern_of k)) ks ≡ number_of q (map pattern_of ks)
-mapped q [] = refl
-mapped q (k ∷ ks) = ap (λ n. cond (not (is_pattern q (pattern_of k))) (1 + n) 0) (mapped q ks)
 
 or_length : (n l : ℕ) → n ≤ l → unwrap_or (cond (nat_lt n l) (Some n) None) l ≡ n
 or_length n l h = by (nat_lt n l) refl
@@ -29,12 +18,8 @@ or_length n l h = by (nat_lt n l) refl
     by false e = grind (arith, nat_tests)
 
 -- the place that a search finds, or how many there are
-pub number_by_position : (q : Bool × List ℕ) (ks : List Kept) → unwrap_or (position (λ k. is_pattern q (pattern_of k)) ks) (length ks) ≡ number_of q (map pattern_of ks)
-number_by_position q ks =
-    let few = number_at_most q (map pattern_of ks) in
-    let all = length-map ks pattern_of in
-    let at = mapped q ks in
-    or_length (position_or_len (λ k. is_pattern q (pattern_of k)) ks) (length ks) (omega (arith, few, all, at)) ∙ at
+pub number_by_position : (q : Bool × List ℕ) (ps : List (Bool × List ℕ)) → unwrap_or (position (is_pattern q) ps) (length ps) ≡ number_of q ps
+number_by_position q ps = or_length (number_of q ps) (length ps) (number_at_most q ps)
 
 same_flag : (a b : Bool) → cond a b (not b) ≡ true → b ≡ a
 same_flag true b e = e
@@ -69,7 +54,7 @@ own_pattern : (q : Bool × List ℕ) → is_pattern q q ≡ true
 own_pattern q = rw (own_flag q.0) ((bytes_eq-Decides q.1 q.1).1 refl)
 
 -- where no place is found, no number is the pattern's
-absent : (q : Bool × List ℕ) (ps : List (Bool × List ℕ)) → length ps ≤ number_of q ps → (k : ℕ) → slice_get ps k ≡ Some q → ⊥
+pub absent : (q : Bool × List ℕ) (ps : List (Bool × List ℕ)) → length ps ≤ number_of q ps → (k : ℕ) → slice_get ps k ≡ Some q → ⊥
 absent q [] w k e = absurd (cc)
 absent q (p ∷ ps) w zero e =
     let own : is_pattern q p ≡ true = subst (λ (o : Option (Bool × List ℕ)). is_pattern_in o ≡ true) (sym e) (own_pattern q) in
@@ -85,46 +70,35 @@ absent q (p ∷ ps) w (suc k) e = go (is_pattern q p) w (λ v. absent q ps v k e
     go true w rest = absurd (omega arith)
     go false w rest = rest (omega arith)
 
-module _ (q : Bool × List ℕ) (ks : List Kept) where
-  pub absent_among : length ks ≤ number_of q (map pattern_of ks) → (k : ℕ) → slice_get (map pattern_of ks) k ≡ Some q → ⊥
-  absent_among w = absent q (map pattern_of ks) (let e = length-map ks pattern_of in omega arith)
-
-  pub there_among : number_of q (map pattern_of ks) < length ks → slice_get (map pattern_of ks) (number_of q (map pattern_of ks)) ≡ Some q
-  there_among w = number_there q (map pattern_of ks) (let e = length-map ks pattern_of in omega arith)
-
-  pub among_at_most : number_of q (map pattern_of ks) ≤ length ks
-  among_at_most = let e = length-map ks pattern_of in let h = number_at_most q (map pattern_of ks) in omega arith
-
 -- the last of the kept ones
-pub last_kept : (q : Bool × List ℕ) (ks : List Kept) (k : Kept) → pattern_of k ≡ q → slice_get (map pattern_of (ks ++ k ∷ [])) (length ks) ≡ Some q
-last_kept q [] k e = ap Some e
-last_kept q (y ∷ ks) k e = last_kept q ks k e
+pub last_kept : (ps : List (Bool × List ℕ)) (q : Bool × List ℕ) → slice_get (ps ++ q ∷ []) (length ps) ≡ Some q
+last_kept [] q = refl
+last_kept (p ∷ ps) q = last_kept ps q
 
-pub last_within : (ks : List Kept) (k : Kept) → length ks < length (map pattern_of (ks ++ k ∷ []))
-last_within ks k = let e = length-map (ks ++ k ∷ []) pattern_of in let f = length-append ks (k ∷ []) in omega arith
+pub last_within : (ps : List (Bool × List ℕ)) (q : Bool × List ℕ) → length ps < length (ps ++ q ∷ [])
+last_within ps q = let f = length-append ps (q ∷ []) in omega arith
 
-pub earlier_kept : (ks : List Kept) (k : Kept) (i : ℕ) → i < length (map pattern_of ks) → slice_get (map pattern_of (ks ++ k ∷ [])) i ≡ slice_get (map pattern_of ks) i
-earlier_kept [] k i w = absurd (omega arith)
-earlier_kept (y ∷ ks) k zero w = refl
-earlier_kept (y ∷ ks) k (suc i) w = earlier_kept ks k i (omega arith)
+pub earlier_kept : (ps : List (Bool × List ℕ)) (q : Bool × List ℕ) (i : ℕ) → i < length ps → slice_get (ps ++ q ∷ []) i ≡ slice_get ps i
+earlier_kept [] q i w = absurd (omega arith)
+earlier_kept (p ∷ ps) q zero w = refl
+earlier_kept (p ∷ ps) q (suc i) w = earlier_kept ps q i (omega arith)
 
-or_true : (b : Bool) → (b || true) ≡ true
-or_true true = refl
-or_true false = refl
+abbrev AreReadable : List (Bool × List ℕ) → Type 0
+AreReadable ps = (k : ℕ) (p : Bool × List ℕ) → slice_get ps k ≡ Some p → is_readable p.0 p.1 ≡ true
 
--- a kept pattern is plain, or was read
-kept_readable : (k : Kept) → is_readable k.whole k.text ≡ true
-kept_readable k = go k.regex k.is_plain k.is_finder
-  where
-    go : (o : Option Regex) → is_none o ≡ is_plain k.text → ForSome o (λ r. IsFinder r (regex_text k.whole k.text)) → is_readable k.whole k.text ≡ true
-    go None e h = rw (← e) refl
-    go (Some r) e h = rw ((h r refl).read) (or_true (is_plain k.text))
-
-pub readable_there : (q : Bool × List ℕ) (ks : List Kept) (n : ℕ) → slice_get (map pattern_of ks) n ≡ Some q → is_readable q.0 q.1 ≡ true
-readable_there q [] n e = absurd (cc)
-readable_there q (k ∷ ks) zero e = subst (λ (o : Option (Bool × List ℕ)). is_readable_in o ≡ true) e (kept_readable k)
+one_more_readable : (ps : List (Bool × List ℕ)) (q : Bool × List ℕ) → AreReadable ps → is_readable q.0 q.1 ≡ true → AreReadable (ps ++ q ∷ [])
+one_more_readable [] q all one zero p e = subst (λ (o : Option (Bool × List ℕ)). is_readable_in o ≡ true) e one
   where
     is_readable_in : Option (Bool × List ℕ) → Bool
     is_readable_in None = true
     is_readable_in (Some p) = is_readable p.0 p.1
-readable_there q (k ∷ ks) (suc n) e = readable_there q ks n e
+one_more_readable [] q all one (suc k) p e = absurd (cc)
+one_more_readable (x ∷ ps) q all one zero p e = all zero p e
+one_more_readable (x ∷ ps) q all one (suc k) p e = one_more_readable ps q (λ n. all (suc n)) one k p e
+
+-- one more may be kept
+pub one_more : (ps : List (Bool × List ℕ)) (q : Bool × List ℕ) → MayBeKept ps → length ps < 32 → is_readable q.0 q.1 ≡ true → MayBeKept (ps ++ q ∷ [])
+one_more ps q h few one = record {
+  few = let f = length-append ps (q ∷ []) in omega (arith, few, f);
+  readable = one_more_readable ps q h.readable one;
+}

@@ -82,15 +82,15 @@ regex_groups text value = groups_read (read default_config (chars text)) value
 abbrev pub regex_finds : List ℕ → List ℕ → Bool
 regex_finds text value = is_some (found_by (regex_tree text) value)
 
--- a built pattern finds, in every list of bytes, what its text does
-pub record IsFinder (regex : Regex) (text : List ℕ) : Type 0 where
+-- the grammar reads a text, and a pattern with its names of groups finds, in every list of bytes, what the text does
+pub record FindsAs (re : Re) (names : List (Option (List ℕ))) (text : List ℕ) : Type 0 where
   pub read : is_some (regex_tree text) ≡ true
-  pub found : (value : List ℕ) → ((k : ℕ) → slice_index value k < 256) → is_some (find_str (regex_pattern regex) value 0) ≡ regex_finds text value
-  pub groups : (value : List ℕ) → ((k : ℕ) → slice_index value k < 256) → option_map (group_spans (length (regex_names regex))) (find_str (regex_pattern regex) value 0) ≡ regex_groups text value
-
--- the pattern of a matcher finds, in every list of bytes, what its text does
-pub record FindsAs (re : Re) (text : List ℕ) : Type 0 where
   pub found : (value : List ℕ) → ((k : ℕ) → slice_index value k < 256) → is_some (find_str re value 0) ≡ regex_finds text value
+  pub groups : (value : List ℕ) → ((k : ℕ) → slice_index value k < 256) → option_map (group_spans (length names)) (find_str re value 0) ≡ regex_groups text value
+
+-- a built pattern does
+abbrev pub IsFinder : Regex → List ℕ → Type 0
+IsFinder regex text = FindsAs (regex_pattern regex) (regex_names regex) text
 
 -- a text is plain, or the grammar of `regex` reads what `regex` is given for it
 abbrev pub is_readable : Bool → List ℕ → Bool
@@ -161,6 +161,11 @@ is_kept p kept = nat_lt (number_of p kept) (length kept)
 abbrev pub with_pattern : Bool × List ℕ → List (Bool × List ℕ) → List (Bool × List ℕ)
 with_pattern p kept = if is_kept p kept then kept else kept ++ p ∷ []
 
+-- what is kept: 32 patterns at most, each of them plain or read by the grammar of `regex`
+pub record MayBeKept (kept : List (Bool × List ℕ)) : Type 0 where
+  pub few : length kept ≤ 32
+  pub readable : (k : ℕ) (p : Bool × List ℕ) → slice_get kept k ≡ Some p → is_readable p.0 p.1 ≡ true
+
 -- whether a value passes a test
 abbrev pub kind_passes : List (Bool × List ℕ) → RuleKind → List ℕ → Bool
 kind_passes kept (Eq text) value = bytes_eq value text
@@ -179,13 +184,6 @@ HasItsPattern kept (Ne text) = Unit {0}
 HasItsPattern kept (Matching id) = IsWholeId kept id.0
 HasItsPattern kept (Nre id) = IsWholeId kept id.0
 
--- a test of equality, which takes no memory
-abbrev pub TakesNone : RuleKind → Type 0
-TakesNone (Eq text) = Unit {0}
-TakesNone (Ne text) = Unit {0}
-TakesNone (Matching id) = ⊥
-TakesNone (Nre id) = ⊥
-
 -- each rule has its pattern
 abbrev pub HaveTheirPatterns : List (Bool × List ℕ) → List Rule → Type 0
 HaveTheirPatterns kept rules = AllByRecursion (λ rule. HasItsPattern kept rule.kind) rules
@@ -193,18 +191,3 @@ HaveTheirPatterns kept rules = AllByRecursion (λ rule. HasItsPattern kept rule.
 -- whether labels pass each of some rules; a missing label is the empty text
 abbrev pub labels_pass : List (Bool × List ℕ) → List Rule → List (List ℕ × List ℕ) → Bool
 labels_pass kept rules names = list_all (λ rule. kind_passes kept rule.kind (value_of names rule.label)) rules
-
--- the pattern that a test names
-abbrev pub pattern_in : List (Bool × List ℕ) → RuleKind → Option (Bool × List ℕ)
-pattern_in kept (Eq text) = None
-pattern_in kept (Ne text) = None
-pattern_in kept (Matching id) = slice_get kept id.0
-pattern_in kept (Nre id) = slice_get kept id.0
-
-abbrev pub pattern_named : List (Bool × List ℕ) → Rule → Option (Bool × List ℕ)
-pattern_named kept rule = pattern_in kept rule.kind
-
--- rules, and the patterns under the numbers that they name
-pub record RulesOver : Type 0 where
-  pub patterns : List (Bool × List ℕ)
-  pub tests : List Rule

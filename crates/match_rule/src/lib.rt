@@ -2,14 +2,16 @@
 //! Its rows of tests stand in `store_tests`.
 #![tactic(auto)]
 
-mod matcher;
+mod built;
+mod kept;
 mod patterns;
 mod plain;
+mod room;
 mod rules;
 mod spans;
 
 pub use label_set::Memory;
-pub use matcher::PatternMatcher;
 pub use patterns::{PatternRefusal, Patterns};
-pub use rules::{RuleMatchers, labels_pass, passes};
+pub use room::PatternRoom;
+pub use rules::{labels_pass, passes};
 pub use spans::Spans;

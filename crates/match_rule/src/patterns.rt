@@ -1,21 +1,14 @@
-ghost use Rattle.match_rule.specs.Patterns.{AreCutFrom, IsCutFrom, IsFinder, IsRefused, IsWholeId, MayRefuse, first_spans, group_spans, groups_at, pattern_groups, plain_passes, is_kept, is_pattern, is_plain, is_readable, number_of, passes_at, regex_text, with_pattern};
+ghost use Rattle.match_rule.specs.Patterns.{AreCutFrom, IsRefused, IsWholeId, MayBeKept, MayRefuse, groups_at, is_kept, is_pattern, is_plain, is_readable, number_of, passes_at, regex_text, with_pattern};
 ghost use Rattle.std.specs.Option.{option_map};
-ghost use Rattle.std.specs.Prelude.{◌≡◌, ◌<◌, ◌≤◌, ℕ, true, false, [], ◌∷◌, None, Some, Err, if◌then◌else◌, MatchOption, length, is_none, map, position, slice_get, string_bytes, IfOk, IfErr, IfNone, IfSome, OnOk, OnErr, IsOk};
-ghost use Rattle.regex.specs.Patterns.{find_str};
-ghost use Rattle.regex.specs.Strings.{captures_haystack, captures_names, captures_span, regex_names, regex_pattern};
-ghost use Rattle.std.specs.Option.{ForSome};
+ghost use Rattle.std.specs.Prelude.{◌≡◌, ◌<◌, ◌≤◌, ℕ, true, false, [], Some, MatchOption, length, position, slice_get, IfOk, IfErr, IfNone, IfSome, OnOk, OnErr, IsOk};
 
-use crate::matcher::PatternMatcher;
-use crate::plain::{is_plain, plain_passes};
+use crate::kept::{Kept, built_of};
+use crate::room::{MOST_PATTERNS, PatternRoom};
 use crate::spans::Spans;
-use label_set::{PatternId, Text};
-use regex::{Captures, Regex};
+use label_set::PatternId;
 use std::alloc::{AllocError, AllocFailed, Global};
 use std::marker::Model;
 use thiserror::Error;
-
-/// The most patterns that are kept.
-const MOST_PATTERNS: usize = 32;
 
 /// Why a pattern was not kept.
 #[derive(Clone, Copy, Debug, PartialEq, Eq, Error)]
@@ -53,41 +46,44 @@ impl<T: Drop> From<AllocFailed<T>> for PatternRefusal {
     }
 }
 
-/// A pattern: its text, whether it has to match the whole value, and, where the text isn't plain, what it was built to.
+/// Patterns under numbers from 0 on, each built once, with what searches for it, which is made once too. Contracts see the
+/// list of them, each with the flag whether it has to match a whole value, and its text. They are never taken out, so that a
+/// number keeps its meaning.
 #[derive(Drop)]
-pub(crate) struct Kept {
-    pub(crate) whole: bool,
-    pub(crate) text: Text,
-    pub(crate) regex: Option<Regex>,
-    ghost is_plain: { is_none regex ≡ is_plain text },
-    ghost is_finder: { ForSome regex (λ r. IsFinder r (regex_text whole text)) },
+pub struct Patterns<'r> {
+    room: &'r PatternRoom,
+    kept: Vec<Kept<'r>>,
 }
 
-/// Patterns under numbers from 0 on, each built once. Contracts see the list of them, each with the flag whether it has
-/// to match a whole value, and its text. They are never taken out, so that a number keeps its meaning.
-#[derive(Drop)]
-pub struct Patterns {
-    kept: Vec<Kept>,
-}
-
-impl Model for Patterns {
-    ghost use Rattle.std.specs.Prelude.{◌≤◌, ℕ, Bool, List, length, map};
+impl<'r> Model for Patterns<'r> {
+    ghost use Rattle.match_rule.specs.Patterns.{MayBeKept};
+    ghost use Rattle.std.specs.Prelude.{ℕ, Bool, List};
 
     ghost Value = { List (Bool × List ℕ) };
 
-    ghost view = { λ p. map (λ k. (k.whole, k.text)) p.kept.items };
+    ghost view = { λ p. p.kept.items };
 
-    ghost invariant = { λ p. length p.kept.items ≤ 32 };
+    ghost invariant = { λ p. MayBeKept p.kept.items };
 }
 
-impl Patterns {
-    /// No patterns. It takes no memory.
-    pub fn new(alloc: Global) -> Patterns
+impl<'r> Patterns<'r> {
+    /// No patterns, and a room for what is built of them, which is emptied. It takes no memory.
+    pub fn new(alloc: Global, room: &'r mut PatternRoom) -> Patterns<'r>
         ensures { result ≡ [] }
     {
+        room.clear();
         Patterns {
+            room: &*room,
             kept: Vec::new(alloc),
         }
+    }
+
+    /// The number of patterns. They are 32 at most, and each is plain or read by the grammar of `regex`.
+    pub fn len(&self) -> usize
+        ensures length { result ≡ length self.now }
+        ensures kept { MayBeKept self.now }
+    {
+        self.kept.len()
     }
 
     /// The text under a number, as it was given.
@@ -95,7 +91,7 @@ impl Patterns {
         requires { id.0 < length self.now }
         ensures { option_map (λ p. p.1) (slice_get self.now id.0) ≡ Some result.now }
     {
-        self.kept[id.0 as usize].text.as_str()
+        self.kept[id.0 as usize].text()
     }
 
     /// The number of a pattern, if it is kept. It takes no memory.
@@ -163,34 +159,25 @@ impl Patterns {
         if place < self.kept.len() {
             return Ok(PatternId(place as u32));
         }
-        let kept = build(*self.kept.allocator(), whole, text)?;
+        let alloc = *self.kept.allocator();
+        let built = built_of(alloc, whole, text)?;
         if self.kept.len() >= MOST_PATTERNS {
             return Err(PatternRefusal::TooManyPatterns);
         }
+        let kept = Kept::of(alloc, whole, text, built, self.room)?;
         self.kept.push(kept)?;
         Ok(PatternId(place as u32))
     }
 
-    /// The pattern under a number, made ready to test many values. The only error is want of memory, and a plain text takes
-    /// none.
-    pub fn matcher(&self, id: PatternId) -> Result<PatternMatcher<'_>, AllocError>
-        requires { id.0 < length self.now }
-        ensures pattern { IfOk result (λ m. slice_get self.now id.0 ≡ Some m) }
-        ensures plain { option_map (λ p. is_plain p.1) (slice_get self.now id.0) ≡ Some true → IsOk result }
-    {
-        PatternMatcher::of(*self.kept.allocator(), &self.kept[id.0 as usize])
-    }
-
-    /// Whether the pattern under a number passes a value. The only error is want of memory, and a plain text takes none.
-    /// Each call makes the pattern ready anew; for many values take `matcher`.
+    /// Whether the pattern under a number passes a value. It takes no memory, and so answers no error.
     pub fn matches(&mut self, id: PatternId, value: &str) -> Result<bool, AllocError>
         requires { id.0 < length self.old }
         ensures answer { IfOk result (λ b. b ≡ passes_at self.old id.0 value.now) }
-        ensures plain { option_map (λ p. is_plain p.1) (slice_get self.old id.0) ≡ Some true → IsOk result }
+        ensures always { IsOk result }
         ensures same { self.new ≡ self.old }
     {
-        let mut matcher = self.matcher(id)?;
-        Ok(matcher.passes(value))
+        let kept = &mut self.kept[id.0 as usize];
+        Ok(kept.passes(value))
     }
 
     /// Whether the pattern under a number passes a value, and what its groups span there: group 0, the whole value, first.
@@ -210,7 +197,8 @@ impl Patterns {
         ensures same { self.new ≡ self.old }
     {
         let alloc = *self.kept.allocator();
-        match pattern_spans(alloc, &self.kept[id.0 as usize], value)? {
+        let kept = &mut self.kept[id.0 as usize];
+        match kept.spans(alloc, value)? {
             Some(spans) => {
                 into.replace(spans);
                 Ok(true)
@@ -223,139 +211,15 @@ impl Patterns {
     }
 }
 
-/// What the groups of a pattern span in a value that it passes. The only error is want of memory.
-fn pattern_spans(
-    alloc: Global,
-    kept: &Kept,
-    value: &str,
-) -> Result<Option<Vec<Option<(usize, usize)>>>, AllocError>
-    requires { kept.now.whole ≡ true }
-    ensures spans { IfOk result (λ o. option_map (λ v. v.items) o ≡ pattern_groups kept.now.text value.now) }
-    ensures cut { IfOk result (λ o. IfSome o (λ v. AreCutFrom value.now v.items)) }
-{
-    match &kept.regex {
-        None => plain_spans(alloc, kept.text.as_str(), value),
-        Some(regex) => regex_spans(alloc, regex, value),
-    }
-}
-
-#[tactic(auto, using(crate::proofs::Cuts::whole_cut))]
-fn plain_spans(
-    alloc: Global,
-    text: &str,
-    value: &str,
-) -> Result<Option<Vec<Option<(usize, usize)>>>, AllocError>
-    ensures spans { IfOk result (λ o. option_map (λ v. v.items) o ≡ (if plain_passes true text.now value.now then Some (Some (0, length value.now) ∷ []) else None)) }
-    ensures cut { IfOk result (λ o. IfSome o (λ v. AreCutFrom value.now v.items)) }
-{
-    if !plain_passes(true, text, value) {
-        return Ok(None);
-    }
-    let mut spans = Vec::new(alloc);
-    spans.push(Some((0, value.len())))?;
-    Ok(Some(spans))
-}
-
-fn regex_spans(
-    alloc: Global,
-    regex: &Regex,
-    value: &str,
-) -> Result<Option<Vec<Option<(usize, usize)>>>, AllocError>
-    ensures spans { IfOk result (λ o. option_map (λ v. v.items) o ≡ option_map (group_spans (length (regex_names regex.now))) (find_str (regex_pattern regex.now) value.now 0)) }
-    ensures cut { IfOk result (λ o. IfSome o (λ v. AreCutFrom value.now v.items)) }
-{
-    let mut matcher = regex.matcher(alloc)?;
-    match matcher.captures(value) {
-        None => Ok(None),
-        Some(captures) => Ok(Some(copied(alloc, &captures)?)),
-    }
-}
-
-#[tactic(auto, using(crate::proofs::Cuts::none_cut))]
-fn copied(
-    alloc: Global,
-    captures: &Captures<'_, '_>,
-) -> Result<Vec<Option<(usize, usize)>>, AllocError>
-    ensures spans { IfOk result (λ v. v.items ≡ first_spans captures.now (length (captures_names captures.now))) }
-    ensures cut { IfOk result (λ v. AreCutFrom (captures_haystack captures.now) v.items) }
-{
-    let mut spans = Vec::new(alloc);
-    for i in 0..captures.len() {
-        spans.push(span_at(captures, i))?;
-    }
-    Ok(spans)
-}
-
-#[tactic(auto, using(crate::proofs::Cuts::match_cut))]
-fn span_at(captures: &Captures<'_, '_>, i: usize) -> Option<(usize, usize)>
-    ensures span { result ≡ captures_span captures.now i }
-    ensures cut { IfSome result (IsCutFrom (captures_haystack captures.now)) }
-{
-    let group = captures.get(i)?;
-    Some((group.start(), group.end()))
-}
-
 /// The number of a pattern among the kept ones, or how many they are where it is none of them.
-fn number_of(kept: &[Kept], whole: bool, text: &str) -> usize
-    ensures { result ≡ number_of (whole, text.now) (map (λ k. (k.whole, k.text)) kept.now) }
+fn number_of(kept: &[Kept<'_>], whole: bool, text: &str) -> usize
+    ensures { result ≡ number_of (whole, text.now) kept.now }
 {
     place_of(kept, whole, text).unwrap_or(kept.len())
 }
 
-fn place_of(kept: &[Kept], whole: bool, text: &str) -> Option<usize>
-    ensures { result ≡ position (λ k. is_pattern (whole, text.now) (k.whole, k.text)) kept.now }
+fn place_of(kept: &[Kept<'_>], whole: bool, text: &str) -> Option<usize>
+    ensures { result ≡ position (is_pattern (whole, text.now)) kept.now }
 {
-    kept.iter()
-        .position(|pattern| is_pattern(pattern, whole, text))
-}
-
-fn is_pattern(kept: &Kept, whole: bool, text: &str) -> bool
-    ensures { result ≡ is_pattern (whole, text.now) (kept.now.whole, kept.now.text) }
-{
-    let same_form = if whole { kept.whole } else { !kept.whole };
-    same_form && text == kept.text.as_str()
-}
-
-/// Builds a pattern; a plain text is kept as it stands.
-fn build(alloc: Global, whole: bool, text: &str) -> Result<Kept, PatternRefusal>
-    ensures kept { IfOk result (λ k. (k.whole ≡ whole) × (k.text ≡ text.now)) }
-    ensures readable { OnOk result (is_readable whole text.now ≡ true) }
-    ensures refused { IfErr result (MayRefuse ((is_plain text.now ≡ false) × IsRefused (regex_text whole text.now)) ⊥) }
-{
-    let regex = if is_plain(text) {
-        None
-    } else {
-        Some(compile(alloc, whole, text)?)
-    };
-    let text = Text::of(alloc, text)?;
-    Ok(Kept { whole, text, regex })
-}
-
-/// Has `regex` build a pattern, wrapped where it has to match the whole value.
-fn compile(alloc: Global, whole: bool, text: &str) -> Result<Regex, PatternRefusal>
-    ensures finder { IfOk result (λ r. IsFinder r (regex_text whole text.now)) }
-    ensures refused { IfErr result (MayRefuse (IsRefused (regex_text whole text.now)) ⊥) }
-{
-    if !whole {
-        return compile_text(alloc, text);
-    }
-    let wrapped = wrapped(alloc, text)?;
-    compile_text(alloc, wrapped.as_str())
-}
-
-fn wrapped(alloc: Global, text: &str) -> Result<String, AllocError>
-    ensures { IfOk result (λ t. string_bytes t ≡ regex_text true text.now) }
-{
-    format!(in alloc; "^(?s:{text})$")
-}
-
-fn compile_text(alloc: Global, text: &str) -> Result<Regex, PatternRefusal>
-    ensures finder { IfOk result (λ r. IsFinder r text.now) }
-    ensures refused { IfErr result (MayRefuse (IsRefused text.now) ⊥) }
-{
-    match Regex::new(alloc, text) {
-        Ok(regex) => Ok(regex),
-        Err(regex::Error::OutOfMemory) => Err(PatternRefusal::Memory),
-        Err(_) => Err(PatternRefusal::BadPattern),
-    }
+    kept.iter().position(|pattern| pattern.is(whole, text))
 }

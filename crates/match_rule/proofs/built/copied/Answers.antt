@@ -2,7 +2,7 @@ use Rattle.std.proofs.Common.{◌≡◌, ◌∙◌, ◌+◌, ℕ, suc, List, [],
 use Rattle.regex.specs.Strings.{captures_haystack}
 use Rattle.match_rule.specs.Patterns.{AreCutFrom, first_spans}
 use Rattle.match_rule.proofs.Cuts.{cut_more}
-use Rattle.match_rule.proofs.patterns.copied.Goals as goal
+use Rattle.match_rule.proofs.built.copied.Goals as goal
 
 pub loop-i-preserved : goal.loop-i-preserved
 loop-i-preserved c =

@@ -1,0 +1,36 @@
+use crate::built::Built;
+use std::alloc::{AllocError, Global};
+use std::cell::OnceCell;
+
+/// The most patterns that are kept.
+pub(crate) const MOST_PATTERNS: usize = 32;
+
+/// Where the regular expressions of 32 patterns lie, so that what searches for them can borrow them. It serves one
+/// `Patterns` at a time and outlives it.
+#[derive(Drop)]
+pub struct PatternRoom {
+    places: Vec<OnceCell<Built>>,
+}
+
+impl PatternRoom {
+    /// Empty places. The only error is want of memory.
+    pub fn new(alloc: Global) -> Result<PatternRoom, AllocError> {
+        let mut places = Vec::new(alloc);
+        for _ in 0..MOST_PATTERNS {
+            places.push(OnceCell::new())?;
+        }
+        Ok(PatternRoom { places })
+    }
+
+    /// Empties each place.
+    pub(crate) fn clear(&mut self) {
+        for place in self.places.iter_mut() {
+            place.take();
+        }
+    }
+
+    /// A place that is empty.
+    pub(crate) fn free(&self) -> Option<&OnceCell<Built>> {
+        self.places.iter().find(|place| place.get().is_none())
+    }
+}
