@@ -10,6 +10,7 @@ use Rattle.std.specs.BTreeMap.{insert_entry}
 use Rattle.indexmap.specs.IndexMap.{insert_entry as put_entry}
 use Rattle.indexmap.specs.Layout.{set_value_at}
 use Rattle.label_set.specs.LabelEquality.{labels_eq, labels_decide}
+use Rattle.label_set.specs.Labels.{IsLabelSet}
 use Rattle.std.specs.Map.{keys_of, lookup, lookup_key}
 use Rattle.std.specs.Option.{option_map}
 use Rattle.std.specs.Ordering.{is_eq, match_ordering}
@@ -18,7 +19,7 @@ use Rattle.std.specs.declared.cmp.Ordering.TheVariants.{Less, Equal, Greater}
 use Rattle.label_set.specs.Entries.{recursion_map, sorted_insert}
 use Rattle.ticks.specs.declared.moment.Ms.{Ms}
 use Rattle.xfrac.specs.declared.value.Held.{Held}
-use Rattle.sample_store.specs.Samples.{AllSeries, IsFoundAt, IsRising, Puts, PutsAt, Appends, IsRoomIn, IsStore, IsTimeAt, IsTimeGapAt, Names, Samples, IsNumberOf, held_in, is_same, labels_at, later_than, limit_broken, refusal_beside, refusal_in, refusal_of, sample_count, samples_of, time_cmp, with_sample}
+use Rattle.sample_store.specs.Samples.{AllSeries, IsFoundAt, IsRising, Puts, PutsAt, Appends, IsRoomIn, IsStore, IsTimeAt, IsTimeGapAt, Names, Samples, IsNumberOf, held_in, is_same, labels_at, later_than, samples_at, limit_broken, refusal_beside, refusal_in, refusal_of, sample_count, samples_of, time_cmp, with_sample}
 use Rattle.sample_store.specs.declared.refusal.StoreRefusal.{StoreRefusal}
 use Rattle.sample_store.specs.declared.refusal.StoreRefusal.TheVariants.{Conflict, TooManySamples, TooManySeries, Memory}
 use Rattle.sample_store.proofs.Columns.{length_inserted}
@@ -27,7 +28,7 @@ use Rattle.sample_store.specs.Laws.{held_same}
 
 pub store_empty : (series : AllSeries) → series ≡ [] → IsStore series 0
 unfolding IsDistinct
-store_empty series e = subst (λ z. IsStore z 0) (sym e) (record { distinct = tt; rising = tt; counted = refl; few_series = omega arith; few_samples = omega arith })
+store_empty series e = subst (λ z. IsStore z 0) (sym e) (record { labelled = tt; distinct = tt; rising = tt; counted = refl; few_series = omega arith; few_samples = omega arith })
 
 rising-one : (at : Ms) (held : Held) → IsRising ((at, held) ∷ [])
 unfolding IsStrictlySortedBy
@@ -197,13 +198,23 @@ rising-more : (series : AllSeries) (one : Names × Samples) → AllByRecursion (
 rising-more [] one a r = (r, tt)
 rising-more (x ∷ xs) one a r = (a.0, rising-more xs one a.1 r)
 
+labelled-more : (series : AllSeries) (one : Names × Samples) → AllByRecursion (λ z. IsLabelSet z.0) series → IsLabelSet one.0 → AllByRecursion (λ z. IsLabelSet z.0) (series ++ one ∷ [])
+labelled-more [] one a l = (l, tt)
+labelled-more (x ∷ xs) one a l = (a.0, labelled-more xs one a.1 l)
+
+labelled-set : (series : AllSeries) (i : ℕ) (samples : Samples) → AllByRecursion (λ z. IsLabelSet z.0) series → AllByRecursion (λ z. IsLabelSet z.0) (set_value_at series i samples)
+labelled-set [] i samples a = tt
+labelled-set (x ∷ xs) zero samples a = (a.0, a.1)
+labelled-set (x ∷ xs) (suc i) samples a = (a.0, labelled-set xs i samples a.1)
+
 pub store-series : (series new : AllSeries) (count : ℕ) (names kept : Names) (at : Ms) (held : Held) (samples : Samples) → IsStore series count → lookup (labels_eq names) series ≡ None
-    → ◌≡◌ {A = Names × Samples} (kept, samples) (names, (at, held) ∷ []) → new ≡ put_entry labels_eq series kept samples → IsDistinct labels_eq (keys_of new) → length series < 100000 → count < 2000000 → IsStore new (count + 1)
-store-series series new count names kept at held samples s absent one e d few fewer =
+    → IsLabelSet names → ◌≡◌ {A = Names × Samples} (kept, samples) (names, (at, held) ∷ []) → new ≡ put_entry labels_eq series kept samples → IsDistinct labels_eq (keys_of new) → length series < 100000 → count < 2000000 → IsStore new (count + 1)
+store-series series new count names kept at held samples s absent told one e d few fewer =
     let one0 : kept ≡ names = ap (λ (z : Names × Samples). z.0) one in
     let one1 : samples ≡ (at, held) ∷ [] = ap (λ (z : Names × Samples). z.1) one in
     let is : new ≡ series ++ (kept, samples) ∷ [] = e ∙ put-new series kept samples (subst (λ z. lookup (labels_eq z) series ≡ None) (sym one0) absent) in
     record {
+      labelled = subst (AllByRecursion (λ z. IsLabelSet z.0)) (sym is) (labelled-more series (kept, samples) s.labelled (subst IsLabelSet (sym one0) told));
       distinct = d;
       rising = subst (AllByRecursion (λ z. IsRising z.1)) (sym is) (rising-more series (kept, samples) s.rising (subst IsRising (sym one1) (rising-one at held)));
       counted =
@@ -218,6 +229,7 @@ store-series series new count names kept at held samples s absent one e d few fe
 -- a store in which a series took a sample
 pub store-put : (series new : AllSeries) (place count total : ℕ) (at : Ms) (held : Held) → IsStore series count → PutsAt series new place at held count (Ok total) → IsStore new total
 store-put series new place count total at held s p = subst (λ z. IsStore z total) (sym p.changed) (record {
+  labelled = labelled-set series place p.after s.labelled;
   distinct = subst (IsDistinct labels_eq) (sym (keys-set series place p.after)) s.distinct;
   rising = rising-set series place p.after s.rising p.puts.4;
   counted =
@@ -362,6 +374,23 @@ below-count : (series : AllSeries) (i : ℕ) (names : Names) (samples : Samples)
 below-count [] i names samples h = absurd (cc)
 below-count (x ∷ xs) zero names samples h = let e : length x.1 ≡ length samples = (let f : x ≡ (names, samples) = cc in ap (λ (z : Names × Samples). length z.1) f) in omega (arith, e)
 below-count (x ∷ xs) (suc i) names samples h = let g = below-count xs i names samples h in omega (arith, g)
+
+-- the samples of a series that is there
+pub total_samples : (series : AllSeries) (s : ℕ) (samples : Samples) → option_map (λ (one : Names × Samples). one.1) (slice_get series s) ≡ Some samples → samples_at series s ≡ samples
+total_samples series s samples there = ap (λ (o : Option Samples). unwrap_or o []) there
+
+pub total_labels : (series : AllSeries) (s : ℕ) (names : Names) → option_map (λ (one : Names × Samples). one.0) (slice_get series s) ≡ Some names → names ≡ labels_at series s
+total_labels series s names there = sym (ap (λ (o : Option Names). unwrap_or o []) there)
+
+-- what a cursor stands between, where its parts are the samples of a series
+pub total_whole : (series : AllSeries) (s : ℕ) (before rest samples : Samples) → option_map (λ (one : Names × Samples). one.1) (slice_get series s) ≡ Some samples → before ++ rest ≡ samples → before ++ rest ≡ samples_at series s
+total_whole series s before rest samples there whole = whole ∙ sym (total_samples series s samples there)
+
+pub total_later : (series : AllSeries) (s : ℕ) (after : Ms) (rest samples : Samples) → option_map (λ (one : Names × Samples). one.1) (slice_get series s) ≡ Some samples → rest ≡ later_than after samples → rest ≡ later_than after (samples_at series s)
+total_later series s after rest samples there later = later ∙ ap (later_than after) (sym (total_samples series s samples there))
+
+pub total_rising : (series : AllSeries) (s : ℕ) (samples : Samples) → option_map (λ (one : Names × Samples). one.1) (slice_get series s) ≡ Some samples → IsRising samples → IsRising (samples_at series s)
+total_rising series s samples there rising = subst IsRising (sym (total_samples series s samples there)) rising
 
 pub few_there : (series : AllSeries) (count i : ℕ) (samples : Samples) → IsStore series count → option_map (λ (one : Names × Samples). one.1) (slice_get series i) ≡ Some samples → length samples ≤ 2000000
 few_there series count i samples s h = let o = one-there series i samples h in let b = below-count series i o.0 samples o.1 in let c = s.counted in let f = s.few_samples in omega (arith, b, c, f)

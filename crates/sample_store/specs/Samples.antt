@@ -1,6 +1,6 @@
 -- What a store holds: series in the order of their first samples, each with its samples in rising time (Prometheus, "Data
 -- model"). That an equal sample is taken twice and another one refused, and the limits, are this project's own.
-use Rattle.std.specs.Prelude.{Bool, true, false, ◌&&◌, ◌==◌, nat_le, is_none, if◌then◌else◌, ◌≡◌, ◌<◌, ◌≤◌, ◌+◌, slice_get, slice_set, insert, ℕ, List, [], ◌∷◌, length, Option, None, Some, int_lt, unwrap_or, filter, Result, Ok, Err, MatchOption, map, Contains, ◌↔◌}
+use Rattle.std.specs.Prelude.{Bool, true, false, ◌&&◌, ◌==◌, nat_le, is_none, if◌then◌else◌, ◌≡◌, ◌<◌, ◌≤◌, ◌+◌, ◌++◌, slice_get, slice_set, insert, ℕ, List, [], ◌∷◌, length, Option, None, Some, int_lt, unwrap_or, filter, Result, Ok, Err, MatchOption, map, Contains, ◌↔◌}
 use Rattle.std.specs.BTreeMap.{insert_entry, is_at}
 use Rattle.std.specs.List.{AllByRecursion, IsDistinct}
 pub use Rattle.indexmap.specs.IndexMap.{insert_entry as put_entry}
@@ -11,7 +11,7 @@ use Rattle.std.specs.Option.{option_map}
 use Rattle.std.specs.Map.{keys_of, lookup}
 use Rattle.std.specs.Ordering.{int_cmp, int_eq, on}
 use Rattle.std.specs.declared.cmp.Ordering.{Ordering}
-use Rattle.label_set.specs.Labels.{labels_cmp}
+use Rattle.label_set.specs.Labels.{IsLabelSet, labels_cmp}
 use Rattle.label_set.specs.declared.rules.Rule.{Rule}
 use Rattle.match_rule.specs.Patterns.{labels_pass}
 use Rattle.sample_store.specs.declared.refusal.StoreRefusal.{StoreRefusal}
@@ -45,9 +45,10 @@ abbrev pub sample_count : AllSeries → ℕ
 sample_count [] = 0
 sample_count (s ∷ series) = length s.1 + sample_count series
 
--- series in the order of their first samples: no two have equal labels, the times of each rise, the limits are kept, and
--- the samples are counted
+-- series in the order of their first samples: the labels of each are a label set, no two have equal labels, the times of each
+-- rise, the limits are kept, and the samples are counted
 pub record IsStore (series : AllSeries) (samples : ℕ) : Type 0 where
+  pub labelled : AllByRecursion (λ s. IsLabelSet s.0) series
   pub distinct : IsDistinct labels_eq (keys_of series)
   pub rising : AllByRecursion (λ s. IsRising s.1) series
   pub counted : samples ≡ sample_count series
@@ -157,6 +158,10 @@ passing kept rules number (s ∷ series) =
 abbrev pub labels_at : AllSeries → ℕ → Names
 labels_at series s = unwrap_or (option_map (λ (one : Names × Samples). one.0) (slice_get series s)) []
 
+-- the samples of the series with a number, none where there is no such series
+abbrev pub samples_at : AllSeries → ℕ → Samples
+samples_at series s = unwrap_or (option_map (λ (one : Names × Samples). one.1) (slice_get series s)) []
+
 -- a series with these labels has this number
 abbrev pub IsNumberOf : AllSeries → Names → ℕ → Type 0
 IsNumberOf series names s = (s < length series) × (labels_at series s ≡ names)
@@ -194,3 +199,7 @@ pub record IsInOrder (pairs : List (Names × ℕ)) (places : List ℕ) : Type 0 
 pub record Between : Type 0 where
   pub before : Samples
   pub rest : Samples
+
+-- a sample is the last of some
+abbrev pub EndsWith : Samples → Ms × Held → Type 0
+EndsWith samples sample = (front : Samples) × (samples ≡ front ++ sample ∷ [])

@@ -1,6 +1,7 @@
 ghost use Rattle.match_rule.specs.Patterns.{HaveTheirPatterns};
-ghost use Rattle.sample_store.specs.Samples.{Appends, IsFoundAt, IsNumberOf, IsRising, IsSelected, Names, PutsAt, Samples, chosen, held_in, labels_at, later_than, looked_at, refusal_of, sample_count, samples_of, with_sample};
+ghost use Rattle.sample_store.specs.Samples.{Appends, IsFoundAt, IsNumberOf, IsRising, IsSelected, Names, PutsAt, Samples, chosen, held_in, labels_at, later_than, looked_at, samples_at, refusal_of, sample_count, samples_of, with_sample};
 ghost use Rattle.label_set.specs.LabelEquality.{labels_eq};
+ghost use Rattle.label_set.specs.Labels.{IsLabelSet};
 ghost use Rattle.std.specs.Map.{keys_of, lookup};
 ghost use Rattle.std.specs.List.{AllByRecursion, IsDistinct, filter_map};
 ghost use Rattle.std.specs.Option.{option_map};
@@ -74,6 +75,7 @@ impl Store {
     pub fn series(&self) -> u32
         ensures count { result ≡ length self.now }
         ensures few { result ≤ 100000 }
+        ensures labelled { AllByRecursion (λ (s : Names × Samples). IsLabelSet s.0) self.now }
         ensures distinct { IsDistinct labels_eq (keys_of self.now) }
         ensures rising { AllByRecursion (λ (s : Names × Samples). IsRising s.1) self.now }
     {
@@ -89,9 +91,11 @@ impl Store {
     }
 
     /// The labels of a series. It takes no memory.
+    #[tactic(auto, using(crate::proofs::Stores::total_labels))]
     pub fn labels(&self, s: u32) -> &Labels
         requires { s < length self.now }
-        ensures { option_map (λ one. one.0) (slice_get self.now s) ≡ Some result.now }
+        ensures there { option_map (λ one. one.0) (slice_get self.now s) ≡ Some result.now }
+        ensures named { result.now ≡ labels_at self.now s }
     {
         key_at(&self.series, s as usize)
     }
@@ -132,12 +136,15 @@ impl Store {
 
     /// A cursor before the samples of a series that are later than a time. It takes no memory, and looks at no more than
     /// 64 times.
-    #[tactic(auto, using(crate::proofs::Stores::few_there, crate::proofs::Stores::rising_there, crate::proofs::Stores::rising_later))]
+    #[tactic(auto, using(crate::proofs::Stores::few_there, crate::proofs::Stores::rising_there, crate::proofs::Stores::rising_later, crate::proofs::Stores::total_later, crate::proofs::Stores::total_rising, crate::proofs::Stores::total_whole))]
     pub fn seek<W: Ledger>(&self, s: u32, after: Ms, work: &mut Work<W>) -> Cursor<'_>
         requires { s < length self.now }
         ensures whole { (one : Names × Samples) → slice_get self.now s ≡ Some one → result.before ++ result.rest ≡ one.1 }
         ensures later { (one : Names × Samples) → slice_get self.now s ≡ Some one → result.rest ≡ later_than after one.1 }
+        ensures stands { result.before ++ result.rest ≡ samples_at self.now s }
+        ensures ahead { result.rest ≡ later_than after (samples_at self.now s) }
         ensures rising { IsRising result.rest }
+        ensures sorted { IsRising (samples_at self.now s) }
         ensures probed { work.new.probed ≤ work.old.probed + 64 }
         ensures fetched { work.new.fetched ≡ work.old.fetched }
         ensures tested { work.new.tested ≡ work.old.tested }
@@ -146,11 +153,12 @@ impl Store {
     }
 
     /// The cursor of a series before which so many samples lie. It takes no memory, shows no sample and counts nothing.
-    #[tactic(auto, using(crate::proofs::Stores::few_there))]
+    #[tactic(auto, using(crate::proofs::Stores::few_there, crate::proofs::Stores::total_whole))]
     pub fn resume(&self, s: u32, place: u32) -> Cursor<'_>
         requires there { s < length self.now }
         requires within { (one : Names × Samples) → slice_get self.now s ≡ Some one → place ≤ length one.1 }
         ensures whole { (one : Names × Samples) → slice_get self.now s ≡ Some one → result.before ++ result.rest ≡ one.1 }
+        ensures stands { result.before ++ result.rest ≡ samples_at self.now s }
         ensures place { length result.before ≡ place }
     {
         samples_at(&self.series, s as usize).resume(place)
@@ -294,8 +302,11 @@ fn one_sample(
     at: Ms,
     held: &Held,
 ) -> Result<(Labels, Timeline), AllocError>
-    ensures { IfOk result (λ one. one ≡ (labels.now, (at, held.now) ∷ [])) }
+    ensures one { IfOk result (λ one. one ≡ (labels.now, (at, held.now) ∷ [])) }
+    ensures labelled { IsLabelSet labels.now }
 {
+    // Where their number is told, it is told too what labels are.
+    let _ = labels.len();
     let mut samples = Timeline::new(alloc);
     match samples.put(at, held, 0) {
         Err(_) => Err(AllocError),
