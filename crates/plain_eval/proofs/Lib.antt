@@ -3,6 +3,7 @@ pub mod Completed
 pub mod Children
 pub mod Framed
 pub mod Keeping
+pub mod Latest
 pub mod Literals
 pub mod Meanings
 pub mod Newest

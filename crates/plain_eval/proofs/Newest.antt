@@ -19,7 +19,7 @@ use Rattle.ticks.specs.declared.moment.Ms.{Ms}
 use Rattle.xfrac.specs.declared.value.Held.{Held}
 use Rattle.xfrac.specs.declared.value.XFrac.{XFrac}
 use Rattle.promql_meaning.specs.Selecting.{between, by_labels as meant_by_labels, fresh_sample, passing}
-use Rattle.plain_eval.specs.Numbered.{fresh_until, last_until, until}
+use Rattle.plain_eval.specs.Numbered.{fresh_until, until}
 
 -- ---- the samples up to a time
 
@@ -28,15 +28,15 @@ abbrev pub front_until : ℤ → Samples → Samples
 front_until m [] = []
 front_until m (s ∷ samples) = if int_lt m s.0.0 then [] else s ∷ front_until m samples
 
-later_less : (a b : ℤ) → int_cmp a b ≡ Less → (m : ℤ) → int_lt m a ≡ true → int_lt m b ≡ true
+pub later_less : (a b : ℤ) → int_cmp a b ≡ Less → (m : ℤ) → int_lt m a ≡ true → int_lt m b ≡ true
 later_less a b less m later = let h : a <ℤ b = int_ranked a b Less (sym less) in grind (arith, ints, h, later)
 
-rising_tail : (s : Ms × Held) (samples : Samples) → IsRising (s ∷ samples) → IsRising samples
+pub rising_tail : (s : Ms × Held) (samples : Samples) → IsRising (s ∷ samples) → IsRising samples
 unfolding IsStrictlySortedBy
 rising_tail s samples rising = rising.1
 
 -- behind a later sample all are later
-none_until : (m : ℤ) (s : Ms × Held) (samples : Samples) → IsRising (s ∷ samples) → int_lt m s.0.0 ≡ true → until m samples ≡ []
+pub none_until : (m : ℤ) (s : Ms × Held) (samples : Samples) → IsRising (s ∷ samples) → int_lt m s.0.0 ≡ true → until m samples ≡ []
 unfolding IsStrictlySortedBy
 none_until m s [] rising later = refl
 none_until m s (next ∷ samples) rising later =
@@ -63,28 +63,6 @@ stops m time s samples rest is here later =
     let h : int_lt m s.0.0 ≡ true = past m time s.0.0 here later in
     rw (is, h) refl
 
--- ---- the last one
-
--- the last of samples up to a time, behind samples whose last is this
-abbrev pub last_behind : ℤ → Samples → Option (Ms × XFrac) → Option (Ms × XFrac)
-last_behind m [] last = last
-last_behind m (s ∷ samples) last = if int_lt m s.0.0 then last else last_behind m samples (fresh_sample s)
-
-last_of_front : (m : ℤ) (samples : Samples) (d : Option (Ms × Held)) → last_behind m samples (option_and_then fresh_sample d) ≡ option_and_then fresh_sample (last_or d (front_until m samples))
-last_of_front m [] d = refl
-last_of_front m (s ∷ samples) d =
-    elim (int_lt m s.0.0) as (λ b. (if b then option_and_then fresh_sample d else last_behind m samples (fresh_sample s))
-    ≡ option_and_then fresh_sample (last_or d (if b then [] else s ∷ front_until m samples)))
-    [ true ↦ refl | false ↦ last_of_front m samples (Some s) ]
-
-pub lasts : (m : ℤ) (samples : Samples) → IsRising samples → last_behind m samples None ≡ last_until m samples
-lasts m samples rising = last_of_front m samples None ∙ ap (λ ss. option_and_then fresh_sample (last_or None ss)) (fronts m samples rising)
-
-pub last_stops : (m time : ℤ) (s : Ms × Held) (samples rest : Samples) (last : Option (Ms × XFrac)) → samples ≡ s ∷ rest → s.0.0 ≡ time → m <ℤ time → last_behind m samples last ≡ last
-last_stops m time s samples rest last is here later =
-    let h : int_lt m s.0.0 ≡ true = past m time s.0.0 here later in
-    rw (is, h) refl
-
 -- ---- the samples that are no markers
 
 -- what has been read, where no sample up to the time is left
@@ -94,7 +72,7 @@ closes m read rest all none told rising =
 
 -- ---- a range
 
-le_not : (a b : ℤ) → int_le a b ≡ not (int_lt b a)
+pub le_not : (a b : ℤ) → int_le a b ≡ not (int_lt b a)
 le_not a b = elim (int_lt b a) as (λ c. int_lt b a ≡ c → int_le a b ≡ not c) [
   | true ↦ λ h. grind (arith, ints, h)
   | false ↦ λ h. grind (arith, ints, h)

@@ -1,6 +1,6 @@
 -- The rows of series by their numbers. (Our own.)
 use Rattle.std.specs.Prelude.{ℕ, ℤ, Bool, not, List, Option, None, slice_get, int_lt, filter}
-use Rattle.std.specs.List.{filter_map, last_or}
+use Rattle.std.specs.List.{filter_map}
 use Rattle.std.specs.Option.{option_and_then}
 use Rattle.ticks.specs.declared.moment.Ms.{Ms}
 use Rattle.xfrac.specs.declared.value.Held.{Held}
@@ -13,10 +13,7 @@ use Rattle.promql_meaning.specs.declared.given.WindowRow.{WindowRow}
 abbrev pub until : ℤ → Samples → Samples
 until m samples = filter (λ (s : Ms × Held). not (int_lt m s.0.0)) samples
 
--- the last of them, unless that is a marker of staleness, and those that are no markers
-abbrev pub last_until : ℤ → Samples → Option (Ms × XFrac)
-last_until m samples = option_and_then fresh_sample (last_or None (until m samples))
-
+-- those of them that are no markers of staleness
 abbrev pub fresh_until : ℤ → Samples → List (Ms × XFrac)
 fresh_until m samples = filter_map fresh_sample (until m samples)
 

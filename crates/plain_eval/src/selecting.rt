@@ -1,11 +1,11 @@
 //! What selectors give, read from the store.
 ghost use Rattle.match_rule.specs.Patterns.{HaveTheirPatterns};
-ghost use Rattle.plain_eval.specs.Numbered.{fresh_until, last_until, row_numbered, window_numbered};
+ghost use Rattle.plain_eval.specs.Numbered.{fresh_until, row_numbered, window_numbered};
 ghost use Rattle.promql_meaning.specs.Selecting.{base_of, fresh as fresh_value, fresh_sample, lookback, newest, newest_row, passing, series_window, window};
 ghost use Rattle.sample_store.specs.Samples.{IsRising, Names, Samples};
 ghost use Rattle.std.specs.List.{filter_map};
-ghost use Rattle.std.specs.Option.{option_to_list};
-ghost use Rattle.std.specs.Prelude.{◌≡◌, ◌<◌, ◌++◌, ◌-ℤ◌, Some, length, slice_get, IfOk, OnOk};
+ghost use Rattle.std.specs.Option.{option_and_then, option_to_list};
+ghost use Rattle.std.specs.Prelude.{◌≡◌, ◌<◌, ◌≤◌, ◌+◌, ◌++◌, ◌-ℤ◌, None, Some, if◌then◌else◌, int_lt, length, slice_get, IfOk, OnOk};
 ghost use Rattle.ticks.specs.Edges.{before};
 ghost use Rattle.ticks.specs.Walks.{IsTime};
 
@@ -65,20 +65,15 @@ fn fresh_at(time: Ms, held: &Held) -> Option<(Ms, XFrac)>
     }
 }
 
-/// The last of the samples up to a time that come from a cursor, unless that is a marker of staleness.
-fn last_until<W: Ledger>(cursor: Cursor<'_>, m: Ms, work: &mut Work<W>) -> Option<(Ms, XFrac)>
-    requires { IsRising cursor.rest }
-    ensures { result ≡ last_until m.0 cursor.entry.rest }
+/// A sample that is later than a time, unless it is a marker of staleness.
+fn fresh_behind(edge: Ms, time: Ms, held: &Held) -> Option<(Ms, XFrac)>
+    ensures { result ≡ option_and_then fresh_sample (if int_lt edge.0 time.0 then Some (time, held.now) else None) }
 {
-    let mut ahead = cursor;
-    let mut last = None;
-    while let Some((time, held)) = ahead.next(work) {
-        if time.0 > m.0 {
-            return last;
-        }
-        last = fresh_at(time, held);
+    if edge.0 < time.0 {
+        fresh_at(time, held)
+    } else {
+        None
     }
-    last
 }
 
 /// The last time before a range that ends at a moment.
@@ -89,7 +84,7 @@ fn before_range(m: Ms, range: Ms, closed: bool) -> Ms
     last_before(earlier(m, range), closed)
 }
 
-/// The newest sample of a series at a moment.
+/// The newest sample of a series at a moment; one sample at most is fetched.
 fn newest<W: Ledger>(
     store: &Store,
     s: u32,
@@ -99,10 +94,14 @@ fn newest<W: Ledger>(
 ) -> Option<(Ms, XFrac)>
     requires there { s < length store.now }
     requires edge { IsTime (m.0 -ℤ lookback) }
-    ensures { (one : Names × Samples) → slice_get store.now s ≡ Some one → result ≡ newest closed m.0 one.1 }
+    ensures newest { (one : Names × Samples) → slice_get store.now s ≡ Some one → result ≡ newest closed m.0 one.1 }
+    ensures fetched { work.new.fetched ≤ work.old.fetched + 1 }
 {
-    let cursor = store.seek(s, before_range(m, LOOKBACK, closed), work);
-    last_until(cursor, m, work)
+    let cursor = store.seek(s, m, work);
+    match cursor.previous(work) {
+        Some((time, held)) => fresh_behind(before_range(m, LOOKBACK, closed), time, held),
+        None => None,
+    }
 }
 
 /// The row of a series at a moment, if it has a newest value.
