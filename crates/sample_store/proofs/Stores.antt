@@ -370,7 +370,7 @@ one-there series i samples h = by (slice_get series i) refl h
     by None e h = absurd (cc)
     by (Some one) e h = let f : one.1 ≡ samples = cc in (one.0, e ∙ (λ j. Some (one.0, f j)))
 
-below-count : (series : AllSeries) (i : ℕ) (names : Names) (samples : Samples) → slice_get series i ≡ Some (names, samples) → length samples ≤ sample_count series
+pub below-count : (series : AllSeries) (i : ℕ) (names : Names) (samples : Samples) → slice_get series i ≡ Some (names, samples) → length samples ≤ sample_count series
 below-count [] i names samples h = absurd (cc)
 below-count (x ∷ xs) zero names samples h = let e : length x.1 ≡ length samples = (let f : x ≡ (names, samples) = cc in ap (λ (z : Names × Samples). length z.1) f) in omega (arith, e)
 below-count (x ∷ xs) (suc i) names samples h = let g = below-count xs i names samples h in omega (arith, g)

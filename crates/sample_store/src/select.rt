@@ -49,6 +49,9 @@ fn passing_of<'a, W: Ledger>(
 fn in_order(alloc: Global, mut found: Vec<(&Labels, u32)>) -> Result<Items<u32>, AllocError>
     ensures { IfOk result (IsInOrder (map (λ (p : Bor Names × ℕ). (p.0.now, p.1)) found.entry.items)) }
 {
+    if found.len() < 2 {
+        return numbers_of(alloc, found.as_slice());
+    }
     found.sort_unstable();
     numbers_of(alloc, found.as_slice())
 }

@@ -274,6 +274,7 @@ fn put_at(
 ) -> Result<u32, StoreRefusal>
     requires within { place < length series.old.entries }
     requires rising { AllByRecursion (λ (s : Names × Samples). IsRising s.1) series.old.entries }
+    requires counted { count ≡ sample_count series.old.entries }
     requires few { count ≤ 2000000 }
     ensures { PutsAt series.old.entries series.new.entries place at held.now count result }
 {
