@@ -11,7 +11,7 @@ use crate::timeline::Timeline;
 use holders::Items;
 use indexmap::IndexMap;
 use label_set::{Labels, Rule};
-use match_rule::{Patterns, RuleMatchers};
+use match_rule::{Patterns, labels_pass};
 use std::alloc::{AllocError, Global};
 use std::sync::ledger::Ledger;
 use ticks::Work;
@@ -21,22 +21,25 @@ use ticks::Work;
 fn passing_of<'a, W: Ledger>(
     alloc: Global,
     series: &'a IndexMap<Labels, Timeline>,
-    matchers: &mut RuleMatchers<'_>,
+    rules: &[Rule],
+    patterns: &mut Patterns,
     work: &mut Work<W>,
 ) -> Result<Vec<(&'a Labels, u32)>, AllocError>
+    requires rules { HaveTheirPatterns patterns.old rules.now }
     requires few { length series.now.entries ≤ 100000 }
-    ensures found { IfOk result (λ v. map (λ (p : Bor Names × ℕ). (p.0.now, p.1)) v.items ≡ passing matchers.old.patterns matchers.old.tests 0 series.now.entries) }
+    ensures found { IfOk result (λ v. map (λ (p : Bor Names × ℕ). (p.0.now, p.1)) v.items ≡ passing patterns.old rules.now 0 series.now.entries) }
     ensures tested { IfOk result (λ _. work.new.tested ≡ work.old.tested + length series.now.entries) }
     ensures tested_more { work.old.tested ≤ work.new.tested }
     ensures tested_most { work.new.tested ≤ work.old.tested + length series.now.entries }
     ensures fetched { work.new.fetched ≡ work.old.fetched }
     ensures probed { work.new.probed ≡ work.old.probed }
+    ensures same { patterns.new ≡ patterns.old }
 {
     let mut found = Vec::new(alloc);
     for place in 0..series.len() {
         work.test();
         let names = key_at(series, place);
-        if !matchers.passes(names) {
+        if !labels_pass(rules, patterns, names)? {
             continue;
         }
         found.push((names, place as u32))?;
@@ -72,19 +75,19 @@ pub fn places_of<W: Ledger>(
     alloc: Global,
     series: &IndexMap<Labels, Timeline>,
     rules: &[Rule],
-    patterns: &Patterns,
+    patterns: &mut Patterns,
     work: &mut Work<W>,
 ) -> Result<Items<u32>, AllocError>
-    requires rules { HaveTheirPatterns patterns.now rules.now }
+    requires rules { HaveTheirPatterns patterns.old rules.now }
     requires few { length series.now.entries ≤ 100000 }
     requires distinct { IsDistinct labels_eq (keys_of series.now.entries) }
-    ensures selected { IfOk result (IsSelected patterns.now rules.now series.now.entries) }
+    ensures selected { IfOk result (IsSelected patterns.old rules.now series.now.entries) }
     ensures tested { IfOk result (λ _. work.new.tested ≡ work.old.tested + looked_at rules.now series.now.entries) }
     ensures tested_most { work.new.tested ≤ work.old.tested + looked_at rules.now series.now.entries }
     ensures fetched { work.new.fetched ≡ work.old.fetched }
     ensures probed { work.new.probed ≡ work.old.probed }
+    ensures same { patterns.new ≡ patterns.old }
 {
-    let mut matchers = RuleMatchers::of(alloc, rules, patterns)?;
-    let found = passing_of(alloc, series, &mut matchers, work)?;
+    let found = passing_of(alloc, series, rules, patterns, work)?;
     in_order(alloc, found)
 }
