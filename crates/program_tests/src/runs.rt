@@ -5,7 +5,7 @@ ghost use Rattle.std.specs.Prelude.{◌≡◌, ◌<◌, ◌^◌, [], length, IfO
 use edge_io::MemSink;
 use frac_text::write_number;
 use holders::{Items, Text};
-use match_rule::Patterns;
+use match_rule::{PatternRoom, Patterns};
 use promql_meaning::{Answer, Outcome};
 use query_engine::Options;
 use script_check::{append_outcome, scripts_keep_their_patterns};
@@ -259,7 +259,8 @@ fn row_runs_so(alloc: Global, row: &str) -> Result<bool, Fail> {
     let mut written = Vec::new(alloc);
     push_lines(&mut written, fields.next().unwrap_or(""), b';')?;
     let fails = fields.next().unwrap_or("").parse::<u32>()?;
-    let mut searches = Patterns::new(alloc);
+    let mut room = PatternRoom::new(alloc)?;
+    let mut searches = Patterns::new(alloc, &mut room);
     let script = script_of(alloc, fields.next().unwrap_or(""), &mut searches)?;
     let mut out = sink_of(alloc, fails)?;
     let ended = run_script(alloc, &script, &mut searches, &mut out);
@@ -273,7 +274,8 @@ fn row_answers_so(alloc: Global, row: &str) -> Result<bool, Fail> {
     let told = fields.next().unwrap_or("");
     let when = grid_of(fields.next().unwrap_or(""))?;
     let query = fields.next().unwrap_or("");
-    let mut searches = Patterns::new(alloc);
+    let mut room = PatternRoom::new(alloc)?;
+    let mut searches = Patterns::new(alloc, &mut room);
     let script = script_of(alloc, fields.next().unwrap_or(""), &mut searches)?;
     let answered = answer_query(alloc, &script, query, &when);
     Ok(outcome_text(alloc, &answered)?.as_slice() == told.as_bytes())

@@ -10,7 +10,7 @@ ghost use Rattle.std.specs.Prelude.{◌≡◌, ◌≤◌, ◌<◌, ◌^◌, leng
 use crate::fault::{Refusal, Stop};
 use crate::fetch::{File, fetch_file, read_script};
 use edge_io::{Library, Sink, SinkFail};
-use match_rule::Patterns;
+use match_rule::{PatternRoom, Patterns};
 use query_engine::Options;
 use script_read::{ReadFault, Script};
 use std::alloc::Global;
@@ -77,7 +77,8 @@ pub fn run_bytes<S: Sink, W: Ledger>(
     ensures sound { S.sound out.old → S.sound out.new }
     ensures never { S.sound out.old → IsErrOf result SinkFail.Failed → ⊥ }
 {
-    let mut searches = Patterns::new(alloc);
+    let mut room = PatternRoom::new(alloc)?;
+    let mut searches = Patterns::new(alloc, &mut room);
     match read_script(alloc, bytes, &mut searches) {
         Ok(script) => run_script(alloc, path, &script, &mut searches, options, out, work),
         Err(ReadFault::Refused(refusal)) => Ok(refused(Refusal::Script(refusal))),

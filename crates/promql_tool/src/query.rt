@@ -12,7 +12,7 @@ use crate::fetch::{File, fetch_file, read_script};
 use crate::print::{Status, print_outcome, print_stop};
 use crate::text::note_lines;
 use edge_io::{Library, Sink, SinkFail};
-use match_rule::Patterns;
+use match_rule::{PatternRoom, Patterns};
 use promql_meaning::Outcome;
 use query_engine::Options;
 use script_read::{ReadFault, Script};
@@ -78,7 +78,8 @@ fn answer_bytes<W: Ledger>(
 ) -> Result<Answered, AllocError>
     ensures { (path : List ℕ) → IfOk result (AnswersFile question.entry.options.now.closed (Just bytes.now) path question.entry.expr.now question.entry.grid.now question.entry.instant (work.new ≡ work.old)) }
 {
-    let mut searches = Patterns::new(alloc);
+    let mut room = PatternRoom::new(alloc)?;
+    let mut searches = Patterns::new(alloc, &mut room);
     match read_script(alloc, bytes, &mut searches) {
         Ok(script) => answer_script(alloc, &script, question, work),
         Err(ReadFault::Refused(refusal)) => Ok(refused(Refusal::Script(refusal))),

@@ -5,7 +5,7 @@ ghost use Rattle.query_engine.specs.Evaluating.{ComesTo, IsRefused, IsRefusedWit
 ghost use Rattle.query_engine.specs.Readiness.{IsReadyTree};
 ghost use Rattle.std.specs.Prelude.{◌≡◌, [], IfErr, IfOk};
 
-use match_rule::Patterns;
+use match_rule::{PatternRoom, Patterns};
 use plain_eval::{checked_patterns_are_kept, range};
 use promql_lex::LexFault;
 use promql_meaning::Outcome;
@@ -62,7 +62,8 @@ pub fn evaluate<W: Ledger>(
 {
     needs_are_met();
     checked_patterns_are_kept();
-    let mut patterns = Patterns::new(alloc);
+    let mut room = PatternRoom::new(alloc)?;
+    let mut patterns = Patterns::new(alloc, &mut room);
     match typed_tree(alloc, text, options.closed, &mut patterns) {
         Ok(typed) => range(alloc, &typed, store, &mut patterns, grid, instant, work),
         Err(TypeFault::Refused(refusal)) => Ok(Outcome::Refused(refusal)),

@@ -1,6 +1,6 @@
 use frac_text::write_number;
 use label_set::Items;
-use match_rule::Patterns;
+use match_rule::{PatternRoom, Patterns};
 use script_read::{Command, Expectations, Expected, ReadFault, Script, Wanted, What, read};
 use std::alloc::{AllocError, Global};
 use std::test::Fail;
@@ -168,7 +168,8 @@ fn push_script(out: &mut Vec<u8>, alloc: Global, script: &Script) -> Result<(), 
 
 /// What a file says, as the tables write it.
 fn told(alloc: Global, bytes: &[u8]) -> Result<Vec<u8>, AllocError> {
-    let mut searches = Patterns::new(alloc);
+    let mut room = PatternRoom::new(alloc)?;
+    let mut searches = Patterns::new(alloc, &mut room);
     let mut out = Vec::new(alloc);
     match read(alloc, bytes, &mut searches) {
         Ok(script) => push_script(&mut out, alloc, &script)?,

@@ -4,7 +4,7 @@ ghost use Rattle.std.specs.Prelude.{IfOk};
 
 use frac_text::write_number;
 use label_set::{Items, Labels};
-use match_rule::Patterns;
+use match_rule::{PatternRoom, Patterns};
 use promql_ast::QueryRefusal;
 use promql_meaning::{Answer, Outcome, Point, ResultSeries};
 use script_check::{Reason, Verdict, append_outcome, judge, scripts_keep_their_patterns};
@@ -74,7 +74,8 @@ fn first_expectations(script: &Script) -> Result<Expectations, Fail>
 
 /// The series of lines, in a range of which 1 s is one step.
 fn series(alloc: Global, range: &str, lines: &str) -> Result<Items<ResultSeries>, Fail> {
-    let mut searches = Patterns::new(alloc);
+    let mut room = PatternRoom::new(alloc)?;
+    let mut searches = Patterns::new(alloc, &mut room);
     let read = expectations(alloc, range, lines, &mut searches)?;
     match &read.result {
         Expected::Rows(rows) => Ok(rows.copy()?),
@@ -191,7 +192,8 @@ fn judged(alloc: Global, lines: &str, got: &str) -> Result<Vec<u8>, Fail> {
     } else {
         ("range from 0 to 2 step 1", "range from 0 to 2 step 1")
     };
-    let mut searches = Patterns::new(alloc);
+    let mut room = PatternRoom::new(alloc)?;
+    let mut searches = Patterns::new(alloc, &mut room);
     let expected = expectations(alloc, heading, lines, &mut searches)?;
     let got = outcome(alloc, range, got)?;
     let verdict = judge(alloc, &expected, instant, &got, &mut searches)?;
@@ -255,7 +257,8 @@ fn judges_40000_series(rt: HostRuntime) -> Result<(), Fail> {
         series: shuffled(alloc, 40_000, 17_389)?,
         notes: Items::new(alloc),
     });
-    let verdict = judge(alloc, &expected, true, &got, &mut Patterns::new(alloc))?;
+    let mut room = PatternRoom::new(alloc)?;
+    let verdict = judge(alloc, &expected, true, &got, &mut Patterns::new(alloc, &mut room))?;
     assert_eq!(rt; verdict, Verdict::Pass);
     Ok(())
 }

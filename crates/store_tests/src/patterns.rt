@@ -1,4 +1,4 @@
-ghost use Rattle.match_rule.specs.Patterns.{HasItsPattern, HaveTheirPatterns, IsWholeId};
+ghost use Rattle.match_rule.specs.Patterns.{HasItsPattern, IsWholeId};
 ghost use Rattle.std.specs.Prelude.{◌≡◌};
 
 use label_set::{Items, Labels, PatternId, Rule, RuleKind, Text};
@@ -47,7 +47,8 @@ fn spans_of(
 
 /// A row's answers, as its line has them.
 fn answers(alloc: Global, pattern: &str, value: &str) -> Result<String, PatternRefusal> {
-    let mut patterns = Patterns::new(alloc);
+    let mut room = PatternRoom::new(alloc)?;
+    let mut patterns = Patterns::new(alloc, &mut room);
     let id = patterns.whole(pattern)?;
     let whole = said(patterns.matches(id, value)?);
     let spans = spans_of(alloc, &mut patterns, id, value)?;
@@ -82,7 +83,8 @@ fn keep_many(patterns: &mut Patterns, alloc: Global, count: u32) -> Result<(), P
 
 #[test]
 fn there_are_32_patterns(rt: HostRuntime) -> Result<(), Fail> {
-    let mut patterns = Patterns::new(rt.alloc());
+    let mut room = PatternRoom::new(rt.alloc())?;
+    let mut patterns = Patterns::new(rt.alloc(), &mut room);
     for text in "( [a * a{2,1} (?P<n>".split(' ') {
         assert_eq!(rt; patterns.whole(text), Err(PatternRefusal::BadPattern));
         assert_eq!(rt; patterns.search(text), Err(PatternRefusal::BadPattern));
@@ -101,26 +103,13 @@ fn there_are_32_patterns(rt: HostRuntime) -> Result<(), Fail> {
     Ok(())
 }
 
-/// Whether labels pass rules that are made ready.
-fn pass_when_ready(
-    alloc: Global,
-    rules: &[Rule],
-    patterns: &Patterns,
-    labels: &Labels,
-) -> Result<bool, Memory>
-    requires { HaveTheirPatterns patterns.now rules.now }
-{
-    let mut matchers = RuleMatchers::of(alloc, rules, patterns)?;
-    Ok(matchers.passes(labels))
-}
-
 /// Whether labels pass one rule on `env`, by each of the ways to ask.
-fn pass_all_ways(
+fn pass_both_ways(
     alloc: Global,
     kind: RuleKind,
     patterns: &mut Patterns,
     labels: &Labels,
-) -> Result<(bool, bool, bool), Memory>
+) -> Result<(bool, bool), Memory>
     requires { HasItsPattern patterns.old kind }
     ensures { patterns.new ≡ patterns.old }
 {
@@ -132,8 +121,7 @@ fn pass_all_ways(
     let mut rules = Items::new(alloc);
     rules.push(rule)?;
     let second = labels_pass(rules.as_slice(), patterns, labels)?;
-    let third = pass_when_ready(alloc, rules.as_slice(), patterns, labels)?;
-    Ok((first, second, third))
+    Ok((first, second))
 }
 
 /// Whether a pattern's rule passes, and the rule against it.
@@ -141,11 +129,12 @@ fn pattern_passes(
     alloc: Global,
     text: &str,
     labels: &Labels,
-) -> Result<((bool, bool, bool), (bool, bool, bool)), PatternRefusal> {
-    let mut patterns = Patterns::new(alloc);
+) -> Result<((bool, bool), (bool, bool)), PatternRefusal> {
+    let mut room = PatternRoom::new(alloc)?;
+    let mut patterns = Patterns::new(alloc, &mut room);
     let id = patterns.whole(text)?;
-    let matching = pass_all_ways(alloc, RuleKind::Re(id), &mut patterns, labels)?;
-    let unmatching = pass_all_ways(alloc, RuleKind::Nre(id), &mut patterns, labels)?;
+    let matching = pass_both_ways(alloc, RuleKind::Re(id), &mut patterns, labels)?;
+    let unmatching = pass_both_ways(alloc, RuleKind::Nre(id), &mut patterns, labels)?;
     Ok((matching, unmatching))
 }
 
@@ -158,7 +147,7 @@ fn labels_pass_rules(rt: HostRuntime) -> Result<(), Fail> {
         labels.put("env", unquoted(fields.next().unwrap_or("")))?;
         let got = pattern_passes(alloc, fields.next().unwrap_or(""), &labels)?;
         let on = fields.next() == Some("yes");
-        assert_eq!(rt; got, ((on, on, on), (!on, !on, !on)), "{row}");
+        assert_eq!(rt; got, ((on, on), (!on, !on)), "{row}");
     }
     Ok(())
 }
@@ -166,19 +155,20 @@ fn labels_pass_rules(rt: HostRuntime) -> Result<(), Fail> {
 #[test]
 fn equality_takes_the_whole_text(rt: HostRuntime) -> Result<(), Fail> {
     let alloc = rt.alloc();
-    let mut patterns = Patterns::new(alloc);
+    let mut room = PatternRoom::new(alloc)?;
+    let mut patterns = Patterns::new(alloc, &mut room);
     let mut labels = Labels::empty(alloc);
     labels.put("env", "prod")?;
     for (text, on) in [("prod", true), ("", false)] {
         let equal = RuleKind::Eq(Text::of(alloc, text)?);
         assert_eq!(rt;
-            pass_all_ways(alloc, equal, &mut patterns, &labels)?,
-            (on, on, on)
+            pass_both_ways(alloc, equal, &mut patterns, &labels)?,
+            (on, on)
         );
         let unequal = RuleKind::Ne(Text::of(alloc, text)?);
         assert_eq!(rt;
-            pass_all_ways(alloc, unequal, &mut patterns, &labels)?,
-            (!on, !on, !on)
+            pass_both_ways(alloc, unequal, &mut patterns, &labels)?,
+            (!on, !on)
         );
     }
     let id = patterns.search("(?i)up|x")?;

@@ -2,7 +2,7 @@ ghost use Rattle.std.specs.Prelude.{◌≡◌, IfOk};
 
 use holders::{Items, Text};
 use label_set::{LabelRefusal, Labels, Rule, RuleKind};
-use match_rule::{PatternRefusal, Patterns};
+use match_rule::{PatternRefusal, PatternRoom, Patterns};
 use sample_store::{Cursor, Store, StoreRefusal};
 use std::alloc::{AllocError, Global};
 use std::marker::Brand;
@@ -63,7 +63,8 @@ fn selected<W: Ledger>(
     pattern: &str,
     work: &mut Work<W>,
 ) -> Result<String, PatternRefusal> {
-    let mut patterns = Patterns::new(alloc);
+    let mut room = PatternRoom::new(alloc)?;
+    let mut patterns = Patterns::new(alloc, &mut room);
     let kind = RuleKind::Re(patterns.whole(pattern)?);
     let mut rules = Items::new(alloc);
     rules.push(Rule {
