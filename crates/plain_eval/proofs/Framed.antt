@@ -1,5 +1,5 @@
 -- The windows that a ready tree gives have their samples in their ranges.
-use Rattle.std.proofs.Common.{◌≡◌, ℕ, zero, suc, ◌<◌, ◌+◌, Bool, true, false, List, [], ◌∷◌, ◌++◌, map, drop, filter, refl, sym, subst, arith, add-one}
+use Rattle.std.proofs.Common.{◌≡◌, ℕ, zero, suc, ◌<◌, ◌+◌, Bool, true, false, List, [], ◌∷◌, ◌++◌, length, map, drop, filter, refl, sym, ap, subst, arith, add-one}
 use Rattle.std.specs.Prelude.{◌/◌, ◌%◌, ◌*◌, unsigned_abs, ℤ, pos, negsuc, ◌-ℤ◌, ◌+ℤ◌, ◌<ℤ◌, ◌≤ℤ◌, int_lt, int_le, ◌&&◌, if◌then◌else◌}
 use Rattle.std.specs.List.{All, AllByRecursion, cons_option, filter_map}
 use Rattle.std.specs.Int.{int_rem_euclid}
@@ -19,6 +19,7 @@ use Rattle.std.specs.Map.{values_of}
 use Rattle.step_table.specs.Groups.{Names, gathered, items_of, names_among}
 use Rattle.step_table.specs.declared.step.Row.{Row}
 use Rattle.step_table.specs.declared.step.Step.{Step}
+use Rattle.step_table.specs.declared.windows.WindowRow.{WindowRow}
 use Rattle.ticks.specs.Walks.{IsTime}
 use Rattle.ticks.specs.declared.moment.Ms.{Ms}
 use Rattle.window_fn.specs.Windows.{IsInFrame}
@@ -27,14 +28,13 @@ use Rattle.xfrac.specs.declared.value.Held.TheVariants.{Value, Stale}
 use Rattle.xfrac.specs.declared.value.XFrac.{XFrac}
 use Rattle.promql_meaning.specs.declared.given.Given.{Given}
 use Rattle.promql_meaning.specs.declared.given.Given.TheVariants.{Scalar, Vector, Selected, Windows, Words}
-use Rattle.promql_meaning.specs.declared.given.WindowRow.{WindowRow}
 use Rattle.promql_meaning.specs.declared.given.Windows.{Windows as WindowsRecord}
 use Rattle.promql_meaning.specs.Conditions.{AreMet, Need, needs_of, node_needs}
 use Rattle.promql_meaning.specs.Givens.{step_of}
 use Rattle.promql_meaning.specs.Subqueries.{as_times, gathered_windows, group_window, instants, instants_up_to, multiple_after, multiples, points_of, rows_over}
 use Rattle.promql_meaning.specs.Meaning.{argument, called, given_at, meaning, negation, node_meaning, operation}
 use Rattle.promql_meaning.specs.Ranges.{frame_of}
-use Rattle.promql_meaning.specs.Selecting.{Asked, Samples, between, fresh_sample, passing, moment_of, series_window, window, window_row}
+use Rattle.promql_meaning.specs.Selecting.{Asked, Samples, between, fresh_sample, passing, moment_of, sample_times, sample_values, series_window, window, window_row}
 use Rattle.step_rules.specs.Frames.{AreFramed}
 use Rattle.ticks.specs.Edges.{is_from}
 use Rattle.step_rules.specs.Instants.{IsIn, multiples_in}
@@ -67,13 +67,21 @@ between_in closed edge m (s ∷ samples) =
       | false ↦ λ h. between_in closed edge m samples
     ] refl
 
+times_in : (edge m : ℤ) (samples : List (Ms × XFrac)) → AllByRecursion (λ (x : Ms × XFrac). IsIn edge m x.0) samples → AllByRecursion (IsIn edge m) (sample_times samples)
+times_in edge m [] all = tt
+times_in edge m (s ∷ samples) all = (all.0, times_in edge m samples all.1)
+
+as_many : (samples : List (Ms × XFrac)) → length (sample_times samples) ≡ length (sample_values samples)
+as_many [] = refl
+as_many (s ∷ samples) = ap suc (as_many samples)
+
 abbrev RowIn : ℤ → ℤ → WindowRow → Type 0
-RowIn edge m row = AllByRecursion (λ (x : Ms × XFrac). IsIn edge m x.0) row.samples
+RowIn edge m row = AllByRecursion (IsIn edge m) row.times × (length row.times ≡ length row.values)
 
 row_in : (edge m : ℤ) (names : Names) (samples : List (Ms × XFrac)) (rest : List WindowRow) → AllByRecursion (λ (x : Ms × XFrac). IsIn edge m x.0) samples
     → AllByRecursion (RowIn edge m) rest → AllByRecursion (RowIn edge m) (cons_option (window_row names samples) rest)
 row_in edge m names [] rest all rows = rows
-row_in edge m names (s ∷ samples) rest all rows = (all, rows)
+row_in edge m names (s ∷ samples) rest all rows = ((times_in edge m (s ∷ samples) all, as_many (s ∷ samples)), rows)
 
 rows_in : (closed : Bool) (m range : ℤ) (series : List (Names × Samples)) → AllByRecursion (RowIn (m -ℤ range) m) (filter_map (series_window closed m range) series)
 rows_in closed m range [] = tt
@@ -82,24 +90,27 @@ rows_in closed m range (one ∷ series) =
 
 -- ---- frames
 
-in_frame : (frame_m range : ℤ) (samples : List (Ms × XFrac)) (t : ℤ) (P : Ms → Type 0) → ((u : Ms) → IsIn (frame_m -ℤ range) frame_m u → P u)
-    → AllByRecursion (λ (x : Ms × XFrac). IsIn (frame_m -ℤ range) frame_m x.0) samples → AllByRecursion (λ (x : Ms × XFrac). P x.0) samples
-in_frame m range [] t P turn all = tt
-in_frame m range (s ∷ samples) t P turn all = (turn s.0 all.0, in_frame m range samples t P turn all.1)
+in_frame : (edge m : ℤ) (times : List Ms) (P : Ms → Type 0) → ((u : Ms) → IsIn edge m u → P u) → AllByRecursion (IsIn edge m) times → AllByRecursion P times
+in_frame edge m [] P turn all = tt
+in_frame edge m (time ∷ times) P turn all = (turn time all.0, in_frame edge m times P turn all.1)
 
-rows_framed : (m range : ℤ) (rows : List WindowRow) (t : ℤ) (P : Ms → Type 0) → ((u : Ms) → IsIn (m -ℤ range) m u → P u)
-    → AllByRecursion (RowIn (m -ℤ range) m) rows → AllByRecursion (λ (row : WindowRow). All (λ (x : Ms × XFrac). P x.0) row.samples) rows
-rows_framed m range [] t P turn all = tt
-rows_framed m range (row ∷ rows) t P turn all =
-    (all_of (λ (x : Ms × XFrac). P x.0) row.samples (in_frame m range row.samples t P turn all.0), rows_framed m range rows t P turn all.1)
+rows_framed : (edge m : ℤ) (rows : List WindowRow) (P : Ms → Type 0) → ((u : Ms) → IsIn edge m u → P u)
+    → AllByRecursion (RowIn edge m) rows → AllByRecursion (λ (row : WindowRow). All P row.times) rows
+rows_framed edge m [] P turn all = tt
+rows_framed edge m (row ∷ rows) P turn all = (all_of P row.times (in_frame edge m row.times P turn all.0.0), rows_framed edge m rows P turn all.1)
+
+rows_beside : (edge m : ℤ) (rows : List WindowRow) → AllByRecursion (RowIn edge m) rows → AllByRecursion (λ (row : WindowRow). length row.times ≡ length row.values) rows
+rows_beside edge m [] all = tt
+rows_beside edge m (row ∷ rows) all = (all.0.1, rows_beside edge m rows all.1)
 
 -- windows whose samples lie in their range, where the instant and its ends are times
 pub framed_by : (t : ℤ) (windows : WindowsRecord) → IsTime t → IsTime windows.moment.0 → IsTime (windows.moment.0 -ℤ windows.range.0)
     → AllByRecursion (RowIn (windows.moment.0 -ℤ windows.range.0) windows.moment.0) windows.rows → AreFramed t windows
 framed_by t windows instant ends begins rows = record {
   frame = record { instant = instant; ends = ends; begins = begins };
-  rows = all_of (λ (row : WindowRow). All (λ (x : Ms × XFrac). IsInFrame (frame_of t windows) x.0) row.samples) windows.rows
-      (rows_framed windows.moment.0 windows.range.0 windows.rows t (IsInFrame (frame_of t windows)) (λ u is. record { from_start = is.0; to_end = is.1 }) rows);
+  rows = all_of (λ (row : WindowRow). All (IsInFrame (frame_of t windows)) row.times) windows.rows
+      (rows_framed (windows.moment.0 -ℤ windows.range.0) windows.moment.0 windows.rows (IsInFrame (frame_of t windows)) (λ u is. record { from_start = is.0; to_end = is.1 }) rows);
+  beside = all_of (λ (row : WindowRow). length row.times ≡ length row.values) windows.rows (rows_beside (windows.moment.0 -ℤ windows.range.0) windows.moment.0 windows.rows rows);
 }
 
 -- ---- what has no windows

@@ -1,10 +1,10 @@
 -- The samples of a range as they are read from its edge on, and the series as they are found by their numbers.
-use Rattle.std.proofs.Common.{◌≡◌, ℕ, ◌<◌, Bool, true, false, List, [], ◌∷◌, ◌++◌, length, filter, Option, None, Some, refl, sym, ap, ◌∙◌, arith, append-nil, get_or}
+use Rattle.std.proofs.Common.{◌≡◌, ℕ, ◌<◌, Bool, true, false, List, [], ◌∷◌, ◌++◌, length, filter, Option, None, Some, refl, sym, ap, ◌∙◌, arith, append_assoc, append-nil, get_or, map}
 use Rattle.std.specs.Prelude.{ℤ, ◌<ℤ◌, Contains, int_lt, int_le, not, slice_get, if◌then◌else◌, ◌&&◌}
 use Rattle.std.specs.BTreeMap.{insert_entry}
 use Rattle.std.specs.List.{AllByRecursion, cons_option, filter_map, last_or}
 use Rattle.std.specs.List.Sorted.{IsStrictlySortedBy}
-use Rattle.std.specs.Option.{option_and_then}
+use Rattle.std.specs.Option.{option_and_then, option_to_list}
 use Rattle.std.specs.Ordering.{int_cmp}
 use Rattle.std.specs.Cmp.{int_ranked}
 use Rattle.std.specs.declared.cmp.Ordering.TheVariants.{Less}
@@ -65,10 +65,29 @@ stops m time s samples rest is here later =
 
 -- ---- the samples that are no markers
 
--- what has been read, where no sample up to the time is left
-pub closes : (m : ℤ) (read : List (Ms × XFrac)) (rest all : Samples) → front_until m rest ≡ [] → read ++ filter_map fresh_sample (front_until m rest) ≡ filter_map fresh_sample (front_until m all) → IsRising all → read ≡ fresh_until m all
-closes m read rest all none told rising =
-    sym (append-nil read) ∙ ap (λ ss. read ++ filter_map fresh_sample ss) (sym none) ∙ told ∙ ap (filter_map fresh_sample) (fronts m all rising)
+-- a column of the samples that are read: their times or their values
+module _ {A : Type 0} (column : Ms × XFrac → A) where
+  -- what is still to be read
+  abbrev pub ahead : ℤ → Samples → List A
+  ahead m samples = map column (filter_map fresh_sample (front_until m samples))
+
+  -- what has been read, where no sample up to the time is left
+  pub closes : (m : ℤ) (read : List A) (rest all : Samples) → front_until m rest ≡ [] → read ++ ahead m rest ≡ ahead m all → IsRising all → read ≡ map column (fresh_until m all)
+  closes m read rest all none told rising =
+      sym (append-nil read) ∙ ap (λ ss. read ++ map column (filter_map fresh_sample ss)) (sym none) ∙ told ∙ ap (λ ss. map column (filter_map fresh_sample ss)) (fronts m all rising)
+
+  one_first : (o : Option (Ms × XFrac)) (rest : List (Ms × XFrac)) → map column (cons_option o rest) ≡ map column (option_to_list o) ++ map column rest
+  one_first None rest = refl
+  one_first (Some s) rest = refl
+
+  -- one sample more
+  pub read_more : (m : ℤ) (s : Ms × Held) (samples rest : Samples) (old new all : List A) → samples ≡ s ∷ rest → int_lt m s.0.0 ≡ false → new ≡ old ++ map column (option_to_list (fresh_sample s))
+      → old ++ ahead m samples ≡ all → new ++ ahead m rest ≡ all
+  read_more m s samples rest old new all is within made told =
+      let front : front_until m samples ≡ s ∷ front_until m rest = ap (front_until m) is ∙ ap (λ b. if b then [] else s ∷ front_until m rest) within in
+      ap (λ xs. xs ++ ahead m rest) made ∙ append_assoc old (map column (option_to_list (fresh_sample s))) (ahead m rest)
+      ∙ ap (λ xs. old ++ xs) (sym (one_first (fresh_sample s) (filter_map fresh_sample (front_until m rest))) ∙ ap (λ ss. map column (filter_map fresh_sample ss)) (sym front))
+      ∙ told
 
 -- ---- a range
 

@@ -2,12 +2,12 @@
 use Rattle.std.specs.Prelude.{ℕ, ℤ, Bool, not, List, Option, None, slice_get, int_lt, filter}
 use Rattle.std.specs.List.{filter_map}
 use Rattle.std.specs.Option.{option_and_then}
+use Rattle.step_table.specs.declared.windows.WindowRow.{WindowRow}
 use Rattle.ticks.specs.declared.moment.Ms.{Ms}
 use Rattle.xfrac.specs.declared.value.Held.{Held}
 use Rattle.xfrac.specs.declared.value.XFrac.{XFrac}
 use Rattle.promql_meaning.specs.Selecting.{AllSeries, Samples, fresh_sample, newest_row, series_window}
 use Rattle.promql_meaning.specs.declared.given.Stamped.{Stamped}
-use Rattle.promql_meaning.specs.declared.given.WindowRow.{WindowRow}
 
 -- the samples that are not later than a time
 abbrev pub until : ℤ → Samples → Samples

@@ -1,7 +1,7 @@
 //! What selectors give, read from the store.
 ghost use Rattle.match_rule.specs.Patterns.{HaveTheirPatterns};
 ghost use Rattle.plain_eval.specs.Numbered.{fresh_until, row_numbered, window_numbered};
-ghost use Rattle.promql_meaning.specs.Selecting.{base_of, fresh as fresh_value, fresh_sample, lookback, newest, newest_row, passing, series_window, window};
+ghost use Rattle.promql_meaning.specs.Selecting.{base_of, fresh as fresh_value, fresh_sample, lookback, newest, newest_row, passing, sample_times, sample_values, series_window, window};
 ghost use Rattle.sample_store.specs.Samples.{IsRising, Names, Samples};
 ghost use Rattle.std.specs.List.{filter_map};
 ghost use Rattle.std.specs.Option.{option_and_then, option_to_list};
@@ -12,11 +12,12 @@ ghost use Rattle.ticks.specs.Walks.{IsTime};
 use label_set::{Items, Rule};
 use match_rule::Patterns;
 use promql_ast::{Fixed, Moment};
-use promql_meaning::{Stamped, WindowRow};
+use promql_meaning::Stamped;
 use sample_store::{Cursor, Store};
 use std::alloc::{AllocError, Global};
 use std::sync::ledger::Ledger;
 use step_rules::{earlier, window_of};
+use step_table::WindowRow;
 use ticks::{Grid, Ms, Work, last_before};
 use xfrac::{Held, XFrac};
 
@@ -160,25 +161,50 @@ pub fn newest_rows<W: Ledger>(
     Ok(rows)
 }
 
+/// The times of samples, and their values beside them.
+#[derive(Drop)]
+struct Columns {
+    times: Items<Ms>,
+    values: Items<XFrac>,
+}
+
+/// Adds a sample that is no marker of staleness.
+fn add_sample(read: &mut Columns, time: Ms, held: &Held) -> Result<(), AllocError>
+    ensures times { OnOk result (read.new.times ≡ read.old.times ++ sample_times (option_to_list (fresh_sample (time, held.now)))) }
+    ensures values { OnOk result (read.new.values ≡ read.old.values ++ sample_values (option_to_list (fresh_sample (time, held.now)))) }
+{
+    match fresh(held) {
+        Some(value) => {
+            read.times.push(time)?;
+            read.values.push(value)
+        }
+        None => Ok(()),
+    }
+}
+
 /// The samples up to a time that are no markers of staleness, of those that come from a cursor.
 fn fresh_until<W: Ledger>(
     alloc: Global,
     cursor: Cursor<'_>,
     m: Ms,
     work: &mut Work<W>,
-) -> Result<Items<(Ms, XFrac)>, AllocError>
+) -> Result<Columns, AllocError>
     requires { IsRising cursor.rest }
-    ensures { IfOk result (λ samples. samples ≡ fresh_until m.0 cursor.entry.rest) }
+    ensures times { IfOk result (λ read. read.times ≡ sample_times (fresh_until m.0 cursor.entry.rest)) }
+    ensures values { IfOk result (λ read. read.values ≡ sample_values (fresh_until m.0 cursor.entry.rest)) }
 {
     let mut ahead = cursor;
-    let mut samples = Items::new(alloc);
+    let mut read = Columns {
+        times: Items::new(alloc),
+        values: Items::new(alloc),
+    };
     while let Some((time, held)) = ahead.next(work) {
         if time.0 > m.0 {
-            return Ok(samples);
+            return Ok(read);
         }
-        add_row(&mut samples, fresh_at(time, held))?;
+        add_sample(&mut read, time, held)?;
     }
-    Ok(samples)
+    Ok(read)
 }
 
 /// The window of a series, if it has a sample in it.
@@ -195,11 +221,11 @@ fn window_at<W: Ledger>(
     requires edge { IsTime (m.0 -ℤ range.0) }
     ensures { IfOk result (λ row. row ≡ window_numbered closed m.0 range.0 store.now s) }
 {
-    let samples = samples_at(alloc, store, s, range, m, closed, work)?;
-    if samples.as_slice().is_empty() {
+    let Columns { times, values } = samples_at(alloc, store, s, range, m, closed, work)?;
+    if values.as_slice().is_empty() {
         return Ok(None);
     }
-    Ok(window_of(store.labels(s).copy()?, samples))
+    Ok(window_of(store.labels(s).copy()?, times, values))
 }
 
 /// The samples of the window of a series.
@@ -211,10 +237,11 @@ fn samples_at<W: Ledger>(
     m: Ms,
     closed: bool,
     work: &mut Work<W>,
-) -> Result<Items<(Ms, XFrac)>, AllocError>
+) -> Result<Columns, AllocError>
     requires there { s < length store.now }
     requires edge { IsTime (m.0 -ℤ range.0) }
-    ensures { IfOk result (λ samples. (one : Names × Samples) → slice_get store.now s ≡ Some one → samples ≡ window closed m.0 range.0 one.1) }
+    ensures times { IfOk result (λ read. (one : Names × Samples) → slice_get store.now s ≡ Some one → read.times ≡ sample_times (window closed m.0 range.0 one.1)) }
+    ensures values { IfOk result (λ read. (one : Names × Samples) → slice_get store.now s ≡ Some one → read.values ≡ sample_values (window closed m.0 range.0 one.1)) }
 {
     let cursor = store.seek(s, before_range(m, range, closed), work);
     fresh_until(alloc, cursor, m, work)
