@@ -8,4 +8,6 @@ mod outside;
 #[cfg(test)]
 mod patterns;
 #[cfg(test)]
+mod places;
+#[cfg(test)]
 mod samples;
