@@ -1,5 +1,5 @@
 //! Instants a step apart, and the points of subqueries.
-ghost use Rattle.promql_meaning.specs.Selecting.{window_row};
+ghost use Rattle.promql_meaning.specs.Selecting.{sample_times, sample_values, window_row};
 ghost use Rattle.promql_meaning.specs.Subqueries.{as_times, first_multiple, gathered_windows, instants, instants_up_to, multiple_after, multiples};
 ghost use Rattle.step_table.specs.Timed.{timed};
 ghost use Rattle.std.specs.List.{AllByRecursion};
@@ -10,9 +10,9 @@ ghost use Rattle.ticks.specs.Grids.{step_count};
 ghost use Rattle.ticks.specs.Walks.{IsTime};
 
 use label_set::{Items, Labels};
-use promql_meaning::{WindowRow, Windows};
+use promql_meaning::Windows;
 use std::alloc::{AllocError, Global};
-use step_table::{Marks, Step, gather};
+use step_table::{Marks, Step, WindowRow, gather};
 use ticks::Ms;
 use xfrac::XFrac;
 
@@ -132,14 +132,35 @@ pub fn add_step(points: &mut Points, u: Ms, step: Step) -> Result<(), AllocError
     points.marks.unite(&marks)
 }
 
-/// Samples under their labels, if there are some.
-pub fn window_of(labels: Labels, samples: Items<(Ms, XFrac)>) -> Option<WindowRow>
-    ensures { result ≡ window_row labels samples }
+/// The times and values of samples under their labels, if there are some.
+pub fn window_of(labels: Labels, times: Items<Ms>, values: Items<XFrac>) -> Option<WindowRow>
+    ensures { (samples : _) → times ≡ sample_times samples → values ≡ sample_values samples → result ≡ window_row labels samples }
 {
-    if samples.as_slice().is_empty() {
+    if values.as_slice().is_empty() {
         return None;
     }
-    Some(WindowRow { labels, samples })
+    Some(WindowRow {
+        labels,
+        times,
+        values,
+    })
+}
+
+/// Samples under their labels, their times beside their values, if there are some.
+fn window_of_group(
+    alloc: Global,
+    labels: Labels,
+    samples: Items<(Ms, XFrac)>,
+) -> Result<Option<WindowRow>, AllocError>
+    ensures { IfOk result (λ row. row ≡ window_row labels samples) }
+{
+    let mut times = Items::new(alloc);
+    let mut values = Items::new(alloc);
+    for (time, value) in samples.into_vec() {
+        times.push(time)?;
+        values.push(value)?;
+    }
+    Ok(window_of(labels, times, values))
 }
 
 /// For all labels of rows, the times and values of the rows that have them.
@@ -151,7 +172,8 @@ fn windows_of(
 {
     let mut windows = Items::new(alloc);
     for (labels, samples) in gather(alloc, rows)? {
-        add_window(&mut windows, window_of(labels, samples))?;
+        let row = window_of_group(alloc, labels, samples)?;
+        add_window(&mut windows, row)?;
     }
     Ok(windows)
 }

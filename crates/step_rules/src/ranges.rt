@@ -6,16 +6,16 @@ ghost use Rattle.std.specs.List.{All, ends_with, filter_map};
 ghost use Rattle.std.specs.Option.{option_to_list};
 ghost use Rattle.label_set.specs.Labels.{metric_name, value_of};
 ghost use Rattle.promql_meaning.specs.Outcomes.{range_notes_of as notes_of_range};
-ghost use Rattle.std.specs.Prelude.{◌≡◌, ◌==◌, ◌++◌, ◌&&◌, None, IfOk, OnOk, map, if◌then◌else◌};
+ghost use Rattle.std.specs.Prelude.{◌≡◌, ◌==◌, ◌++◌, ◌&&◌, None, IfOk, OnOk, length, map, if◌then◌else◌};
 ghost use Rattle.step_table.specs.declared.marks.Note.{Note};
 ghost use Rattle.window_fn.specs.Windows.{IsFrame, IsInFrame};
 
 use crate::scalars::value_in;
 use func_table::Window;
 use label_set::{Items, Labels, METRIC_NAME, Text};
-use promql_meaning::{WindowRow, Windows, barren, range_notes_of, with_notes};
+use promql_meaning::{Windows, barren, range_notes_of, with_notes};
 use std::alloc::{AllocError, Global};
-use step_table::{Note, Outcome, Step, settled, taken, without_name};
+use step_table::{Note, Outcome, Step, WindowRow, settled, taken, without_name};
 use ticks::Ms;
 use window_fn::{WindowFault, WindowFrame, over};
 use xfrac::{NumFault, XFrac};
@@ -89,7 +89,14 @@ fn made_of(
         notes: Items::new(alloc),
     };
     for row in windows.rows.as_slice() {
-        let value = window_value(alloc, f, &frame, arg, row.samples.as_slice())?;
+        let value = window_value(
+            alloc,
+            f,
+            &frame,
+            arg,
+            row.times.as_slice(),
+            row.values.as_slice(),
+        )?;
         add_note(&mut made.notes, counter_note(alloc, f, &row.labels, value)?)?;
         let labels = window_labels(alloc, f, &row.labels)?;
         made.outcomes.push(Outcome { labels, value })?;
@@ -106,28 +113,24 @@ fn add_note(notes: &mut Items<Note>, note: Option<Note>) -> Result<(), AllocErro
     }
 }
 
-/// What a function gives of the samples of a window; of none, nothing. The only error is want of memory.
+/// What a function gives of the times and values of a window; of none, nothing. The only error is want of memory.
 pub fn window_value(
     alloc: Global,
     f: Window,
     frame: &WindowFrame,
     arg: &XFrac,
-    samples: &[(Ms, XFrac)],
+    times: &[Ms],
+    values: &[XFrac],
 ) -> Result<Result<Option<XFrac>, NumFault>, AllocError>
+    requires same { length times.now ≡ length values.now }
     requires frame { IsFrame frame.now }
-    requires times { All (λ s. IsInFrame frame.now s.0) samples.now }
-    ensures { IfOk result (λ v. v ≡ window_value f frame.now arg.now samples.now) }
+    requires times { All (IsInFrame frame.now) times.now }
+    ensures { IfOk result (λ v. v ≡ window_value f frame.now arg.now times.now values.now) }
 {
-    if samples.is_empty() {
+    if values.is_empty() {
         return Ok(Ok(None));
     }
-    let mut times = Items::new(alloc);
-    let mut values = Items::new(alloc);
-    for (time, value) in samples {
-        times.push(*time)?;
-        values.push(*value)?;
-    }
-    match over(alloc, f, times.as_slice(), values.as_slice(), frame, arg) {
+    match over(alloc, f, times, values, frame, arg) {
         Ok(value) => Ok(Ok(value)),
         Err(WindowFault::Overflow) => Ok(Err(NumFault::Overflow)),
         Err(WindowFault::Memory) => Err(AllocError),

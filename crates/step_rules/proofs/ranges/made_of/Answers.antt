@@ -17,8 +17,8 @@ loop-row-preserved c =
     let items = c.as_slice-row-items.result.now in
     let i = c.loop-row.row-index in
     let v = c.in_ok-value.value in
-    let is : v ≡ window_value f (frame_of c.args.t.0 windows) arg row.samples =
-    c.in_ok-value.ensures ∙ ap (λ s. window_value f (frame_of c.args.t.0 windows) arg s) c.as_slice.ensures in
+    let is : v ≡ window_value f (frame_of c.args.t.0 windows) arg row.times row.values =
+    c.in_ok-value.ensures ∙ (λ j. window_value f (frame_of c.args.t.0 windows) arg (c.as_slice.ensures j) (c.as_slice-in-loop-row.ensures j)) in
     let outcome : Outcome = record { labels = c.in_ok-labels.labels; value = v } in
     let same : outcome ≡ window_outcome f c.args.t.0 arg windows row =
     ap (λ l. record { labels = l; value = v }) c.in_ok-labels.ensures ∙ ap (λ w. record { labels = window_labels f row.labels; value = w }) is in
