@@ -4,6 +4,7 @@ pub mod Each
 pub mod Instants
 pub mod Joined
 pub mod Merging
+pub mod NewLabels
 pub mod Noted
 pub mod Raising
 pub mod Replaced

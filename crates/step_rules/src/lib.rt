@@ -6,6 +6,7 @@ mod absences;
 mod aggregates;
 mod buckets;
 mod elements;
+pub mod laws;
 mod orders;
 mod points;
 mod ranges;
