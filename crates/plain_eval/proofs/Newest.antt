@@ -1,5 +1,5 @@
 -- The samples of a range as they are read from its edge on, and the series as they are found by their numbers.
-use Rattle.std.proofs.Common.{◌≡◌, ℕ, ◌<◌, Bool, true, false, List, [], ◌∷◌, ◌++◌, length, filter, Option, None, Some, refl, sym, ap, ◌∙◌, arith, append_assoc, append-nil, get_or, map}
+use Rattle.std.proofs.Common.{◌≡◌, ℕ, zero, suc, ◌<◌, Bool, true, false, List, [], ◌∷◌, ◌++◌, length, filter, Option, None, Some, refl, sym, ap, ◌∙◌, arith, append_assoc, append-nil, get_or, map}
 use Rattle.std.specs.Prelude.{ℤ, ◌<ℤ◌, Contains, int_lt, int_le, not, slice_get, if◌then◌else◌, ◌&&◌}
 use Rattle.std.specs.BTreeMap.{insert_entry}
 use Rattle.std.specs.List.{AllByRecursion, cons_option, filter_map, last_or}
@@ -132,6 +132,21 @@ each_within bound numbers within =
 pub all_within : (kept : List (Bool × List ℕ)) (rules : List Rule) (all : AllSeries) (places : List ℕ) → IsSelected kept rules all places → AllByRecursion (λ (n : ℕ). n < length all) places
 all_within kept rules all places selected = each_within (length all) places (λ s c. ((selected.exact s).0 c).0)
 
+-- there are as many series as numbers of series
+as_many : {A : Type 0} (all : List A) (numbers : List ℕ) → AllByRecursion (λ (n : ℕ). n < length all) numbers → length (filter_map (slice_get all) numbers) ≡ length numbers
+as_many all [] within = refl
+as_many {A} all (n ∷ numbers) within =
+    let rest = as_many all numbers within.1 in
+    elim (slice_get all n) as (λ (o : Option A). slice_get all n ≡ o → length (cons_option o (filter_map (slice_get all) numbers)) ≡ suc (length numbers)) [
+      | None ↦ λ is. absurd (there all n within.0 is)
+      | Some a ↦ λ is. ap suc rest
+    ] refl
+  where
+    there : (xs : List A) (k : ℕ) → k < length xs → slice_get xs k ≡ None → ⊥
+    there [] k h is = omega (arith, h)
+    there (x ∷ xs) zero h is = cc
+    there (x ∷ xs) (suc k) h is = there xs k (let l : k < length xs = omega (arith, h) in l) is
+
 -- the series that pass are the same by the store and by the meaning
 same_order : (all : AllSeries) → by_labels all ≡ meant_by_labels all
 same_order [] = refl
@@ -139,3 +154,8 @@ same_order (one ∷ all) = ap (λ es. insert_entry labels_cmp es one.0 one.1) (s
 
 pub same_passing : (kept : List (Bool × List ℕ)) (rules : List Rule) (all : AllSeries) → chosen kept rules all ≡ passing all kept rules
 same_passing kept rules all = ap (filter (λ (s : Names × Samples). labels_pass kept rules s.0)) (same_order all)
+
+-- as many numbers are selected as series pass
+pub as_many_pass : (kept : List (Bool × List ℕ)) (rules : List Rule) (all : AllSeries) (places : List ℕ) → IsSelected kept rules all places → filter_map (slice_get all) places ≡ chosen kept rules all
+    → length places ≡ length (passing all kept rules)
+as_many_pass kept rules all places selected is = sym (as_many all places (all_within kept rules all places selected)) ∙ ap length (is ∙ same_passing kept rules all)

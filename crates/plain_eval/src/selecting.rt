@@ -105,7 +105,7 @@ fn newest<W: Ledger>(
     }
 }
 
-/// The row of a series at a moment, if it has a newest value.
+/// The row of a series at a moment, if it has a newest value; one sample at most is fetched.
 fn row_at<W: Ledger>(
     store: &Store,
     s: u32,
@@ -115,7 +115,8 @@ fn row_at<W: Ledger>(
 ) -> Result<Option<Stamped>, AllocError>
     requires there { s < length store.now }
     requires edge { IsTime (m.0 -ℤ lookback) }
-    ensures { IfOk result (λ row. row ≡ row_numbered closed m.0 store.now s) }
+    ensures row { IfOk result (λ row. row ≡ row_numbered closed m.0 store.now s) }
+    ensures fetched { work.new.fetched ≤ work.old.fetched + 1 }
 {
     match newest(store, s, m, closed, work) {
         Some((at, value)) => Ok(Some(Stamped {
@@ -137,7 +138,8 @@ fn add_row<T: Drop>(rows: &mut Items<T>, row: Option<T>) -> Result<(), AllocErro
     }
 }
 
-/// The newest rows of a selector at a moment, in the order of labels. The only error is want of memory.
+/// The newest rows of a selector at a moment, in the order of labels; of each series one sample at most is fetched. The only
+/// error is want of memory.
 pub fn newest_rows<W: Ledger>(
     alloc: Global,
     store: &Store,
@@ -150,6 +152,7 @@ pub fn newest_rows<W: Ledger>(
     requires edge { IsTime (m.0 -ℤ lookback) }
     requires patterns { HaveTheirPatterns patterns.old rules.now }
     ensures rows { IfOk result (λ rows. rows ≡ filter_map (newest_row closed m.0) (passing store.now patterns.old rules.now)) }
+    ensures fetched { IfOk result (λ _. work.new.fetched ≤ work.old.fetched + length (passing store.now patterns.old rules.now)) }
     ensures same { patterns.new ≡ patterns.old }
 {
     let places = store.select(rules, patterns, work)?;
