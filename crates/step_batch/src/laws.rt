@@ -1,0 +1,18 @@
+//! Laws of what is lent. The functions do nothing: each stands for what its contract says.
+ghost use Rattle.step_batch.specs.Laws.{LentRowsAreTables, LentRowsAreThoseOfSlots, PlacesAreNotSeen, SortedRowsAreTables};
+
+use step_table::order_laws::rows_ignore_order;
+
+/// The rows of a lent step are those of its slots in the order of labels, no two with equal labels.
+pub fn lent_steps_are_tables()
+    ensures table { LentRowsAreTables }
+    ensures rows { LentRowsAreThoseOfSlots }
+    ensures sorted { SortedRowsAreTables }
+{}
+
+/// A lent step doesn't depend on the order in which labels got their places.
+pub fn places_are_not_seen()
+    ensures { PlacesAreNotSeen }
+{
+    rows_ignore_order();
+}

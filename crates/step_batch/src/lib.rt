@@ -1,0 +1,12 @@
+//! Steps and windows that are lent, and the buffers that lend them.
+//! Its rows of tests stand in `batch_tests`.
+#![tactic(auto)]
+
+mod batch;
+mod buffer;
+pub mod laws;
+mod steps;
+
+pub use batch::Batch;
+pub use buffer::StepBuffer;
+pub use steps::Slot;
