@@ -1,21 +1,20 @@
 -- The last step, changed at its place.
 use Rattle.std.proofs.Common.{◌≤◌, subst, ◌≡◌, ◌∙◌, ◌<◌, ◌+◌, ℕ, zero, suc, arith, false, List, [], ◌∷◌, ◌++◌, length, map, get_or, slice_get, slice_set, take, refl, sym, ap, Some}
-use Rattle.std.specs.Prelude.{nat_lt, if◌then◌else◌, ◌==◌, Bool, true, ◌<ℤ◌, Result, Ok, Err, OnErr}
+use Rattle.std.specs.Prelude.{nat_lt, ◌||◌, if◌then◌else◌, ◌==◌, Bool, true, ◌<ℤ◌, Result, Ok, Err, OnErr}
 use Rattle.std.specs.List.{AllByRecursion, IsDistinct, filter_map}
 use Rattle.label_set.specs.LabelEquality.{labels_eq}
 use Rattle.step_table.specs.Groups.{Names}
 use Rattle.step_table.specs.KeySets.{merged-nil}
 use Rattle.step_table.specs.Orders.{mark_cmp, note_cmp}
-use Rattle.step_table.specs.Timed.{StepAt}
 use Rattle.step_table.specs.Unions.{united}
 use Rattle.step_table.specs.declared.marks.Marks.{Marks}
 use Rattle.ticks.specs.declared.moment.Ms.{Ms}
 use Rattle.xfrac.specs.declared.value.XFrac.{XFrac}
-use Rattle.step_batch.specs.Lent.{ArePlaced, Lent, blank, step_of, IsFreeFrom, insert_slot, IsBefore, InstantsRise, IsLent, LaterThanLast, SlotsRise, entry_in, entry_of, has_slot, last_slots, no_marks, on_last, row_of, stage_of, stage_with_marks, stage_with_row, with_marks, with_slot}
+use Rattle.step_batch.specs.Lent.{ArePlaced, blank, IsFreeFrom, insert_slot, IsBefore, InstantsRise, IsLent, LaterThanLast, SlotsRise, entry_in, entry_of, has_slot, last_slots, no_marks, on_last, row_of, stage_of, stage_with_marks, stage_with_row, with_marks, with_slot}
+use Rattle.step_batch.specs.Laws.{FreePlacesAreFree}
 use Rattle.step_batch.specs.Tables.{in_order, put_into}
 use Rattle.step_batch.specs.declared.steps.PlacedStep.{PlacedStep}
 use Rattle.step_batch.specs.declared.steps.Slot.{Slot}
-use Rattle.step_batch.proofs.Orders.{in_order_more}
 use Rattle.step_batch.proofs.Places.{table_put}
 use Rattle.std.proofs.lemmas.Bool.Decides.{nat_tests}
 use Rattle.step_batch.proofs.Slots.{rise_insert}
@@ -214,3 +213,64 @@ free_marks labels low steps now marks e f = subst (λ (z : List PlacedStep). IsF
 -- no marks and no notes add nothing
 pub united_none : (marks more : Marks) → more ≡ no_marks → marks ≡ united marks more
 united_none marks more e = sym (ap (united marks) e ∙ (λ i. record { fatal = merged-nil mark_cmp marks.fatal i; notes = merged-nil note_cmp marks.notes i }))
+
+-- ---- which places have a slot
+
+pub none_begun : (steps now : List PlacedStep) (at : Ms) → now ≡ steps ++ blank at ∷ [] → (q : ℕ) → has_slot q (last_slots now) ≡ false
+none_begun steps now at e q = ap (λ (z : List PlacedStep). has_slot q (last_slots z)) e ∙ ap (has_slot q) (last_of_more steps (blank at))
+
+either_false : (b c d : Bool) → (c ≡ false → d ≡ false) → (b || c) ≡ false → (b || d) ≡ false
+either_false true c d f h = h
+either_false false c d f h = f h
+
+has_inserted : (q place : ℕ) (slots : List Slot) (value : XFrac) → (q == place) ≡ false → has_slot q slots ≡ false → has_slot q (insert_slot slots place value) ≡ false
+has_inserted q place [] value n h = rw n refl
+has_inserted q place (s ∷ slots) value n h =
+    elim (nat_lt s.place place) as (λ b. has_slot q (if b then s ∷ insert_slot slots place value else record { place = place; value = value } ∷ s ∷ slots) ≡ false) [
+      | true ↦ either_false (q == s.place) (has_slot q slots) (has_slot q (insert_slot slots place value)) (λ f. has_inserted q place slots value n f) h
+      | false ↦ rw n h
+    ]
+
+has_in_last : (q place : ℕ) (steps : List PlacedStep) (value : XFrac) → (q == place) ≡ false → has_slot q (last_slots steps) ≡ false → has_slot q (last_slots (on_last (with_slot place value) steps)) ≡ false
+has_in_last q place [] value n h = h
+has_in_last q place (s ∷ []) value n h = has_inserted q place s.slots value n h
+has_in_last q place (s ∷ t ∷ []) value n h = has_inserted q place t.slots value n h
+has_in_last q place (s ∷ t ∷ u ∷ steps) value n h = has_in_last q place (t ∷ u ∷ steps) value n h
+
+pub others_put : (q place : ℕ) (steps now : List PlacedStep) (value : XFrac) → now ≡ on_last (with_slot place value) steps → (q ≡ place → ⊥) → has_slot q (last_slots steps) ≡ false → has_slot q (last_slots now) ≡ false
+others_put q place steps now value e n h =
+    let differ : (q == place) ≡ false = grind (arith, nat_tests, n) in
+    ap (λ (z : List PlacedStep). has_slot q (last_slots z)) e ∙ has_in_last q place steps value differ h
+
+last_marked : (marks : Marks) (steps : List PlacedStep) → last_slots (on_last (with_marks marks) steps) ≡ last_slots steps
+last_marked marks [] = refl
+last_marked marks (s ∷ []) = refl
+last_marked marks (s ∷ t ∷ []) = refl
+last_marked marks (s ∷ t ∷ u ∷ steps) = last_marked marks (t ∷ u ∷ steps)
+
+pub others_marked : (marks : Marks) (steps now : List PlacedStep) → now ≡ on_last (with_marks marks) steps → last_slots now ≡ last_slots steps
+others_marked marks steps now e = ap last_slots e ∙ last_marked marks steps
+
+-- a place behind all slots has none
+none_from : (low place : ℕ) (slots : List Slot) → low ≤ place → AllByRecursion (λ (s : Slot). s.place < low) slots → has_slot place slots ≡ false
+none_from low place [] l a = refl
+none_from low place (s ∷ slots) l a = let h : s.place < low = a.0 in let e : (place == s.place) ≡ false = grind (arith, nat_tests, h, l) in rw e (none_from low place slots l a.1)
+
+pub free_places_are_free : FreePlacesAreFree
+free_places_are_free lent low place l f = none_from low place (last_slots lent.steps) l f.1
+
+-- ---- the last step alone
+
+pub last_at : (steps : List PlacedStep) (n : ℕ) (d : PlacedStep) (at : Ms) → n + 1 ≡ length steps → LaterThanLast steps at ≡ ((get_or steps n d).at.0 <ℤ at.0)
+last_at [] n d at e = absurd (omega arith)
+last_at (s ∷ []) zero d at e = refl
+last_at (s ∷ []) (suc n) d at e = absurd (omega arith)
+last_at (s ∷ t ∷ steps) zero d at e = absurd (omega arith)
+last_at (s ∷ t ∷ steps) (suc n) d at e = last_at (t ∷ steps) n d at (omega arith)
+
+pub last_slots_at : (steps : List PlacedStep) (n : ℕ) (d : PlacedStep) → n + 1 ≡ length steps → last_slots steps ≡ (get_or steps n d).slots
+last_slots_at [] n d e = absurd (omega arith)
+last_slots_at (s ∷ []) zero d e = refl
+last_slots_at (s ∷ []) (suc n) d e = absurd (omega arith)
+last_slots_at (s ∷ t ∷ steps) zero d e = absurd (omega arith)
+last_slots_at (s ∷ t ∷ steps) (suc n) d e = last_slots_at (t ∷ steps) n d (omega arith)

@@ -1,9 +1,8 @@
 -- The rows of a lent step: a table of those that its slots stand for.
-use Rattle.std.proofs.Common.{◌≡◌, ◌∙◌, ◌≤◌, ◌<◌, ◌+◌, ℕ, arith, Bool, true, false, List, [], ◌∷◌, ◌++◌, length, map, slice_get, refl, sym, ap, subst, Some, None, Option, append-nil}
-use Rattle.std.specs.Prelude.{fold, ⊤, ◌==◌, ◌||◌}
+use Rattle.std.proofs.Common.{◌≡◌, ◌≤◌, ◌<◌, ◌+◌, ℕ, arith, false, List, [], ◌∷◌, ◌++◌, length, map, slice_get, refl, sym, ap, subst, Some, None, append-nil}
+use Rattle.std.specs.Prelude.{fold, ⊤, ◌==◌}
 use Rattle.std.specs.declared.cmp.Ordering.TheVariants.{Less, Equal, Greater}
 use Rattle.std.specs.Ordering.{match_ordering}
-use Rattle.std.specs.BTreeMap.{insert_entry}
 use Rattle.std.specs.List.{AllByRecursion, IsDistinct, cons_option}
 use Rattle.std.specs.List.Sorted.{IsStrictlySortedBy}
 use Rattle.std.specs.Map.{keys_of}
@@ -21,7 +20,6 @@ use Rattle.xfrac.specs.declared.value.XFrac.{XFrac}
 use Rattle.step_batch.specs.Laws.{LentRowsAreTables, LentRowsAreThoseOfSlots, PlacesAreNotSeen, SortedRowsAreTables, rows_at}
 use Rattle.step_batch.specs.Lent.{SlotsRise, entries_of, has_slot, row_of, stage_of}
 use Rattle.step_batch.specs.Tables.{in_order, put_into}
-use Rattle.step_batch.specs.declared.steps.PlacedStep.{PlacedStep}
 use Rattle.step_batch.specs.declared.steps.Slot.{Slot}
 use Rattle.step_batch.proofs.Orders.{order_sorted, sorted_in_order}
 use Rattle.step_batch.proofs.Places.{others_apart}

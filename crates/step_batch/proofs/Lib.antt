@@ -3,3 +3,5 @@ pub mod Slots
 pub mod Places
 pub mod Lasts
 pub mod LentRows
+pub mod Slides
+pub mod Rows

@@ -110,7 +110,7 @@ length_front : (labels more : List Names) → length labels ≤ length (labels +
 length_front [] more = omega arith
 length_front (l ∷ labels) more = let h = length_front labels more in omega arith
 
-named_more : (labels : List Names) (names : Names) → length labels ≤ length (insert_key labels_eq labels names)
+pub named_more : (labels : List Names) (names : Names) → length labels ≤ length (insert_key labels_eq labels names)
 named_more labels names = elim (list_any (labels_eq names) labels) as (λ b. length labels ≤ length (if b then labels else labels ++ names ∷ [])) [ true ↦ omega arith | false ↦ length_front labels (names ∷ []) ]
 
 pub placed_named : (labels : List Names) (names : Names) (steps : List PlacedStep) → ArePlaced (length labels) steps → ArePlaced (length (insert_key labels_eq labels names)) steps

@@ -1,5 +1,5 @@
 -- What holds of steps that are lent, wherever their labels have their places.
-use Rattle.std.specs.Prelude.{◌≡◌, List, length, map}
+use Rattle.std.specs.Prelude.{◌≡◌, ◌≤◌, ℕ, false, List, length, map}
 use Rattle.std.specs.List.Sorted.{IsStrictlySortedBy}
 use Rattle.std.specs.Map.{keys_of}
 use Rattle.label_set.specs.Labels.{labels_cmp}
@@ -8,7 +8,7 @@ use Rattle.step_table.specs.Shuffles.{Shuffled}
 use Rattle.step_table.specs.WellFormed.{IsTable}
 use Rattle.step_table.specs.declared.step.Row.{Row}
 use Rattle.xfrac.specs.declared.value.XFrac.{XFrac}
-use Rattle.step_batch.specs.Lent.{IsLent, Lent, SlotsRise, entries_of, row_of, stage_of}
+use Rattle.step_batch.specs.Lent.{IsFreeFrom, IsLent, Lent, SlotsRise, entries_of, has_slot, last_slots, row_of, stage_of}
 use Rattle.step_batch.specs.Tables.{in_order}
 use Rattle.step_batch.specs.declared.steps.PlacedStep.{PlacedStep}
 
@@ -34,3 +34,7 @@ abbrev pub PlacesAreNotSeen : Type 0
 PlacesAreNotSeen =
     (a b : Lent) (s t : PlacedStep) → IsLent a → IsLent b → SlotsRise 0 (length a.labels) s.slots → SlotsRise 0 (length b.labels) t.slots →
     s.at ≡ t.at → s.marks ≡ t.marks → Shuffled (rows_at a.labels s) (rows_at b.labels t) → stage_of a.labels s ≡ stage_of b.labels t
+
+-- from a place on that is behind all slots of the last step, each place is free for a row
+abbrev pub FreePlacesAreFree : Type 0
+FreePlacesAreFree = (lent : Lent) (low place : ℕ) → low ≤ place → IsFreeFrom low lent → has_slot place (last_slots lent.steps) ≡ false

@@ -1,5 +1,5 @@
 -- What is lent: values at the places of their labels, and the steps that these stand for.
-use Rattle.std.specs.Prelude.{◌<◌, ◌≤◌, ◌+◌, ◌<ℤ◌, ℕ, nat_lt, Bool, false, ◌==◌, ◌||◌, List, [], ◌∷◌, ◌++◌, length, map, slice_get, Option, if◌then◌else◌, ⊤}
+use Rattle.std.specs.Prelude.{◌<◌, ◌≤◌, ◌+◌, ◌<ℤ◌, ℕ, nat_lt, ◌/◌, sum_by, Bool, false, ◌==◌, ◌||◌, List, [], ◌∷◌, ◌++◌, length, map, slice_get, Option, if◌then◌else◌, ⊤}
 use Rattle.std.specs.List.{AllByRecursion, IsDistinct, filter_map}
 use Rattle.std.specs.Option.{option_map}
 use Rattle.label_set.specs.LabelEquality.{labels_eq}
@@ -144,3 +144,12 @@ has_slot place (s ∷ slots) = (place == s.place) || has_slot place slots
 -- a step was begun, and all its slots stand before a place
 abbrev pub IsFreeFrom : ℕ → Lent → Type 0
 IsFreeFrom low lent = (0 < length lent.steps) × AllByRecursion (λ (s : Slot). s.place < low) (last_slots lent.steps)
+
+-- ---- how many rows there are
+
+abbrev pub count_of_slots : List PlacedStep → ℕ
+count_of_slots steps = sum_by (λ (s : PlacedStep). length s.slots) steps
+
+-- there are fewer rows than half as many as labels
+abbrev pub has_few_rows : Lent → Bool
+has_few_rows lent = nat_lt (count_of_slots lent.steps) (length lent.labels / 2)

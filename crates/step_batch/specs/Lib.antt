@@ -1,3 +1,5 @@
+pub mod Columns
 pub mod Laws
 pub mod Lent
+pub mod LentWindows
 pub mod Tables

@@ -1,11 +1,11 @@
 ghost use Rattle.indexmap.specs.IndexSet.{insert_key};
 ghost use Rattle.label_set.specs.LabelEquality.{labels_eq};
 ghost use Rattle.std.specs.List.{IsDistinct};
-ghost use Rattle.std.specs.Prelude.{◌≡◌, ◌+◌, ◌<◌, ◌<ℤ◌, ◌≤◌, ◌++◌, false, [], ◌∷◌, Some, length, slice_get, IfOk, OnOk, OnErr};
-ghost use Rattle.step_batch.specs.Lent.{IsFreeFrom, IsLater, begun, has_slot, last_slots, no_marks, on_last, put, stage_with_marks, stage_with_row, stages, step_of, united_last};
+ghost use Rattle.std.specs.Prelude.{◌≡◌, ◌↔◌, ◌+◌, ◌<◌, ◌<ℤ◌, ◌≤◌, ◌++◌, true, false, [], ◌∷◌, Some, length, slice_get, if◌then◌else◌, IfOk, IsTrue, OnOk, OnErr};
+ghost use Rattle.step_batch.specs.Lent.{IsFreeFrom, IsLater, begun, has_few_rows, has_slot, last_slots, no_marks, on_last, put, stage_with_marks, stage_with_row, stages, step_of, united_last};
 
 use crate::batch::Batch;
-use crate::steps::Steps;
+use crate::steps::{Steps, has_fewer_slots, has_last_slot, is_after_last};
 use indexmap::IndexSet;
 use label_set::Labels;
 use std::alloc::{AllocError, Global};
@@ -61,11 +61,26 @@ impl StepBuffer {
         self.steps.clear();
     }
 
+    /// Takes all steps out as `renew` does, and the labels too as `clear` does where fewer than half as many rows were put as
+    /// there are labels: then most labels had none. So the labels that are kept never grow with the number of feeds. It
+    /// takes no memory.
+    pub fn begin_feed(&mut self)
+        ensures steps { self.new.steps ≡ [] }
+        ensures labels { self.new.labels ≡ (if has_few_rows self.old then [] else self.old.labels) }
+    {
+        if has_fewer_slots(self.steps.as_slice(), self.labels.len() / 2) {
+            self.clear();
+            return;
+        }
+        self.renew();
+    }
+
     /// The place of equal labels; new ones go last. The only error is want of memory; then nothing is changed.
     pub fn place(&mut self, labels: &Labels) -> Result<usize, AllocError>
         ensures labels { OnOk result (self.new.labels ≡ insert_key labels_eq self.old.labels labels.now) }
         ensures place { IfOk result (λ i. slice_get self.new.labels i ≡ Some labels.now) }
         ensures within { IfOk result (λ i. i < length self.new.labels) }
+        ensures more { length self.old.labels ≤ length self.new.labels }
         ensures kept { (j : _) (names : _) → slice_get self.old.labels j ≡ Some names → slice_get self.new.labels j ≡ Some names }
         ensures steps { self.new.steps ≡ self.old.steps }
         ensures stages { OnOk result (stages self.new ≡ stages self.old) }
@@ -75,12 +90,33 @@ impl StepBuffer {
         Ok(place)
     }
 
+    /// Whether an instant is later than the last step's, as `begin` asks. It takes no memory.
+    pub fn is_later(&self, at: Ms) -> bool
+        ensures { IsTrue result ↔ IsLater self.now at }
+    {
+        is_after_last(self.steps.as_slice(), at)
+    }
+
+    /// Whether a step was begun and has no row yet at this place, which has labels, as `put` asks. It takes no memory.
+    pub fn is_free(&self, place: usize) -> bool
+        ensures begun { IsTrue result → 0 < length self.now.steps }
+        ensures there { IsTrue result → place < length self.now.labels }
+        ensures free { IsTrue result → has_slot place (last_slots self.now.steps) ≡ false }
+        ensures taken { result ≡ false → 0 < length self.now.steps → place < length self.now.labels → has_slot place (last_slots self.now.steps) ≡ true }
+    {
+        if self.steps.as_slice().is_empty() || place >= self.labels.len() {
+            return false;
+        }
+        !has_last_slot(self.steps.as_slice(), place)
+    }
+
     /// Begins an empty step. The only error is want of memory; then nothing is changed.
     pub fn begin(&mut self, at: Ms) -> Result<(), AllocError>
         requires { IsLater self.old at }
         ensures ok { OnOk result (self.new ≡ begun self.old at) }
         ensures stages { OnOk result (stages self.new ≡ stages self.old ++ record { at = at; step = step_of [] no_marks } ∷ []) }
         ensures free { OnOk result (IsFreeFrom 0 self.new) }
+        ensures none { OnOk result ((q : _) → has_slot q (last_slots self.new.steps) ≡ false) }
         ensures later { OnOk result ((u : _) → at.0 <ℤ u.0 → IsLater self.new u) }
         ensures err { OnErr result (self.new ≡ self.old) }
     {
@@ -97,6 +133,7 @@ impl StepBuffer {
         ensures ok { OnOk result (self.new ≡ put self.old place value) }
         ensures labels { self.new.labels ≡ self.old.labels }
         ensures free { OnOk result ((low : _) → low ≤ place → IsFreeFrom low self.old → IsFreeFrom (place + 1) self.new) }
+        ensures others { OnOk result ((q : _) → (q ≡ place → ⊥) → has_slot q (last_slots self.old.steps) ≡ false → has_slot q (last_slots self.new.steps) ≡ false) }
         ensures later { OnOk result ((u : _) → IsLater self.old u → IsLater self.new u) }
         ensures stages { OnOk result ((names : _) → slice_get self.old.labels place ≡ Some names → stages self.new ≡ on_last (stage_with_row names value) (stages self.old)) }
         ensures err { OnErr result (self.new ≡ self.old) }
@@ -112,6 +149,7 @@ impl StepBuffer {
         ensures ok { OnOk result (self.new ≡ united_last self.old marks.now) }
         ensures labels { self.new.labels ≡ self.old.labels }
         ensures free { OnOk result ((low : _) → IsFreeFrom low self.old → IsFreeFrom low self.new) }
+        ensures others { OnOk result (last_slots self.new.steps ≡ last_slots self.old.steps) }
         ensures later { OnOk result ((u : _) → IsLater self.old u → IsLater self.new u) }
         ensures stages { OnOk result (stages self.new ≡ on_last (stage_with_marks marks.now) (stages self.old)) }
         ensures err { OnErr result (self.new ≡ self.old) }

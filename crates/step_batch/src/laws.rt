@@ -1,5 +1,5 @@
 //! Laws of what is lent. The functions do nothing: each stands for what its contract says.
-ghost use Rattle.step_batch.specs.Laws.{LentRowsAreTables, LentRowsAreThoseOfSlots, PlacesAreNotSeen, SortedRowsAreTables};
+ghost use Rattle.step_batch.specs.Laws.{FreePlacesAreFree, LentRowsAreTables, LentRowsAreThoseOfSlots, PlacesAreNotSeen, SortedRowsAreTables};
 
 use step_table::order_laws::rows_ignore_order;
 
@@ -16,3 +16,8 @@ pub fn places_are_not_seen()
 {
     rows_ignore_order();
 }
+
+/// Where all slots of the last step stand before a place, it and the later ones are free.
+pub fn free_places_are_free()
+    ensures { FreePlacesAreFree }
+{}

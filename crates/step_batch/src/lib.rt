@@ -5,8 +5,13 @@
 mod batch;
 mod buffer;
 pub mod laws;
+mod slices;
 mod steps;
+mod window_buffer;
+mod windows;
 
 pub use batch::Batch;
 pub use buffer::StepBuffer;
 pub use steps::Slot;
+pub use window_buffer::WindowBuffer;
+pub use windows::Windows;

@@ -1,5 +1,5 @@
-ghost use Rattle.std.specs.Prelude.{◌≡◌, ◌<◌, ◌≤◌, ◌++◌, insert, [], ◌∷◌, ℕ, length, take, IfOk, IsTrue, OnOk, OnErr};
-ghost use Rattle.step_batch.specs.Lent.{ArePlaced, SlotsRise, blank, insert_slot, no_marks, on_last, with_marks, with_slot};
+ghost use Rattle.std.specs.Prelude.{◌≡◌, ◌↔◌, ◌<◌, ◌<ℤ◌, ◌≤◌, ◌++◌, insert, [], ◌∷◌, ℕ, length, nat_lt, take, IfOk, IsTrue, OnOk, OnErr};
+ghost use Rattle.step_batch.specs.Lent.{ArePlaced, LaterThanLast, SlotsRise, blank, count_of_slots, has_slot, insert_slot, last_slots, no_marks, on_last, with_marks, with_slot};
 ghost use Rattle.step_table.specs.Unions.{united};
 
 use label_set::Items;
@@ -91,6 +91,56 @@ impl Steps {
         unite_at(&mut self.all, self.count, marks)?;
         Ok(())
     }
+}
+
+/// Whether the steps have fewer slots together than so many.
+pub(crate) fn has_fewer_slots(steps: &[PlacedStep], most: usize) -> bool
+    ensures { result ≡ nat_lt (count_of_slots steps.now) most }
+{
+    let mut left = most;
+    for step in steps {
+        let count = step.slots.as_slice().len();
+        if count >= left {
+            return false;
+        }
+        left -= count;
+    }
+    left > 0
+}
+
+/// Whether an instant is later than the last step's.
+pub(crate) fn is_after_last(steps: &[PlacedStep], at: Ms) -> bool
+    ensures { IsTrue result ↔ LaterThanLast steps.now at }
+{
+    if steps.is_empty() {
+        return true;
+    }
+    is_before(steps[steps.len() - 1].at, at)
+}
+
+fn is_before(a: Ms, b: Ms) -> bool
+    ensures { IsTrue result ↔ (a.0 <ℤ b.0) }
+{
+    a.0 < b.0
+}
+
+/// Whether the last step has a slot at a place.
+pub(crate) fn has_last_slot(steps: &[PlacedStep], place: usize) -> bool
+    requires { 0 < length steps.now }
+    ensures { result ≡ has_slot place (last_slots steps.now) }
+{
+    has_slot(steps[steps.len() - 1].slots.as_slice(), place)
+}
+
+fn has_slot(slots: &[Slot], place: usize) -> bool
+    ensures { result ≡ has_slot place slots.now }
+{
+    for slot in slots {
+        if slot.place == place {
+            return true;
+        }
+    }
+    false
 }
 
 /// No marks and no notes. It takes no memory.

@@ -1,6 +1,6 @@
 use Rattle.std.proofs.Common.{sym, subst}
 use Rattle.step_batch.specs.Lent.{IsLater, Lent}
-use Rattle.step_batch.proofs.Lasts.{free_begun, later_begun, lent_begun}
+use Rattle.step_batch.proofs.Lasts.{free_begun, later_begun, lent_begun, none_begun}
 use Rattle.step_batch.proofs.buffer.StepBuffer.begin.Goals as goal
 
 pub invariant_of-self-2 : goal.invariant_of-self-2
@@ -13,3 +13,6 @@ returns-clause-free c = free_begun c.self.inside.labels.keys c.self.inside.steps
 
 pub returns-clause-later : goal.returns-clause-later
 returns-clause-later c = λ u h. later_begun c.self.inside.steps c.begin.new.self c.args.at u c.in_ok-begin.ensures.ok h
+
+pub returns-clause-none : goal.returns-clause-none
+returns-clause-none c = λ q. none_begun c.self.inside.steps c.begin.new.self c.args.at c.in_ok-begin.ensures.ok q

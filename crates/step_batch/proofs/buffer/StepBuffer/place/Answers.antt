@@ -1,8 +1,8 @@
-use Rattle.std.proofs.Common.{◌≡◌, ◌∙◌, ap, sym, subst}
+use Rattle.std.proofs.Common.{◌≡◌, ◌∙◌, ◌≤◌, ap, length, sym, subst}
 use Rattle.std.specs.Prelude.{List, Some, map, slice_get}
 use Rattle.step_table.specs.Groups.{Names}
 use Rattle.step_batch.specs.Lent.{Lent, stage_of, stages}
-use Rattle.step_batch.proofs.Places.{lent_named, place_kept, place_within, stages_named}
+use Rattle.step_batch.proofs.Places.{lent_named, named_more, place_kept, place_within, stages_named}
 use Rattle.step_batch.proofs.buffer.StepBuffer.place.Goals as goal
 
 pub invariant_of-self-2 : goal.invariant_of-self-2
@@ -19,3 +19,8 @@ pub returns-clause-stages : goal.returns-clause-stages
 returns-clause-stages c =
     ap (λ (ls : List Names). map (stage_of ls) c.self.inside.steps) c.in_ok-place.ensures.keys
     ∙ stages_named c.self.inside.labels.keys c.args.labels.now c.self.inside.steps c.self.invariant.placed ∙ ap stages c.self.view_is
+
+pub returns-clause-more : goal.returns-clause-more
+returns-clause-more c =
+    subst (λ (l : Lent). length l.labels ≤ length c.place_in.new.set.keys) c.self.view_is
+    (subst (λ (ls : List Names). length c.self.inside.labels.keys ≤ length ls) (sym c.in_ok-place.ensures.keys) (named_more c.self.inside.labels.keys c.args.labels.now))

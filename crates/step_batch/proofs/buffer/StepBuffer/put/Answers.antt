@@ -1,7 +1,7 @@
 use Rattle.std.proofs.Common.{◌≡◌, ◌∙◌, ◌<◌, false, ap, sym, subst, length, slice_get, Some}
 use Rattle.std.specs.Prelude.{map}
 use Rattle.step_batch.specs.Lent.{IsFreeFrom, IsLater, Lent, has_slot, last_slots, on_last, stage_of, stage_with_row, stages}
-use Rattle.step_batch.proofs.Lasts.{lent_put, stages_put, free_put, later_put}
+use Rattle.step_batch.proofs.Lasts.{lent_put, stages_put, free_put, later_put, others_put}
 use Rattle.step_batch.proofs.buffer.StepBuffer.put.Goals as goal
 
 pub put-requires : goal.put-requires
@@ -30,3 +30,7 @@ returns-clause-free c = λ low l f. free_put c.self.inside.labels.keys low c.sel
 
 pub returns-clause-later : goal.returns-clause-later
 returns-clause-later c = λ u h. later_put c.args.place c.args.value c.self.inside.steps c.put.new.self u c.in_ok-put.ensures.ok (subst (λ (z : Lent). IsLater z u) (sym c.self.view_is) h)
+
+pub returns-clause-others : goal.returns-clause-others
+returns-clause-others c = λ q n h.
+    others_put q c.args.place c.self.inside.steps c.put.new.self c.args.value c.in_ok-put.ensures.ok n (subst (λ (l : Lent). has_slot q (last_slots l.steps) ≡ false) (sym c.self.view_is) h)

@@ -1,7 +1,7 @@
 use Rattle.std.proofs.Common.{subst, sym, ◌∙◌, ap}
 use Rattle.std.specs.Prelude.{map}
-use Rattle.step_batch.specs.Lent.{IsFreeFrom, IsLater, Lent, on_last, stage_of, stage_with_marks, stages}
-use Rattle.step_batch.proofs.Lasts.{lent_marks, stages_marks, free_marks, later_marks}
+use Rattle.step_batch.specs.Lent.{IsFreeFrom, IsLater, Lent, last_slots, on_last, stage_of, stage_with_marks, stages}
+use Rattle.step_batch.proofs.Lasts.{lent_marks, stages_marks, free_marks, later_marks, others_marked}
 use Rattle.step_batch.proofs.buffer.StepBuffer.unite.Goals as goal
 
 pub invariant_of-self-2 : goal.invariant_of-self-2
@@ -17,3 +17,6 @@ returns-clause-free c = λ low f. free_marks c.self.inside.labels.keys low c.sel
 
 pub returns-clause-later : goal.returns-clause-later
 returns-clause-later c = λ u h. later_marks c.args.marks.now c.self.inside.steps c.unite.new.self u c.in_ok-unite.ensures.ok (subst (λ (z : Lent). IsLater z u) (sym c.self.view_is) h)
+
+pub returns-clause-others : goal.returns-clause-others
+returns-clause-others c = others_marked c.args.marks.now c.self.inside.steps c.unite.new.self c.in_ok-unite.ensures.ok ∙ ap (λ (l : Lent). last_slots l.steps) c.self.view_is

@@ -1,0 +1,141 @@
+ghost use Rattle.std.specs.Prelude.{◌≡◌, ◌≤◌, ◌++◌, ◌∷◌, [], List, drop, length, IfOk, OnOk, OnErr};
+ghost use Rattle.step_batch.specs.Columns.{column_more, columns_behind, columns_from, has_some};
+ghost use Rattle.xfrac.specs.declared.value.XFrac.{XFrac};
+
+use std::alloc::{AllocError, Global};
+use std::marker::Model;
+use ticks::Ms;
+use xfrac::XFrac;
+
+/// The samples of a window: later ones are put behind, and earlier ones are let go. Contracts see those that are left.
+#[derive(Drop)]
+pub(crate) struct Slices {
+    times: Vec<Ms>,
+    values: Vec<XFrac>,
+    start: usize,
+}
+
+impl Model for Slices {
+    ghost use Rattle.step_batch.specs.Columns.{AreColumns, Columns, columns_from};
+
+    ghost Value = { Columns };
+
+    ghost view = { λ s. columns_from s.start s.times.items s.values.items };
+
+    ghost invariant = { λ s. AreColumns s.start s.times.items s.values.items };
+}
+
+impl Slices {
+    pub(crate) fn of(alloc: Global, times: &[Ms], values: &[XFrac]) -> Result<Slices, AllocError>
+        requires { length times.now ≡ length values.now }
+        ensures { IfOk result (λ s. s ≡ record { times = times.now; values = values.now }) }
+    {
+        let times = copy_of(alloc, times)?;
+        let values = copy_of(alloc, values)?;
+        Ok(Slices {
+            times,
+            values,
+            start: 0,
+        })
+    }
+
+    pub(crate) fn times(&self) -> &[Ms]
+        ensures { result.now ≡ self.now.times }
+    {
+        self.times.as_slice().split_at(self.start).1
+    }
+
+    pub(crate) fn values(&self) -> &[XFrac]
+        ensures { result.now ≡ self.now.values }
+    {
+        self.values.as_slice().split_at(self.start).1
+    }
+
+    pub(crate) fn has_some(&self) -> bool
+        ensures { result ≡ has_some self.now }
+    {
+        match self.times() {
+            [] => false,
+            [_, ..] => true,
+        }
+    }
+
+    /// Puts a sample behind the others. The only error is want of memory; then nothing is changed.
+    pub(crate) fn push(&mut self, at: Ms, value: XFrac) -> Result<(), AllocError>
+        ensures ok { OnOk result (self.new ≡ column_more self.old at value) }
+        ensures err { OnErr result (self.new ≡ self.old) }
+    {
+        push_both(&mut self.times, &mut self.values, at, value)?;
+        Ok(())
+    }
+
+    /// Lets the samples in front go that are no later than an edge. It takes no memory, and all such calls together move
+    /// each sample once on the average.
+    pub(crate) fn forget(&mut self, edge: Ms)
+        ensures { self.new ≡ columns_behind edge.0 self.old }
+    {
+        self.start = first_behind(self.times.as_slice(), self.start, edge);
+        if self.start > self.times.len() / 2 {
+            self.start = pack(&mut self.times, &mut self.values, self.start);
+        }
+    }
+}
+
+fn copy_of<T: Copy>(alloc: Global, items: &[T]) -> Result<Vec<T>, AllocError>
+    ensures { IfOk result (λ copy. copy.items ≡ items.now) }
+{
+    let mut copy = Vec::with_capacity(alloc, items.len())?;
+    copy.extend_from_slice(items)?;
+    Ok(copy)
+}
+
+/// Room is made in both columns first, so that they stay of one length.
+fn push_both(
+    times: &mut Vec<Ms>,
+    values: &mut Vec<XFrac>,
+    at: Ms,
+    value: XFrac,
+) -> Result<(), AllocError>
+    ensures times { OnOk result (times.new.items ≡ times.old.items ++ at ∷ []) }
+    ensures values { OnOk result (values.new.items ≡ values.old.items ++ value ∷ []) }
+    ensures same_times { OnErr result (times.new.items ≡ times.old.items) }
+    ensures same_values { OnErr result (values.new.items ≡ values.old.items) }
+{
+    times.reserve(1)?;
+    values.reserve(1)?;
+    times.push(at)?;
+    values.push(value)?;
+    Ok(())
+}
+
+/// The first place from one on whose time is later than an edge.
+fn first_behind(times: &[Ms], start: usize, edge: Ms) -> usize
+    requires { start ≤ length times.now }
+    ensures within { result ≤ length times.now }
+    ensures left { (values : List XFrac) → columns_from result times.now values ≡ columns_behind edge.0 (columns_from start times.now values) }
+{
+    let mut i = start;
+    while i < times.len() {
+        if times[i].0 > edge.0 {
+            return i;
+        }
+        i += 1;
+    }
+    i
+}
+
+/// Moves what is left to the front; it answers the new start.
+fn pack(times: &mut Vec<Ms>, values: &mut Vec<XFrac>, start: usize) -> usize
+    requires same { length times.old.items ≡ length values.old.items }
+    requires within { start ≤ length times.old.items }
+    ensures start { result ≡ 0 }
+    ensures times { times.new.items ≡ drop start times.old.items }
+    ensures values { values.new.items ≡ drop start values.old.items }
+{
+    let left = times.len() - start;
+    times.rotate_left(start);
+    times.truncate(left);
+    values.rotate_left(start);
+    values.truncate(left);
+    0
+}
