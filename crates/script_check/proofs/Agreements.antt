@@ -14,7 +14,7 @@ use Rattle.promql_meaning.specs.declared.answer.Point.{Point}
 use Rattle.promql_meaning.specs.declared.answer.ResultSeries.{ResultSeries}
 use Rattle.script_check.specs.declared.verdict.Reason.{Reason}
 use Rattle.script_check.specs.declared.verdict.Reason.TheVariants.{Missing, Extra, Differs, Order, ScalarDiffers}
-use Rattle.script_check.specs.Series.{Agrees, IsMet, IsMetBy, IsNear, are_near, differs, differs_from, extra_reason, first_apart, is_apart, is_differing, is_lacking, least, lesser, misplaced, missing_reason, order_reason, scalar_reason, series_under, soonest, soonest_of, times, value_at, value_reason}
+use Rattle.script_check.specs.Series.{Agrees, IsMet, IsMetBy, IsNear, are_near, differs, differs_from, extra_reason, first_apart, is_apart, is_differing, is_lacking, least, lesser, misplaced, missing_reason, order_reason, placed_reason, scalar_reason, series_under, soonest, soonest_of, times, value_at, value_reason}
 use Rattle.script_check.specs.Verdicts.{first_reason, series_reason}
 
 -- ---- lists
@@ -209,11 +209,15 @@ module _ (wanted got : List ResultSeries) where
   -- no reason is found in the series, and the other way round
   pub series_agree : (ordered : Bool) → series_reason ordered wanted got ≡ None → Agrees wanted got × (ordered ≡ true → misplaced wanted got ≡ None)
   series_agree ordered h =
-      let order : Option Reason = if ordered then order_reason wanted got else None in
+      let order : Option Reason = placed_reason ordered wanted got in
       let a = none_first (missing_reason wanted got) (first_reason (extra_reason wanted got) (first_reason (value_reason wanted got) order)) h in
       let b = none_first (extra_reason wanted got) (first_reason (value_reason wanted got) order) a.1 in
       let c = none_first (value_reason wanted got) order b.1 in
       (no_reason a.0 b.0 c.0, λ e. none_mapped (λ (s : ResultSeries). Order s.labels) (misplaced wanted got) (subst (λ (b : Bool). (if b then order_reason wanted got else None) ≡ None) e c.1))
+
+  -- of series that agree the order alone may be a reason
+  pub placed_alone : (ordered : Bool) → Agrees wanted got → placed_reason ordered wanted got ≡ series_reason ordered wanted got
+  placed_alone ordered h = rw (no_missing h, no_extra h, no_difference h) refl
 
   pub series_agree_if : (ordered : Bool) → Agrees wanted got → (ordered ≡ true → misplaced wanted got ≡ None) → series_reason ordered wanted got ≡ None
   series_agree_if ordered h k = rw (no_missing h, no_extra h, no_difference h) (order ordered k)

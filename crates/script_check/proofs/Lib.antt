@@ -1,6 +1,10 @@
 pub mod Agreements
+pub mod BareLines
 pub mod Holding
 pub mod Kept
 pub mod LineByLine
+pub mod Pairs
 pub mod Sorted
 pub mod Uneven
+pub mod Wanting
+pub mod Searches

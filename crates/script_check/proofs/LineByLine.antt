@@ -27,7 +27,7 @@ near_here p q ps qs same here later at =
     (option_map (λ (x : Point). x.value) (cond (is_eq (int_cmp t.0 at.0)) (Some q) (find (λ (x : Point). is_eq (int_cmp x.at.0 at.0)) qs))))) same
     (elim (is_eq (int_cmp p.at.0 at.0)) as both_at [ true ↦ here | false ↦ later at ])
 
-points_near : (ps qs : List Point) → points_beside ps qs ≡ true → (at : Ms) → IsTrue (are_near (value_at at ps) (value_at at qs))
+pub points_near : (ps qs : List Point) → points_beside ps qs ≡ true → (at : Ms) → IsTrue (are_near (value_at at ps) (value_at at qs))
 points_near [] [] h at = refl
 points_near [] (q ∷ qs) h at = absurd (cc)
 points_near (p ∷ ps) [] h at = absurd (cc)
@@ -51,7 +51,7 @@ stands before line series wanted got h =
     let c = and_parts _ _ b.1 in
     record { rises = a.0; same = same_labels line.labels series.labels b.0; near = points_near line.points series.points c.0; later = c.1 }
 
-less : (o : Ordering) → is_lt o ≡ true → o ≡ Less
+pub less : (o : Ordering) → is_lt o ≡ true → o ≡ Less
 less Less h = refl
 less Equal h = absurd (cc)
 less Greater h = absurd (cc)
@@ -85,10 +85,10 @@ each_met before (line ∷ wanted) (series ∷ got) h =
     )
 
 -- one that is looked for behind another one
-still_there : (first : ResultSeries) (all : List ResultSeries) (labels : LabelList) → IsSome (series_under labels all) → IsSome (series_under labels (first ∷ all))
+pub still_there : (first : ResultSeries) (all : List ResultSeries) (labels : LabelList) → IsSome (series_under labels all) → IsSome (series_under labels (first ∷ all))
 still_there first all labels h = elim (is_eq (labels_cmp first.labels labels)) as (λ b. IsSome (cond b (Some first) (series_under labels all))) [ true ↦ refl | false ↦ h ]
 
-found_here : (first : ResultSeries) (all : List ResultSeries) (labels : LabelList) → is_eq (labels_cmp first.labels labels) ≡ true → IsSome (series_under labels (first ∷ all))
+pub found_here : (first : ResultSeries) (all : List ResultSeries) (labels : LabelList) → is_eq (labels_cmp first.labels labels) ≡ true → IsSome (series_under labels (first ∷ all))
 found_here first all labels same = subst (λ (b : Bool). IsSome (cond b (Some first) (series_under labels all))) (sym same) refl
 
 no_other : (before : Option LabelList) (wanted got : List ResultSeries) → stand_beside before wanted got ≡ true → AllByRecursion (λ (s : ResultSeries). IsSome (series_under s.labels wanted)) got

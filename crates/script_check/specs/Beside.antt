@@ -18,6 +18,11 @@ abbrev pub rises_behind : Option LabelList → LabelList → Bool
 rises_behind None labels = true
 rises_behind (Some before) labels = is_lt (labels_cmp before labels)
 
+-- labels rise, from what stands before them on
+abbrev pub rising : Option LabelList → List ResultSeries → Bool
+rising before [] = true
+rising before (series ∷ more) = rises_behind before series.labels && rising (Some series.labels) more
+
 -- series have the expected labels, which rise, and near values
 abbrev pub stand_beside : Option LabelList → List ResultSeries → List ResultSeries → Bool
 stand_beside before [] [] = true

@@ -2,5 +2,8 @@ pub mod OutcomeTexts
 pub mod NoteTexts
 pub mod Series
 pub mod Beside
+pub mod Paired
 pub mod Lookups
 pub mod Verdicts
+pub mod Noted
+pub mod Searched

@@ -108,6 +108,10 @@ misplaced (line ∷ wanted) (series ∷ got) = if is_eq (labels_cmp line.labels 
 abbrev pub order_reason : List ResultSeries → List ResultSeries → Option Reason
 order_reason wanted got = option_map (λ (s : ResultSeries). Order s.labels) (misplaced wanted got)
 
+-- that one, where the order counts
+abbrev pub placed_reason : Bool → List ResultSeries → List ResultSeries → Option Reason
+placed_reason ordered wanted got = if ordered then order_reason wanted got else None
+
 -- ---- scalars
 
 abbrev pub first_value : List Point → Option XFrac

@@ -20,7 +20,7 @@ use Rattle.script_read.specs.declared.script.What.{What}
 use Rattle.script_read.specs.declared.script.What.TheVariants.{Eval}
 use Rattle.script_check.specs.NoteTexts.{texts_of}
 use Rattle.script_check.specs.OutcomeTexts.{outcome_text}
-use Rattle.script_check.specs.Series.{Agrees, are_near, extra_reason, misplaced, missing_reason, order_reason, scalar_in, scalar_reason, value_reason}
+use Rattle.script_check.specs.Series.{Agrees, are_near, extra_reason, misplaced, missing_reason, placed_reason, scalar_in, scalar_reason, value_reason}
 use Rattle.script_check.specs.declared.verdict.Reason.{Reason}
 use Rattle.script_check.specs.declared.verdict.Reason.TheVariants.{NoFailure, Unexpected, FailureText, NoWarning, Warned, NoInfo, Informed, NotScalar, NotVector}
 use Rattle.script_check.specs.declared.verdict.Verdict.{Verdict}
@@ -85,6 +85,15 @@ no_note warnings = if warnings then NoWarning else NoInfo
 abbrev pub some_note : Bool → Reason
 some_note warnings = if warnings then Warned else Informed
 
+-- a line wants nothing of a text but that there is one
+abbrev pub is_bare : Wanted → Bool
+is_bare Any = true
+is_bare _ = false
+
+-- the reason of such lines alone, of which there are some
+abbrev pub bare_reason : Bool → Bool → Bool → Option Reason
+bare_reason warnings none noted = if noted then unless (not none) (some_note warnings) else Some (no_note warnings)
+
 -- the first reason among the lines on warnings, or else on info notes
 abbrev pub notes_reason : PatternList → Bool → List Wanted → Bool → List (List ℕ) → Option Reason
 notes_reason kept warnings lines none notes =
@@ -99,7 +108,7 @@ is_scalar instant answer = instant && answer.scalar
 -- the first reason among the series: one that is missing, one that isn't expected, a value, and the order where that counts
 abbrev pub series_reason : Bool → List ResultSeries → List ResultSeries → Option Reason
 series_reason ordered wanted got =
-    first_reason (missing_reason wanted got) (first_reason (extra_reason wanted got) (first_reason (value_reason wanted got) (if ordered then order_reason wanted got else None)))
+    first_reason (missing_reason wanted got) (first_reason (extra_reason wanted got) (first_reason (value_reason wanted got) (placed_reason ordered wanted got)))
 
 -- the first reason in the result of an answer: it is of another kind, or of its series
 abbrev pub answer_reason : Bool → Bool → Expected → Answer → Option Reason

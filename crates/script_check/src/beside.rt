@@ -9,7 +9,7 @@ use std::cmp::Ordering;
 use xfrac::near;
 
 /// Whether points have the same times in the same order, with near values.
-fn points_beside(wanted: &[Point], got: &[Point]) -> bool
+pub fn points_beside(wanted: &[Point], got: &[Point]) -> bool
     ensures { result ≡ points_beside wanted.now got.now }
 {
     if wanted.len() != got.len() {
@@ -26,7 +26,7 @@ fn points_beside(wanted: &[Point], got: &[Point]) -> bool
 }
 
 /// Whether labels are greater than those before them, if there are any.
-fn rises_behind(before: Option<&Labels>, labels: &Labels) -> bool
+pub fn rises_behind(before: Option<&Labels>, labels: &Labels) -> bool
     ensures { result ≡ rises_behind (option_map (λ b. b.now) before.entry) labels.now }
 {
     match before {

@@ -1,12 +1,14 @@
 //! The verdict on an evaluation.
-ghost use Rattle.script_check.specs.Verdicts.{AreKept, HasPatterns, answer_reason, failure_reason, failure_text_holds, is_answer, is_scalar, no_note, notes_in, notes_reason, reason_of, result_reason, some_note, verdict_of};
+ghost use Rattle.script_check.specs.Verdicts.{AreKept, HasPatterns, PatternList, answer_reason, bare_reason, failure_reason, failure_text_holds, is_answer, is_scalar, meets, no_note, noted_holds, notes_in, notes_reason, reason_of, result_reason, some_note, verdict_of};
 ghost use Rattle.script_read.specs.Lines.{is_empty};
-ghost use Rattle.std.specs.Prelude.{◌≡◌, not, IfOk};
+ghost use Rattle.std.specs.List.{list_all, list_any};
+ghost use Rattle.std.specs.Prelude.{◌≡◌, not, true, IfOk, IsTrue};
 
 use crate::note_text::{has_texts, texts_of};
+use crate::noted::agree_with_notes;
 use crate::outcome_text::text_of;
 use crate::series::{judge_scalar, judge_series, scalar_in};
-use crate::tested::{are_met, is_silent, meets_all};
+use crate::tested::{are_bare, are_met, is_silent, meets_all};
 use crate::verdict::{Reason, Verdict};
 use label_set::Items;
 use match_rule::Patterns;
@@ -103,8 +105,33 @@ fn has_notes(warnings: bool, o: &Outcome) -> bool
     }
 }
 
-/// The first reason among the lines on warnings, or else on info notes. Where there are no such lines it takes no memory, and
-/// else its only error is want of memory.
+/// Whether lines on warnings, or else on info notes, agree with those of an outcome, so far as that is told without memory.
+fn agree_on_notes(warnings: bool, lines: &[Wanted], o: &Outcome) -> bool
+    ensures noted { IsTrue result → (kept : PatternList) → noted_holds kept lines.now (notes_in warnings o.now) ≡ true }
+    ensures silent { IsTrue result → (kept : PatternList) → list_all (λ note. list_any (meets kept note) lines.now) (notes_in warnings o.now) ≡ true }
+{
+    match o {
+        Outcome::Answer(answer) => agree_with_notes(warnings, answer.notes.as_slice(), lines),
+        _ => false,
+    }
+}
+
+/// Why lines that want nothing of a note but that there is one don't hold, if they don't.
+fn bare_reason(warnings: bool, none: bool, noted: bool) -> Option<Reason>
+    ensures { result ≡ bare_reason warnings none noted }
+{
+    if !noted {
+        return Some(no_note(warnings));
+    }
+    if none {
+        Some(some_note(warnings))
+    } else {
+        None
+    }
+}
+
+/// The first reason among the lines on warnings, or else on info notes. Where there are no such lines, or none of them searches and
+/// they hold, it takes no memory, unless a note tells a quantile; else its only error is want of memory.
 fn judge_notes(
     alloc: Global,
     warnings: bool,
@@ -123,6 +150,12 @@ fn judge_notes(
         } else {
             None
         });
+    }
+    if are_bare(lines) {
+        return Ok(bare_reason(warnings, none, has_notes(warnings, o)));
+    }
+    if agree_on_notes(warnings, lines, o) {
+        return Ok(bare_reason(warnings, none, true));
     }
     let texts = notes_in(alloc, warnings, o)?;
     if !are_met(texts.as_slice(), lines, searches)? {

@@ -12,6 +12,19 @@ use std::alloc::{AllocError, Global};
 use step_table::Note;
 use xfrac::XFrac;
 
+/// What stands before a note's quantile.
+pub const QUANTILE_RANGE: &str = "quantile value should be between 0 and 1, got ";
+
+/// What stands before a note's bucket.
+pub const BAD_BUCKET: &str = "bucket label le is missing or has a malformed value of ";
+
+/// What stands before a note's name.
+pub const NOT_COUNTER: &str =
+    "metric might not be a counter, name does not end in _total/_sum/_count/_bucket: ";
+
+/// The whole text of a note on buckets.
+pub const FIXED_BUCKETS: &str = "input to histogram_quantile needed to be fixed for monotonicity";
+
 /// Whether a note is a warning; the others are info notes. It takes no memory.
 pub fn is_warning(note: &Note) -> bool
     ensures { result ≡ is_warning note.now }
@@ -24,7 +37,7 @@ pub fn is_warning(note: &Note) -> bool
     }
 }
 
-fn is_of(warnings: bool, note: &Note) -> bool
+pub fn is_of(warnings: bool, note: &Note) -> bool
     ensures { result ≡ is_of warnings note.now }
 {
     if warnings {
@@ -60,25 +73,10 @@ fn append_told(note: &Note, into: &mut Vec<u8>) -> Result<(), AllocError>
     ensures { OnOk result (into.new.items ≡ into.old.items ++ note_text note.now) }
 {
     match note {
-        Note::QuantileRange(quantile) => append_number(
-            "quantile value should be between 0 and 1, got ",
-            quantile,
-            into,
-        ),
-        Note::BadBucket(bound) => append_with_quotes(
-            "bucket label le is missing or has a malformed value of ",
-            bound.as_str(),
-            into,
-        ),
-        Note::NotCounter(name) => append_both(
-            "metric might not be a counter, name does not end in _total/_sum/_count/_bucket: ",
-            name.as_str().as_bytes(),
-            into,
-        ),
-        Note::FixedBuckets => append_text(
-            "input to histogram_quantile needed to be fixed for monotonicity",
-            into,
-        ),
+        Note::QuantileRange(quantile) => append_number(QUANTILE_RANGE, quantile, into),
+        Note::BadBucket(bound) => append_with_quotes(BAD_BUCKET, bound.as_str(), into),
+        Note::NotCounter(name) => append_both(NOT_COUNTER, name.as_str().as_bytes(), into),
+        Note::FixedBuckets => append_text(FIXED_BUCKETS, into),
     }
 }
 

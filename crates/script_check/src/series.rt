@@ -1,12 +1,13 @@
 //! Whether the series of an answer are those that are expected.
 ghost use Rattle.script_check.specs.Lookups.{HasSeries, HasValues};
-ghost use Rattle.script_check.specs.Series.{differs, differs_from, extra_reason, first_apart, first_value, is_apart, is_differing, is_lacking, are_near, least, lesser, misplaced, missing_reason, order_reason, scalar_in, scalar_reason, soonest, soonest_of, sooner, times, value_at, value_reason};
+ghost use Rattle.script_check.specs.Series.{differs, differs_from, extra_reason, first_apart, first_value, is_apart, is_differing, is_lacking, are_near, least, lesser, misplaced, missing_reason, order_reason, placed_reason, scalar_in, scalar_reason, soonest, soonest_of, sooner, times, value_at, value_reason};
 ghost use Rattle.script_check.specs.Verdicts.{series_reason};
 ghost use Rattle.promql_meaning.specs.declared.answer.Point.{Point};
 ghost use Rattle.promql_meaning.specs.declared.answer.ResultSeries.{ResultSeries};
 ghost use Rattle.std.specs.Prelude.{◌≡◌, filter, option_map, IfOk, List};
 
 use crate::beside::agree_by_lines;
+use crate::paired::agree_in_pairs;
 use crate::verdict::Reason;
 use label_set::Labels;
 use promql_meaning::{Point, ResultSeries};
@@ -267,8 +268,23 @@ fn order_reason(wanted: &[ResultSeries], got: &[ResultSeries]) -> Result<Option<
     }
 }
 
-/// The first reason why series aren't those that are expected, if there is one. Series that stand in the order of the lines,
-/// which rise by their labels, are compared without memory; else the only error is want of memory.
+/// Why series don't stand in the order of the lines, where that counts. The only error is want of memory, which a reason takes.
+fn placed_reason(
+    ordered: bool,
+    wanted: &[ResultSeries],
+    got: &[ResultSeries],
+) -> Result<Option<Reason>, AllocError>
+    ensures { IfOk result (λ reason. reason ≡ placed_reason ordered wanted.now got.now) }
+{
+    if ordered {
+        order_reason(wanted, got)
+    } else {
+        Ok(None)
+    }
+}
+
+/// The first reason why series aren't those that are expected, if there is one. Series that agree are compared without memory where
+/// the lines or the answer rise by their labels; else the only error is want of memory.
 pub fn judge_series(
     alloc: Global,
     ordered: bool,
@@ -279,6 +295,9 @@ pub fn judge_series(
 {
     if agree_by_lines(wanted, got) {
         return Ok(None);
+    }
+    if agree_in_pairs(wanted, got) {
+        return placed_reason(ordered, wanted, got);
     }
     let lines = by_labels(alloc, wanted)?;
     let found = by_labels(alloc, got)?;
@@ -291,11 +310,7 @@ pub fn judge_series(
     if let Some(reason) = value_reason(alloc, wanted, &found)? {
         return Ok(Some(reason));
     }
-    if ordered {
-        order_reason(wanted, got)
-    } else {
-        Ok(None)
-    }
+    placed_reason(ordered, wanted, got)
 }
 
 // ---- scalars

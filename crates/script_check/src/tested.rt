@@ -1,8 +1,10 @@
 //! Whether texts are what the lines of a script want.
-ghost use Rattle.script_check.specs.Verdicts.{AreKept, IsKept, meets, noted_holds, silence_holds};
+ghost use Rattle.script_check.specs.Searched.{HoldsWhereMarked};
+ghost use Rattle.script_check.specs.Verdicts.{AreKept, IsKept, is_bare, meets, noted_holds, silence_holds};
 ghost use Rattle.match_rule.specs.Patterns.{passes_at};
 ghost use Rattle.std.specs.List.{list_all, list_any};
-ghost use Rattle.std.specs.Prelude.{◌≡◌, ◌<◌, ◌&&◌, false, true, length, IfOk, MatchOption};
+ghost use Rattle.std.specs.Prelude.{◌≡◌, ◌<◌, ◌&&◌, Bool, false, true, length, IfOk, IsTrue, MatchOption};
+ghost use Rattle.script_read.specs.declared.script.Wanted.{Wanted};
 ghost use Rattle.std.specs.Str.{is_utf8};
 
 use label_set::{Items, PatternId};
@@ -10,6 +12,9 @@ use match_rule::Patterns;
 use script_read::Wanted;
 use std::alloc::AllocError;
 use std::str;
+
+/// At most so many patterns are kept of a script.
+const MOST_PATTERNS: usize = 32;
 
 /// The bytes as a text, if they are one.
 fn text_in(bytes: &[u8]) -> Option<&str>
@@ -19,6 +24,28 @@ fn text_in(bytes: &[u8]) -> Option<&str>
         Ok(text) => Some(text),
         Err(_) => None,
     }
+}
+
+/// Whether a line wants nothing of a text but that there is one.
+pub fn is_bare(line: &Wanted) -> bool
+    ensures { result ≡ is_bare line.now }
+{
+    match line {
+        Wanted::Any => true,
+        _ => false,
+    }
+}
+
+/// Whether lines want nothing of a text but that there is one.
+pub fn are_bare(lines: &[Wanted]) -> bool
+    ensures { result ≡ list_all is_bare lines.now }
+{
+    for line in lines {
+        if !is_bare(line) {
+            return false;
+        }
+    }
+    true
 }
 
 /// Whether a pattern is found in a text. Only text in UTF-8 is searched.
@@ -60,16 +87,41 @@ pub fn meets_all(text: &[u8], lines: &[Wanted], searches: &mut Patterns) -> Resu
     Ok(true)
 }
 
-/// Whether a text is what one of some lines wants.
+/// Whether a line searches with a pattern that is marked.
+fn is_marked(line: &Wanted, marks: &[bool; MOST_PATTERNS]) -> bool
+    ensures { IsTrue result → (holds : Wanted → Bool) → HoldsWhereMarked holds marks.now → holds line.now ≡ true }
+{
+    match line {
+        Wanted::Regex(id) if id.0 < 32 => marks[id.0 as usize],
+        _ => false,
+    }
+}
+
+/// Marks the pattern with which a line searches, so that it isn't searched again.
+fn mark(line: &Wanted, marks: &mut [bool; MOST_PATTERNS])
+    ensures { (holds : Wanted → Bool) → holds line.now ≡ true → HoldsWhereMarked holds marks.old → HoldsWhereMarked holds marks.new }
+{
+    match line {
+        Wanted::Regex(id) if id.0 < 32 => marks[id.0 as usize] = true,
+        _ => {}
+    }
+}
+
+/// Whether a text is what one of some lines wants. Each pattern is searched once.
 fn meets_any(text: &[u8], lines: &[Wanted], searches: &mut Patterns) -> Result<bool, AllocError>
     requires { AreKept searches.old lines.now }
     ensures answer { IfOk result (λ b. b ≡ list_any (meets searches.old text.now) lines.now) }
     ensures same { searches.new ≡ searches.old }
 {
+    let mut marks = [false; MOST_PATTERNS];
     for line in lines {
+        if is_marked(line, &marks) {
+            continue;
+        }
         if meets(text, line, searches)? {
             return Ok(true);
         }
+        mark(line, &mut marks);
     }
     Ok(false)
 }
@@ -88,7 +140,7 @@ fn is_met(texts: &[Items<u8>], line: &Wanted, searches: &mut Patterns) -> Result
     Ok(false)
 }
 
-/// Whether for each of some lines one of the texts is what it wants. The only error is want of memory.
+/// Whether for each of some lines one of the texts is what it wants. Each pattern is searched once. The only error is want of memory.
 pub fn are_met(
     texts: &[Items<u8>],
     lines: &[Wanted],
@@ -98,10 +150,15 @@ pub fn are_met(
     ensures answer { IfOk result (λ b. b ≡ noted_holds searches.old lines.now texts.now) }
     ensures same { searches.new ≡ searches.old }
 {
+    let mut marks = [false; MOST_PATTERNS];
     for line in lines {
+        if is_marked(line, &marks) {
+            continue;
+        }
         if !is_met(texts, line, searches)? {
             return Ok(false);
         }
+        mark(line, &mut marks);
     }
     Ok(true)
 }
