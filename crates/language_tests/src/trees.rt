@@ -1,0 +1,51 @@
+use crate::types::tree;
+use holders::Text;
+use promql_ast::QueryRefusal;
+use std::alloc::Global;
+use std::test::Fail;
+
+/// Its longest path has six nodes.
+const SIX: &str = "sum(abs(x)) > bool (-(1)) or x";
+
+fn is_copied(alloc: Global) -> Result<bool, Fail> {
+    let six = tree(alloc, SIX)?;
+    let copy = six.copy()?;
+    Ok(copy.is_same(&six) && copy == six && !copy.is_same(&tree(alloc, "1")?))
+}
+
+fn depth_of(alloc: Global, text: &str) -> Result<u64, Fail> {
+    Ok(tree(alloc, text)?.depth())
+}
+
+#[test]
+fn trees_are_measured(rt: HostRuntime) -> Result<(), Fail> {
+    for (text, depth) in [("1", 1), ("(x)", 2), (SIX, 6)] {
+        assert_eq!(rt; depth_of(rt.alloc(), text)?, depth, "{text}");
+    }
+    Ok(())
+}
+
+#[test]
+fn trees_are_copied(rt: HostRuntime) -> Result<(), Fail> {
+    assert!(rt; is_copied(rt.alloc())?);
+    Ok(())
+}
+
+fn unknown(alloc: Global) -> Result<QueryRefusal, Fail> {
+    Ok(QueryRefusal::UnknownFunction(4, Text::of(alloc, "foo")?))
+}
+
+fn is_refusal_copied(alloc: Global) -> Result<bool, Fail> {
+    let refusal = unknown(alloc)?;
+    Ok(refusal.copy()? == refusal)
+}
+
+#[test]
+fn refusals_have_places(rt: HostRuntime) -> Result<(), Fail> {
+    let alloc = rt.alloc();
+    assert_eq!(rt; unknown(alloc)?.place(), 4);
+    assert_eq!(rt; unknown(alloc)?.number(), 12);
+    assert!(rt; is_refusal_copied(alloc)?);
+    assert_eq!(rt; QueryRefusal::TooManyPoints(9).number(), 27);
+    Ok(())
+}
