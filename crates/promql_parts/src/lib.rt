@@ -1,6 +1,6 @@
 //! The parts of a query's grammar in which nothing nests: lexemes, labels, groupings, rules of selectors, durations,
 //! modifiers, operators and how their sides are matched.
-//! Its rows of tests are the scripts of `tests/scripts`.
+//! Its rows of tests stand in `language_tests`.
 #![tactic(auto)]
 
 mod cut;
