@@ -185,14 +185,14 @@ fn is_answered(labels: &mut Labels, alloc: Global, line: &str) -> Result<bool, M
     Ok(parts.next() == Some(answer))
 }
 
-/// The first line with another answer than the one that it says, if there is one.
-fn first_wrong(labels: &mut Labels, alloc: Global) -> Result<Option<&'static str>, Memory> {
+/// The first line with another answer than the one that it says, or nothing.
+fn first_wrong(labels: &mut Labels, alloc: Global) -> Result<&'static str, Memory> {
     for line in CALLS.split('\n') {
         if !is_answered(labels, alloc, line)? {
-            return Ok(Some(line));
+            return Ok(line);
         }
     }
-    Ok(None)
+    Ok("")
 }
 
 fn told(labels: &Labels, alloc: Global) -> Result<String, Memory> {
@@ -206,7 +206,7 @@ fn told(labels: &Labels, alloc: Global) -> Result<String, Memory> {
 fn pairs_are_refused_in_order(rt: HostRuntime) -> Result<(), Fail> {
     let mut labels = Labels::empty(rt.alloc());
     let wrong = first_wrong(&mut labels, rt.alloc())?;
-    assert_eq!(rt; wrong, None);
+    assert_eq!(rt; wrong, "");
     let told = told(&labels, rt.alloc())?;
     assert_eq!(rt; told.as_str(), "2 web  4096");
     Ok(())

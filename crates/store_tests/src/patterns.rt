@@ -1,5 +1,5 @@
 ghost use Rattle.match_rule.specs.Patterns.{HasItsPattern, IsWholeId};
-ghost use Rattle.std.specs.Prelude.{◌≡◌};
+ghost use Rattle.std.specs.Prelude.{◌≡◌, IfOk};
 
 use label_set::{Items, Labels, PatternId, Rule, RuleKind, Text};
 use match_rule::*;
@@ -19,6 +19,25 @@ fn said(passes: bool) -> &'static str {
     if passes { "yes" } else { "no" }
 }
 
+/// What a group spans, as a text.
+fn span_text(alloc: Global, span: Option<(usize, usize)>) -> Result<String, Memory> {
+    match span {
+        None => String::from_str(alloc, "-"),
+        Some((start, end)) => format!(in alloc; "{start}-{end}"),
+    }
+}
+
+fn span_texts(alloc: Global, spans: &Spans) -> Result<String, Memory> {
+    let mut text = String::new(alloc);
+    for i in 0..spans.len() {
+        if i > 0 {
+            text.push(',')?;
+        }
+        text.push_str(span_text(alloc, spans.get(i))?.as_str())?;
+    }
+    Ok(text)
+}
+
 /// What the groups of a pattern span in a value, as a text.
 fn spans_of(
     alloc: Global,
@@ -32,17 +51,7 @@ fn spans_of(
     if !patterns.groups(id, value, &mut spans)? {
         return String::from_str(alloc, "none");
     }
-    let mut text = String::new(alloc);
-    for i in 0..spans.len() {
-        let comma = if i == 0 { "" } else { "," };
-        match spans.get(i) {
-            None => text.push_str(format!(in alloc; "{comma}-")?.as_str())?,
-            Some((start, end)) => {
-                text.push_str(format!(in alloc; "{comma}{start}-{end}")?.as_str())?
-            }
-        }
-    }
-    Ok(text)
+    span_texts(alloc, &spans)
 }
 
 /// A row's answers, as its line has them.
@@ -103,6 +112,15 @@ fn there_are_32_patterns(rt: HostRuntime) -> Result<(), Fail> {
     Ok(())
 }
 
+fn rule_on_env(alloc: Global, kind: RuleKind) -> Result<Rule, Memory>
+    ensures { IfOk result (λ rule. rule.kind ≡ kind) }
+{
+    Ok(Rule {
+        label: Text::of(alloc, "env")?,
+        kind,
+    })
+}
+
 /// Whether labels pass one rule on `env`, by each of the ways to ask.
 fn pass_both_ways(
     alloc: Global,
@@ -113,10 +131,7 @@ fn pass_both_ways(
     requires { HasItsPattern patterns.old kind }
     ensures { patterns.new ≡ patterns.old }
 {
-    let rule = Rule {
-        label: Text::of(alloc, "env")?,
-        kind,
-    };
+    let rule = rule_on_env(alloc, kind)?;
     let first = passes(&rule, patterns, labels.get("env"))?;
     let mut rules = Items::new(alloc);
     rules.push(rule)?;
