@@ -36,6 +36,11 @@ missing {}§r¶{} 1§scalar
 pass§r¶x _x3§vector¶x _x3
 x at 1000 expected 1 got nothing§r¶x _ 1§vector¶x _x3
 x at 1000 expected 1 got nothing§i¶x 1§vector¶x _
+pass§i¶y 1¶x 2§vector¶x 2¶y 1
+pass§i¶x 1¶y 2§vector¶y 2¶x 1
+pass§i¶y 1¶x 2¶z 3§vector¶z 3¶x 2¶y 1
+y at 1000 expected 1 got 3§i¶y 1¶x 2§vector¶x 2¶y 3
+missing y§i¶y 1¶x 2§vector¶x 2¶z 1
 "##;
 
 // ---- what a row says
@@ -211,7 +216,7 @@ fn verdicts_are_those_of_the_rules(rt: HostRuntime) -> Result<(), Fail> {
             count = count.saturating_add(1);
         }
     }
-    assert_eq!(rt; count, 16);
+    assert_eq!(rt; count, 21);
     Ok(())
 }
 
@@ -258,7 +263,13 @@ fn judges_40000_series(rt: HostRuntime) -> Result<(), Fail> {
         notes: Items::new(alloc),
     });
     let mut room = PatternRoom::new(alloc)?;
-    let verdict = judge(alloc, &expected, true, &got, &mut Patterns::new(alloc, &mut room))?;
+    let verdict = judge(
+        alloc,
+        &expected,
+        true,
+        &got,
+        &mut Patterns::new(alloc, &mut room),
+    )?;
     assert_eq!(rt; verdict, Verdict::Pass);
     Ok(())
 }

@@ -1,7 +1,7 @@
 //! Running a script: each evaluation is judged over the samples that were loaded before it, and its line is written.
 ghost use Rattle.edge_io.specs.Causes.{HasCause};
 ghost use Rattle.script_check.specs.Verdicts.{HasItsPatterns, HasPatterns, KeepsPatterns};
-ghost use Rattle.std.specs.Prelude.{◌≡◌, ◌<◌, ◌^◌, [], ◌∷◌, Ok, length, IfErr, IfOk, IsErrOf};
+ghost use Rattle.std.specs.Prelude.{◌≡◌, ◌<◌, ◌+◌, ◌^◌, [], ◌∷◌, Ok, length, IfErr, IfOk, IsErrOf};
 ghost use Rattle.test_runner.specs.Loads.{left_by, samples_left};
 ghost use Rattle.test_runner.specs.Running.{AnswersLoads, CarriedOut, HasRun, IfCut, IfOfLoads, WasCut, WasCutOff};
 ghost use Rattle.test_runner.specs.Steps.{IsJudgementOn, WroteLess, WroteLine};
@@ -55,6 +55,7 @@ fn run_command<S: Sink, W: Ledger>(
 ) -> Result<Totals, RunnerFault>
     requires { HasItsPatterns searches.old command.now.what }
     ensures left { IfOk result (λ _. left_by command.now.what store.old ≡ Ok store.new) }
+    ensures rests { IfOk result (λ totals. totals.passed + totals.failed ≡ 0 → work.new ≡ work.old) }
     ensures ran { IfOk result (CarriedOut options.now.closed searches.old path.now store.old (command.now ∷ []) (S.written out.old) (S.written out.new)) }
     ensures cut { IfErr result (λ fault. IfCut fault (WasCutOff options.now.closed searches.old path.now store.old (command.now ∷ []) (S.written out.old) (S.written out.new))) }
     ensures explained { IfErr result (IfOfLoads (left_by command.now.what store.old)) }
@@ -101,6 +102,7 @@ fn run_commands<S: Sink, W: Ledger>(
     requires kept { KeepsPatterns searches.old script.now }
     requires few { length script.now.commands < 2 ^ 32 }
     ensures ran { IfOk result (HasRun options.now.closed searches.old path.now script.now (S.written out.old) (S.written out.new)) }
+    ensures rests { IfOk result (λ totals. totals.passed + totals.failed ≡ 0 → work.new ≡ work.old) }
     ensures cut { IfErr result (λ fault. IfCut fault (WasCut options.now.closed searches.old path.now script.now (S.written out.old) (S.written out.new))) }
     ensures explained { IfErr result (IfOfLoads (samples_left script.now)) }
     ensures cause { HasCause (S.faults out.old) (S.faults out.new) (IsErrOf result RunnerFault.Write) }
@@ -136,8 +138,9 @@ pub fn run<S: Sink, W: Ledger>(
     requires kept { KeepsPatterns searches.old script.now }
     requires few { length script.now.commands < 2 ^ 32 }
 
-    // Each evaluation's verdict was written, and these are their numbers.
+    // Each evaluation's verdict was written, and these are their numbers. Nothing is counted but by evaluations.
     ensures ran { IfOk result (HasRun options.now.closed searches.old path.now script.now (S.written out.old) (S.written out.new)) }
+    ensures rests { IfOk result (λ totals. totals.passed + totals.failed ≡ 0 → work.new ≡ work.old) }
 
     // A refusal of loads comes exactly where they are refused; then nothing was written or evaluated.
     ensures refused { AnswersLoads (samples_left script.now) result }

@@ -14,6 +14,7 @@ pub loop-command-init : goal.loop-command-init
 loop-command-init g c = record {
   ran = carried_none _ _ _ _ _ refl refl;
   left = ap (λ (s : AllSeries). Ok s) (sym c.new-store.ensures);
+  rests = λ _. refl;
   kept = subst (AllByRecursion (λ (one : Command). HasItsPatterns c.args.searches.now one.what)) (sym c.as_slice-command-items.ensures) c.requires.kept;
   same = search rules;
   later = search rules;
@@ -62,6 +63,7 @@ loop-command-preserved g c =
     record {
       ran = subst (λ (cs : List Command). CarriedOut c.args.options.now.closed kept path [] cs (g.S.Sink.written c.args.out.now) now c.plus-totals.result) to both;
       left = subst (λ (cs : List Command). left_by_all cs [] ≡ Ok c.run_command.new.store) to (left_more (take i all) command [] mid sofar.left c.run_command.new.store c.in_ok-more.ensures.left);
+      rests = λ none. c.in_ok-more.ensures.rests (omega (arith, c.plus-totals.ensures.passed, c.plus-totals.ensures.failed, none)) ∙ sofar.rests (omega (arith, c.plus-totals.ensures.passed, c.plus-totals.ensures.failed, none));
       kept = has.1;
       same = c.in_ok-more.ensures.same ∙ sofar.same;
       later = omega (arith, sofar.later, c.in_ok-more.ensures.cause.later);

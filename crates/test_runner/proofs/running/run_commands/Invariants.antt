@@ -1,4 +1,4 @@
-use Rattle.std.proofs.Common.{◌≡◌, ◌≤◌, [], drop, take, Ok}
+use Rattle.std.proofs.Common.{◌≡◌, ◌≤◌, ◌+◌, [], drop, take, Ok}
 use Rattle.std.specs.List.{AllByRecursion}
 use Rattle.script_check.specs.Verdicts.{HasItsPatterns}
 use Rattle.script_read.specs.declared.script.Command.{Command}
@@ -11,6 +11,7 @@ abbrev pub invariant-loop-command : goal.invariant-loop-command
 invariant-loop-command g l = record {
   ran : CarriedOut l.options.closed l.fn.searches l.path [] (take l.command-index l.command-items) (g.S.Sink.written l.fn.out) (g.S.Sink.written l.out) l.totals;
   left : left_by_all (take l.command-index l.command-items) [] ≡ Ok l.store;
+  rests : l.totals.passed + l.totals.failed ≡ 0 → l.work ≡ l.fn.work;
   kept : AllByRecursion (λ (command : Command). HasItsPatterns l.fn.searches command.what) (drop l.command-index l.command-items);
   same : l.searches ≡ l.fn.searches;
   later : g.S.Sink.faults l.fn.out ≤ g.S.Sink.faults l.out;
