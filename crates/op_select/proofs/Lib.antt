@@ -1,0 +1,7 @@
+pub mod Counted
+pub mod Instants
+pub mod Lasts
+pub mod More
+pub mod Naming
+pub mod Shows
+pub mod Bounded
