@@ -4,4 +4,6 @@
 #[cfg(test)]
 mod steps;
 #[cfg(test)]
+mod windows;
+#[cfg(test)]
 mod written;
