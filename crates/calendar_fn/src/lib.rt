@@ -1,4 +1,5 @@
 //! What a time is on a clock and a calendar of UTC: the parts of a number of seconds since the beginning of 1970-01-01.
+//! Its rows of tests stand in `number_tests`.
 #![tactic(auto)]
 
 mod civil;

@@ -58,7 +58,7 @@ impl<'r> Kept<'r> {
         }
     }
 
-    /// A pattern with what searches for it. It takes no memory.
+    /// A pattern with what searches for it.
     fn with(whole: bool, text: Text, mut matcher: Option<Matcher<'r>>) -> Kept<'r>
         requires { IsSearchedBy whole text matcher }
         ensures { result ≡ (whole, text) }
@@ -87,7 +87,7 @@ impl<'r> Kept<'r> {
         same_form && text == self.text.as_str()
     }
 
-    /// Whether the pattern passes a value. It takes no memory.
+    /// Whether the pattern passes a value.
     pub(crate) fn passes(&mut self, value: &str) -> bool
         ensures answer { result ≡ pattern_passes self.old value.now }
         ensures same { self.new ≡ self.old }
@@ -116,7 +116,7 @@ impl<'r> Kept<'r> {
     }
 }
 
-/// Whether a pattern passes a value. It takes no memory.
+/// Whether a pattern passes a value. Where memory is short the search does without.
 fn is_passed(whole: bool, text: &str, matcher: &mut Option<Matcher<'_>>, value: &str) -> bool
     requires { IsSearchedBy whole text.now matcher.old }
     ensures answer { result ≡ pattern_passes (whole, text.now) value.now }

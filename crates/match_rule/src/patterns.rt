@@ -169,7 +169,7 @@ impl<'r> Patterns<'r> {
         Ok(PatternId(place as u32))
     }
 
-    /// Whether the pattern under a number passes a value. It takes no memory, and so answers no error.
+    /// Whether the pattern under a number passes a value. It answers no error: where memory is short the search does without.
     pub fn matches(&mut self, id: PatternId, value: &str) -> Result<bool, AllocError>
         requires { id.0 < length self.old }
         ensures answer { IfOk result (λ b. b ≡ passes_at self.old id.0 value.now) }

@@ -6,7 +6,7 @@ use label_set::{Labels, Rule, RuleKind};
 use std::alloc::AllocError;
 
 /// Whether a label's value passes a rule; for a label that is missing the value is the empty text. The patterns of the
-/// rule must be of `Patterns::whole`, from these patterns. It takes no memory, and so answers no error.
+/// rule must be of `Patterns::whole`, from these patterns. It answers no error.
 pub fn passes(rule: &Rule, patterns: &mut Patterns, value: &str) -> Result<bool, AllocError>
     requires { HasItsPattern patterns.old rule.now.kind }
     ensures answer { IfOk result (λ b. b ≡ kind_passes patterns.old rule.now.kind value.now) }
@@ -22,7 +22,7 @@ pub fn passes(rule: &Rule, patterns: &mut Patterns, value: &str) -> Result<bool,
 }
 
 /// Whether labels pass each of some rules; a missing label is the empty text. The patterns of the rules must be of
-/// `Patterns::whole`, from these patterns. It takes no memory, and so answers no error.
+/// `Patterns::whole`, from these patterns. It answers no error.
 pub fn labels_pass(
     rules: &[Rule],
     patterns: &mut Patterns,

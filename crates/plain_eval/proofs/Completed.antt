@@ -1,5 +1,5 @@
 -- What a calendar function is called with.
-use Rattle.std.proofs.Common.{◌≡◌, ℕ, suc, ◌<◌, List, [], ◌∷◌, ◌++◌, length, refl, arith}
+use Rattle.std.proofs.Common.{◌≡◌, ◌<◌, List, [], ◌∷◌, ◌++◌, length, refl, arith}
 use Rattle.std.specs.Prelude.{ℤ}
 use Rattle.promql_meaning.specs.Elements.{time_step}
 use Rattle.promql_meaning.specs.Meaning.{or_instant}

@@ -1,11 +1,8 @@
 -- The windows that a ready tree gives have their samples in their ranges.
-use Rattle.std.proofs.Common.{◌≡◌, ℕ, zero, suc, ◌<◌, ◌+◌, Bool, true, false, List, [], ◌∷◌, ◌++◌, length, map, drop, filter, refl, sym, ap, subst, arith, add-one}
-use Rattle.std.specs.Prelude.{◌/◌, ◌%◌, ◌*◌, unsigned_abs, ℤ, pos, negsuc, ◌-ℤ◌, ◌+ℤ◌, ◌<ℤ◌, ◌≤ℤ◌, int_lt, int_le, ◌&&◌, if◌then◌else◌}
+use Rattle.std.proofs.Common.{◌≡◌, ℕ, zero, suc, ◌<◌, ◌+◌, Bool, true, false, List, [], ◌∷◌, ◌++◌, length, map, drop, filter, refl, sym, ap, subst, arith}
+use Rattle.std.specs.Prelude.{ℤ, pos, ◌-ℤ◌, ◌<ℤ◌, ◌≤ℤ◌, int_le, ◌&&◌, if◌then◌else◌}
 use Rattle.std.specs.List.{All, AllByRecursion, cons_option, filter_map}
-use Rattle.std.specs.Int.{int_rem_euclid}
 use Rattle.std.proofs.lemmas.Int.{ints}
-use Rattle.std.proofs.lemmas.Nat.{div-add-mod'}
-use Rattle.std.proofs.Math.Nat.{mod-lt}
 use Rattle.func_table.specs.declared.table.Func.{Func}
 use Rattle.func_table.specs.declared.table.Func.TheVariants as func
 use Rattle.label_set.specs.declared.rules.Pairing.{Pairing}
@@ -31,7 +28,7 @@ use Rattle.promql_meaning.specs.declared.given.Given.TheVariants.{Scalar, Vector
 use Rattle.promql_meaning.specs.declared.given.Windows.{Windows as WindowsRecord}
 use Rattle.promql_meaning.specs.Conditions.{AreMet, Need, needs_of, node_needs}
 use Rattle.promql_meaning.specs.Givens.{step_of}
-use Rattle.promql_meaning.specs.Subqueries.{as_times, gathered_windows, group_window, instants, instants_up_to, multiple_after, multiples, points_of, rows_over}
+use Rattle.promql_meaning.specs.Subqueries.{as_times, gathered_windows, group_window, multiples, points_of, rows_over}
 use Rattle.promql_meaning.specs.Meaning.{argument, called, given_at, meaning, negation, node_meaning, operation}
 use Rattle.promql_meaning.specs.Ranges.{frame_of}
 use Rattle.promql_meaning.specs.Selecting.{Asked, Samples, between, fresh_sample, passing, moment_of, sample_times, sample_values, series_window, window, window_row}

@@ -1,8 +1,7 @@
 -- The samples of a range as they are read from its edge on, and the series as they are found by their numbers.
-use Rattle.std.proofs.Common.{◌≡◌, ℕ, zero, suc, ◌<◌, Bool, true, false, List, [], ◌∷◌, ◌++◌, length, filter, Option, None, Some, refl, sym, ap, ◌∙◌, arith, append_assoc, append-nil, get_or, map}
+use Rattle.std.proofs.Common.{◌≡◌, ℕ, zero, suc, ◌<◌, Bool, true, false, List, [], ◌∷◌, ◌++◌, length, Option, None, Some, refl, sym, ap, ◌∙◌, arith, append_assoc, append-nil, get_or, map}
 use Rattle.std.specs.Prelude.{ℤ, ◌<ℤ◌, Contains, int_lt, int_le, not, slice_get, if◌then◌else◌, ◌&&◌}
-use Rattle.std.specs.BTreeMap.{insert_entry}
-use Rattle.std.specs.List.{AllByRecursion, cons_option, filter_map, last_or}
+use Rattle.std.specs.List.{AllByRecursion, cons_option, filter_map}
 use Rattle.std.specs.List.Sorted.{IsStrictlySortedBy}
 use Rattle.std.specs.Option.{option_and_then, option_to_list}
 use Rattle.std.specs.Ordering.{int_cmp}
@@ -11,14 +10,12 @@ use Rattle.std.specs.declared.cmp.Ordering.TheVariants.{Less}
 use Rattle.std.proofs.lemmas.Int.{ints}
 use Rattle.std.proofs.lemmas.List.Elements.{All-contains_itself, recursion_from_All}
 use Rattle.label_set.specs.declared.rules.Rule.{Rule}
-use Rattle.label_set.specs.Labels.{labels_cmp}
-use Rattle.match_rule.specs.Patterns.{labels_pass}
-use Rattle.sample_store.specs.Samples.{AllSeries, IsRising, IsSelected, Names, Samples, by_labels, chosen, later_than}
+use Rattle.sample_store.specs.Samples.{AllSeries, IsRising, IsSelected, Samples, chosen, later_than}
 use Rattle.ticks.specs.Edges.{before, is_from, is_from-later}
 use Rattle.ticks.specs.declared.moment.Ms.{Ms}
 use Rattle.xfrac.specs.declared.value.Held.{Held}
 use Rattle.xfrac.specs.declared.value.XFrac.{XFrac}
-use Rattle.promql_meaning.specs.Selecting.{between, by_labels as meant_by_labels, fresh_sample, passing}
+use Rattle.promql_meaning.specs.Selecting.{between, fresh_sample, passing}
 use Rattle.plain_eval.specs.Numbered.{fresh_until, until}
 
 -- ---- the samples up to a time
@@ -147,15 +144,7 @@ as_many {A} all (n ∷ numbers) within =
     there (x ∷ xs) zero h is = cc
     there (x ∷ xs) (suc k) h is = there xs k (let l : k < length xs = omega (arith, h) in l) is
 
--- the series that pass are the same by the store and by the meaning
-same_order : (all : AllSeries) → by_labels all ≡ meant_by_labels all
-same_order [] = refl
-same_order (one ∷ all) = ap (λ es. insert_entry labels_cmp es one.0 one.1) (same_order all)
-
-pub same_passing : (kept : List (Bool × List ℕ)) (rules : List Rule) (all : AllSeries) → chosen kept rules all ≡ passing all kept rules
-same_passing kept rules all = ap (filter (λ (s : Names × Samples). labels_pass kept rules s.0)) (same_order all)
-
 -- as many numbers are selected as series pass
 pub as_many_pass : (kept : List (Bool × List ℕ)) (rules : List Rule) (all : AllSeries) (places : List ℕ) → IsSelected kept rules all places → filter_map (slice_get all) places ≡ chosen kept rules all
     → length places ≡ length (passing all kept rules)
-as_many_pass kept rules all places selected is = sym (as_many all places (all_within kept rules all places selected)) ∙ ap length (is ∙ same_passing kept rules all)
+as_many_pass kept rules all places selected is = sym (as_many all places (all_within kept rules all places selected)) ∙ ap length is

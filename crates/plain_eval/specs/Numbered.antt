@@ -1,5 +1,5 @@
 -- The rows of series by their numbers. (Our own.)
-use Rattle.std.specs.Prelude.{ℕ, ℤ, Bool, not, List, Option, None, slice_get, int_lt, filter}
+use Rattle.std.specs.Prelude.{ℕ, ℤ, Bool, not, List, Option, slice_get, int_lt, filter}
 use Rattle.std.specs.List.{filter_map}
 use Rattle.std.specs.Option.{option_and_then}
 use Rattle.step_table.specs.declared.windows.WindowRow.{WindowRow}

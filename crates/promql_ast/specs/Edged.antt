@@ -1,7 +1,7 @@
 -- A tree with one left edge everywhere: each of its moments is closed on the left, or each is open. Which of the two is asked for
 -- is an option of an evaluation and stands in no text. (This project's own; Prometheus 3 takes windows that are open on the left,
 -- Prometheus 2 took closed ones.)
-use Rattle.std.specs.Prelude.{◌≡◌, ℕ, Bool, List, ⊤}
+use Rattle.std.specs.Prelude.{◌≡◌, Bool, ⊤}
 use Rattle.std.specs.List.{AllByRecursion}
 use Rattle.promql_ast.specs.declared.tree.Expr.{Expr}
 use Rattle.promql_ast.specs.declared.tree.Moment.{Moment}

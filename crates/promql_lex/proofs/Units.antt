@@ -1,6 +1,6 @@
 -- A run has units where the end of a count and a unit's letter stand side by side in it.
 use Rattle.std.proofs.Common.{◌≡◌, ◌↔◌, ℕ, Bool, true, false, List, [], ◌∷◌, ◌++◌, refl, ap, subst, sym, inl, inr}
-use Rattle.std.specs.Prelude.{◌&&◌, ◌||◌}
+use Rattle.std.specs.Prelude.{◌&&◌}
 use Rattle.std.proofs.lemmas.Bool.{and_from, and_parts, or_cases, or_left, or_right}
 use Rattle.promql_lex.specs.Laws.{HasUnit}
 use Rattle.promql_lex.specs.Numbers.{begins_unit, counts_in_hexadecimal, ends_count, has_unit, has_units}

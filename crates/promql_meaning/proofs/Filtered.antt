@@ -5,6 +5,7 @@ use Rattle.std.specs.List.{cons_option, filter_map}
 use Rattle.std.specs.Option.{option_map}
 use Rattle.std.proofs.lemmas.List.Folds.{list_all-append}
 use Rattle.label_set.specs.Labels.{value_of}
+use Rattle.label_set.specs.LabelOrder.{by_labels}
 use Rattle.label_set.specs.declared.rules.Rule.{Rule}
 use Rattle.match_rule.specs.Patterns.{kind_passes, labels_pass}
 use Rattle.step_table.specs.Groups.{Names}
@@ -14,7 +15,7 @@ use Rattle.ticks.specs.declared.moment.Ms.{Ms}
 use Rattle.xfrac.specs.declared.value.XFrac.{XFrac}
 use Rattle.promql_meaning.specs.Filters.{MoreRulesFilterRows, MoreRulesFilterWindows}
 use Rattle.promql_meaning.specs.Givens.{unstamped}
-use Rattle.promql_meaning.specs.Selecting.{AllSeries, Samples, by_labels, newest, newest_row, newest_rows, passing, series_window, window, window_row}
+use Rattle.promql_meaning.specs.Selecting.{AllSeries, Samples, newest, newest_row, newest_rows, passing, series_window, window, window_row}
 
 abbrev Series : Type 0
 Series = Names × Samples

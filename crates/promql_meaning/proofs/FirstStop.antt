@@ -3,7 +3,6 @@ use Rattle.std.proofs.Common.{◌≡◌, ◌∙◌, ℕ, ◌+◌, Bool, true, fa
 use Rattle.std.specs.Prelude.{◌||◌}
 use Rattle.std.specs.List.{list_any}
 use Rattle.std.specs.Option.{option_or}
-use Rattle.promql_ast.specs.declared.tree.Expr.{Expr}
 use Rattle.step_table.specs.Laws.{UnionHasNotes, has_note}
 use Rattle.step_table.specs.Timed.{StepAt}
 use Rattle.step_table.specs.Unions.{united}
@@ -12,7 +11,7 @@ use Rattle.step_table.specs.declared.marks.Note.{Note}
 use Rattle.promql_meaning.specs.declared.answer.Outcome.{Outcome}
 use Rattle.promql_meaning.specs.Givens.{no_marks}
 use Rattle.promql_meaning.specs.ResultLaws.{FirstStopIsFirst, IsFirstStop, NoStopIsNone, NoneStops, NotesStand, rows_in}
-use Rattle.promql_meaning.specs.Results.{all_marks, answer_of, first_stop, stop_at}
+use Rattle.promql_meaning.specs.Results.{all_marks, first_stop, stop_at}
 
 -- ---- the first stop
 

@@ -1,7 +1,7 @@
 -- Series in an order by value: the same series, none before the one in front of it.
-use Rattle.std.proofs.Common.{◌≡◌, ◌∙◌, ℕ, zero, suc, ◌+◌, ◌<◌, ◌≤◌, Bool, true, false, cond, List, [], ◌∷◌, ◌++◌, fold, length, get_or, refl, sym, ap, subst, arith, add-one, append-nil}
-use Rattle.std.specs.Prelude.{◌&&◌, ◌||◌, not, Some, ⊤}
-use Rattle.std.specs.Cmp.{IsTotalOrder, then_flip}
+use Rattle.std.proofs.Common.{◌≡◌, ◌∙◌, zero, suc, ◌+◌, Bool, true, false, cond, List, [], ◌∷◌, ◌++◌, fold, get_or, refl, sym, ap, subst, arith, append-nil}
+use Rattle.std.specs.Prelude.{⊤}
+use Rattle.std.specs.Cmp.{then_flip}
 use Rattle.std.specs.List.Sorted.{IsPermutation, IsSortedBy}
 use Rattle.std.specs.Ordering.{is_lt, ordering_reverse, ordering_then}
 use Rattle.std.specs.declared.cmp.Ordering.{Ordering}

@@ -8,7 +8,7 @@ use Rattle.std.proofs.lemmas.Int.{ints}
 use Rattle.std.proofs.lemmas.List.Elements.{All-contains, All-from_recursion}
 use Rattle.std.proofs.lemmas.Nat.{div-add-mod', le-div}
 use Rattle.std.proofs.Math.Nat.{div-mul-le_self, mod-lt, mul-le-mul_right}
-use Rattle.ticks.specs.Edges.{IsFrom, before, before-near, from-later, later-from}
+use Rattle.ticks.specs.Edges.{IsFrom, before, from-later, later-from}
 use Rattle.ticks.specs.Steps.{IsMultiple}
 use Rattle.promql_meaning.specs.Laws.{IsMultipleIn, MultiplesAreAll}
 use Rattle.promql_meaning.specs.Subqueries.{first_multiple, instants, instants_up_to, multiple_after, multiples}

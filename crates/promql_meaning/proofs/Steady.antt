@@ -1,5 +1,5 @@
 -- What doesn't depend on the instant.
-use Rattle.std.proofs.Common.{◌≡◌, ◌∙◌, ℕ, suc, Bool, true, false, cond, List, [], ◌∷◌, map, length, arith, refl, sym, ap, subst, Option, Some, None}
+use Rattle.std.proofs.Common.{◌≡◌, ◌∙◌, ℕ, suc, Bool, true, false, List, [], ◌∷◌, map, length, arith, refl, sym, ap, subst, Option, Some, None}
 use Rattle.std.specs.Prelude.{ℤ, ◌&&◌, ◌-ℤ◌}
 use Rattle.func_table.specs.declared.table.Func.{Func}
 use Rattle.func_table.specs.declared.table.Func.TheVariants as func

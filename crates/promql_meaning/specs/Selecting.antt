@@ -1,10 +1,9 @@
 -- What selectors give. (Prometheus querying, "Time series selectors", "Offset modifier", "@ modifier" and "Staleness"; ranges
 -- are open on the left as from Prometheus 3 on, or closed as before.)
 use Rattle.std.specs.Prelude.{ℕ, Bool, ◌&&◌, List, [], ◌∷◌, filter, map, Option, None, Some, ℤ, pos, ◌-ℤ◌, int_le}
-use Rattle.std.specs.BTreeMap.{insert_entry}
 use Rattle.std.specs.List.{filter_map, last_or}
 use Rattle.std.specs.Option.{option_map, option_and_then}
-use Rattle.label_set.specs.Labels.{labels_cmp}
+use Rattle.label_set.specs.LabelOrder.{by_labels}
 use Rattle.label_set.specs.declared.rules.Rule.{Rule}
 use Rattle.match_rule.specs.Patterns.{labels_pass}
 use Rattle.promql_ast.specs.declared.tree.Fixed.{Fixed}
@@ -78,11 +77,6 @@ abbrev pub window : Bool → ℤ → ℤ → Samples → List (Ms × XFrac)
 window closed m range samples = filter_map fresh_sample (between closed (m -ℤ range) m samples)
 
 -- ---- all series that pass
-
--- the series in the order of their labels
-abbrev pub by_labels : AllSeries → AllSeries
-by_labels [] = []
-by_labels (s ∷ series) = insert_entry labels_cmp (by_labels series) s.0 s.1
 
 -- the series whose labels pass all rules, in the order of their labels
 abbrev pub passing : AllSeries → List (Bool × List ℕ) → List Rule → AllSeries

@@ -1,6 +1,6 @@
 -- Subqueries: an expression at the multiples of a step in a range. (Prometheus querying, "Subquery"; ranges are open on the left
 -- as from Prometheus 3 on, or closed as before.)
-use Rattle.std.specs.Prelude.{Bool, ℕ, zero, suc, List, [], ◌∷◌, ◌++◌, map, ℤ, ◌+ℤ◌, ◌-ℤ◌, int_lt, Option, if◌then◌else◌}
+use Rattle.std.specs.Prelude.{Bool, ℕ, zero, suc, List, [], ◌∷◌, map, ℤ, ◌+ℤ◌, ◌-ℤ◌, int_lt, Option, if◌then◌else◌}
 use Rattle.std.specs.Int.{int_rem_euclid}
 use Rattle.std.specs.List.{filter_map}
 use Rattle.ticks.specs.Edges.{before}

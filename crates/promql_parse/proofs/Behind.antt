@@ -1,6 +1,6 @@
 -- What stands behind a query and doesn't go on with it is refused.
-use Rattle.std.proofs.Common.{◌≡◌, ℕ, zero, suc, refl, ap, ◌∙◌, sym, Bool, true, false, List, [], ◌∷◌, ◌++◌, append_assoc}
-use Rattle.std.specs.Prelude.{Option, Some, None, Result, Ok, Err}
+use Rattle.std.proofs.Common.{◌≡◌, ℕ, suc, refl, ap, ◌∙◌, Bool, true, false, List, ◌∷◌, ◌++◌, append_assoc}
+use Rattle.std.specs.Prelude.{Option, Some, None, Ok, Err}
 use Rattle.promql_ast.specs.declared.refusal.QueryRefusal.{QueryRefusal}
 use Rattle.promql_ast.specs.declared.refusal.QueryRefusal.TheVariants.{RefusedFunction}
 use Rattle.promql_ast.specs.declared.tree.Expr.{Expr}
@@ -15,7 +15,7 @@ use Rattle.promql_parse.specs.declared.build.Built.{Built}
 use Rattle.promql_parse.specs.declared.build.Built.TheVariants as built
 use Rattle.promql_parse.specs.declared.build.Operand.{Operand as Made}
 use Rattle.promql_parts.specs.Labels.{grouping_word}
-use Rattle.promql_parts.specs.Operators.{matching_at, op_of}
+use Rattle.promql_parts.specs.Operators.{op_of}
 use Rattle.promql_parts.specs.Productions.{BinModifier, begins_labels, IsSign}
 use Rattle.promql_parts.specs.Reads.{Read, ◌>>=◌, all_turns, refused}
 use Rattle.promql_parts.specs.Signs.{is_sign}

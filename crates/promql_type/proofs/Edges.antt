@@ -1,6 +1,6 @@
 -- Typing looks at no moment.
 use Rattle.std.proofs.Common.{◌≡◌, ◌∙◌, ◌++◌, ℕ, Bool, List, [], ◌∷◌, map, ap, ap₂, sym, refl, subst}
-use Rattle.promql_ast.specs.Edged.{edged, edged_expr, edged_moment, edged_selector, edged_step}
+use Rattle.promql_ast.specs.Edged.{edged, edged_expr, edged_moment, edged_step}
 use Rattle.promql_ast.specs.EdgedFolds.{edged_rolls, fold_unmoved, with_edge}
 use Rattle.promql_ast.specs.declared.refusal.QueryRefusal.{QueryRefusal}
 use Rattle.promql_ast.specs.declared.tree.Expr.{Expr}
@@ -10,9 +10,8 @@ use Rattle.promql_ast.specs.declared.tree.Node.TheOpen.{Node-F}
 use Rattle.promql_ast.specs.declared.tree.Node.TheViews.{roll-Node, roll-Expr}
 use Rattle.promql_ast.specs.declared.tree.Node.TheFolds.{map-Node, fold-Node, fold-roll-Node, fold-roll-Expr, ind-Expr}
 use Rattle.promql_type.specs.declared.kind.Kind.{Kind}
-use Rattle.promql_type.specs.Answers.{refusals_of}
 use Rattle.promql_type.specs.Edges.{EdgesAreJudgedAlike, EdgesAreRefusedAlike, EdgesStayTyped}
-use Rattle.promql_type.specs.Judging.{Judgement, Layer, expr_step, judged, node_step}
+use Rattle.promql_type.specs.Judging.{Judgement, Layer, expr_step, node_step}
 use Rattle.promql_type.specs.Points.{crowded, crowded_expr, crowded_step}
 use Rattle.promql_type.specs.Rules.{result_refusals}
 use Rattle.promql_type.specs.Settled.{kind_of, settled, settled_expr, settled_pairing, settled_step}

@@ -15,12 +15,12 @@ use Rattle.std.proofs.lemmas.List.Kept.{IsStrictlySortedBy-filter}
 use Rattle.std.proofs.lemmas.Map.Keys.{IsDistinct-head, IsDistinct-tail}
 use Rattle.std.proofs.lemmas.Option.{get_or_from_slice_get, slice_get_within}
 use Rattle.label_set.specs.Labels.{labels_cmp}
-use Rattle.label_set.specs.LabelOrder.{labels_cmp_total, labels_cmp_ties}
+use Rattle.label_set.specs.LabelOrder.{by_labels, by_labels_sorted, labels_cmp_total, labels_cmp_ties}
 use Rattle.label_set.specs.LabelEquality.{labels_eq, labels_decide}
 use Rattle.label_set.specs.declared.rules.Rule.{Rule}
 use Rattle.match_rule.specs.Patterns.{labels_pass}
-use Rattle.label_set.specs.Entries.{keys_filter, later_key, sorted_insert}
-use Rattle.sample_store.specs.Samples.{AllSeries, IsSelected, Names, Samples, by_labels, chosen, labels_at}
+use Rattle.label_set.specs.Entries.{keys_filter, later_key}
+use Rattle.sample_store.specs.Samples.{AllSeries, IsSelected, Names, Samples, chosen, labels_at}
 
 -- ---- an item stands in a list
 
@@ -135,11 +135,6 @@ has_by (s ∷ series) x (suc i) d h =
     let m = has_by series x i (IsDistinct-tail labels_eq s.0 (keys_of series) d) h in
     has_old s.0 s.1 (by_labels series) x m.0 (apart_at s.0 series i x (IsDistinct-head labels_eq s.0 (keys_of series) d) h) m.1
 
-sorted_by : (series : AllSeries) → IsStrictlySortedBy labels_cmp (keys_of (by_labels series))
-unfolding IsStrictlySortedBy
-sorted_by [] = tt
-sorted_by (s ∷ series) = sorted_insert labels_cmp labels_cmp_total s.0 s.1 (by_labels series) (sorted_by series)
-
 -- ---- the members of a filter
 
 module _ {X : Type 0} (test : X → Bool) where
@@ -231,7 +226,7 @@ chosen_by kept rules series places d s =
     let within : (j n : ℕ) → slice_get places j ≡ Some n → n < length series = λ j n h. ((s.exact n).0 (contains_at places j n h)).0 in
     same_entries labels_cmp labels_cmp_total (filter_map (slice_get series) places) (chosen kept rules series)
     (subst (IsStrictlySortedBy labels_cmp) (sym (those_named series places within)) s.rising)
-    (subst (IsStrictlySortedBy labels_cmp) (sym (keys_filter (labels_pass kept rules) (by_labels series))) (IsStrictlySortedBy-filter labels_cmp (labels_pass kept rules) (keys_of (by_labels series)) (sorted_by series)))
+    (subst (IsStrictlySortedBy labels_cmp) (sym (keys_filter (labels_pass kept rules) (by_labels series))) (IsStrictlySortedBy-filter labels_cmp (labels_pass kept rules) (keys_of (by_labels series)) (by_labels_sorted series)))
     (λ x h.
     let m = those_has series places x h.0 h.1 in
     let p = ((s.exact m.number).0 (contains_at places m.place m.number m.among)).1 in

@@ -12,6 +12,7 @@ use Rattle.std.specs.Map.{keys_of, lookup}
 use Rattle.std.specs.Ordering.{int_cmp, int_eq, on}
 use Rattle.std.specs.declared.cmp.Ordering.{Ordering}
 use Rattle.label_set.specs.Labels.{IsLabelSet, labels_cmp}
+use Rattle.label_set.specs.LabelOrder.{by_labels}
 use Rattle.label_set.specs.declared.rules.Rule.{Rule}
 use Rattle.match_rule.specs.Patterns.{labels_pass}
 use Rattle.sample_store.specs.declared.refusal.StoreRefusal.{StoreRefusal}
@@ -174,11 +175,6 @@ Passes kept rules series s = (s < length series) × (labels_pass kept rules (lab
 pub record IsSelected (kept : List (Bool × List ℕ)) (rules : List Rule) (series : AllSeries) (places : List ℕ) : Type 0 where
   pub exact : (s : ℕ) → Contains places s ↔ Passes kept rules series s
   pub rising : IsStrictlySortedBy labels_cmp (map (labels_at series) places)
-
--- series in the order of their labels
-abbrev pub by_labels : AllSeries → AllSeries
-by_labels [] = []
-by_labels (s ∷ series) = insert_entry labels_cmp (by_labels series) s.0 s.1
 
 -- the series that pass, in the order of their labels
 abbrev pub chosen : List (Bool × List ℕ) → List Rule → AllSeries → AllSeries

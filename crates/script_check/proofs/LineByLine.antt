@@ -1,6 +1,6 @@
 -- Series that stand beside the expected ones are those that are expected.
-use Rattle.std.proofs.Common.{◌≡◌, ℤ, Bool, true, false, cond, List, [], ◌∷◌, find, Option, None, Some, refl, ap, sym, subst, ◌∙◌, IsTrue}
-use Rattle.std.specs.Prelude.{◌&&◌, option_map, IsSome}
+use Rattle.std.proofs.Common.{◌≡◌, Bool, true, false, cond, List, [], ◌∷◌, find, Option, None, Some, refl, ap, sym, subst, ◌∙◌, IsTrue}
+use Rattle.std.specs.Prelude.{option_map, IsSome}
 use Rattle.std.specs.List.{AllByRecursion}
 use Rattle.std.specs.Ordering.{int_cmp, is_eq, is_lt}
 use Rattle.std.specs.declared.cmp.Ordering.{Ordering}
@@ -11,7 +11,7 @@ use Rattle.ticks.specs.declared.moment.Ms.{Ms}
 use Rattle.promql_meaning.specs.declared.answer.Point.{Point}
 use Rattle.promql_meaning.specs.declared.answer.ResultSeries.{ResultSeries}
 use Rattle.script_check.specs.Beside.{points_beside, rises_behind, stand_beside}
-use Rattle.script_check.specs.Series.{Agrees, IsMet, IsMetBy, IsNear, LabelList, are_near, misplaced, series_under, value_at}
+use Rattle.script_check.specs.Series.{IsMet, IsMetBy, IsNear, LabelList, are_near, misplaced, series_under, value_at}
 use Rattle.script_check.specs.Verdicts.{series_reason}
 use Rattle.script_check.proofs.Agreements.{both, one, same_time, series_agree_if}
 use Rattle.script_check.proofs.Sorted.{below_apart, same_labels, then_below, ties_with_itself}

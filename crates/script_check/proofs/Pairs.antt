@@ -1,6 +1,6 @@
 -- Series that stand beside others of a list whose labels rise.
-use Rattle.std.proofs.Common.{◌≡◌, ◌<◌, ◌≤◌, ℕ, zero, suc, Bool, true, false, cond, List, [], ◌∷◌, ◌++◌, length, find, slice_get, Option, None, Some, refl, ap, sym, subst, ◌∙◌, IsTrue, arith, inl, inr}
-use Rattle.std.specs.Prelude.{◌&&◌, slice_index_or, IsSome}
+use Rattle.std.proofs.Common.{◌≡◌, ◌<◌, ◌≤◌, ℕ, zero, suc, Bool, true, false, cond, List, [], ◌∷◌, length, slice_get, Option, None, Some, refl, ap, sym, subst, ◌∙◌, IsTrue, arith, inl, inr}
+use Rattle.std.specs.Prelude.{slice_index_or, IsSome}
 use Rattle.std.specs.List.{AllByRecursion}
 use Rattle.std.specs.Ordering.{is_eq}
 use Rattle.std.specs.declared.cmp.Ordering.TheVariants.{Less, Equal}
@@ -10,9 +10,7 @@ use Rattle.std.proofs.lemmas.List.{get_or-replicate, get_or-set_other}
 use Rattle.std.proofs.lemmas.Option.{slice_get_within}
 use Rattle.label_set.specs.LabelOrder.{labels_cmp_ties}
 use Rattle.label_set.specs.Labels.{labels_cmp}
-use Rattle.promql_meaning.specs.declared.answer.Point.{Point}
 use Rattle.promql_meaning.specs.declared.answer.ResultSeries.{ResultSeries}
-use Rattle.ticks.specs.declared.moment.Ms.{Ms}
 use Rattle.xfrac.specs.Laws.{NearIsSymmetric}
 use Rattle.xfrac.specs.declared.value.XFrac.{XFrac}
 use Rattle.script_check.specs.Beside.{points_beside, rising}

@@ -1,5 +1,5 @@
 -- The order of labels, as comparisons of series need it.
-use Rattle.std.proofs.Common.{◌≡◌, true, false, ap, ◌∙◌}
+use Rattle.std.proofs.Common.{◌≡◌, true, false, ap}
 use Rattle.std.specs.Ordering.{is_eq}
 use Rattle.std.specs.declared.cmp.Ordering.TheVariants.{Less}
 use Rattle.std.proofs.lemmas.Cmp.{tied_itself}

@@ -1,5 +1,5 @@
 -- Notes that lines want, and lines that hold of notes.
-use Rattle.std.proofs.Common.{◌≡◌, ◌<◌, ◌≤◌, ℕ, zero, suc, Bool, true, false, cond, List, [], ◌∷◌, length, filter, map, not, slice_get, Option, None, Some, refl, sym, subst, ◌∙◌, arith, inl, inr}
+use Rattle.std.proofs.Common.{◌≡◌, ◌<◌, ◌≤◌, ℕ, zero, suc, Bool, true, false, cond, List, [], ◌∷◌, length, filter, map, not, slice_get, Some, refl, sym, subst, ◌∙◌, arith, inl, inr}
 use Rattle.std.specs.Prelude.{◌||◌, bytes_eq, slice_index_or}
 use Rattle.std.specs.List.{AllByRecursion, list_all, list_any}
 use Rattle.std.proofs.Math.ListN.{replicate, set}
@@ -12,7 +12,7 @@ use Rattle.script_read.specs.declared.script.Wanted.{Wanted}
 use Rattle.script_read.specs.declared.script.Wanted.TheVariants.{Any, Msg, Regex}
 use Rattle.step_table.specs.declared.marks.Note.{Note}
 use Rattle.script_check.specs.NoteTexts.{is_of, note_text, texts_of}
-use Rattle.script_check.specs.Noted.{AreNotesMarked, HasText, IsWanted, IsWantedIf}
+use Rattle.script_check.specs.Noted.{AreNotesMarked, HasText, IsWantedIf}
 use Rattle.script_check.specs.Verdicts.{PatternList, is_bare, meets, noted_holds}
 use Rattle.script_check.proofs.Pairs.{by_places}
 

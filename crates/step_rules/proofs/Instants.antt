@@ -1,11 +1,11 @@
 -- Instants that are a step apart.
 use Rattle.std.proofs.Common.{◌≡◌, ◌∙◌, ℕ, suc, ◌+◌, ◌<◌, true, false, List, [], ◌∷◌, ◌++◌, refl, ap, sym, subst, arith, append_assoc}
-use Rattle.std.specs.Prelude.{ℤ, pos, negsuc, ◌+ℤ◌, ◌-ℤ◌, ◌<ℤ◌, ◌≤ℤ◌, int_lt}
+use Rattle.std.specs.Prelude.{ℤ, ◌+ℤ◌, ◌<ℤ◌, ◌≤ℤ◌, int_lt}
 use Rattle.std.specs.List.{AllByRecursion}
 use Rattle.std.proofs.lemmas.Int.{ints}
 use Rattle.ticks.specs.Walks.{IsTime}
 use Rattle.ticks.specs.declared.moment.Ms.{Ms}
-use Rattle.promql_meaning.specs.Subqueries.{as_times, instants, instants_up_to}
+use Rattle.promql_meaning.specs.Subqueries.{as_times, instants}
 
 pub instants-more : (u s : ℤ) (n k : ℕ) → n ≡ suc k → instants u s n ≡ u ∷ instants (u +ℤ s) s k
 instants-more u s n k e = rw e refl

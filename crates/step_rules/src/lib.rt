@@ -1,5 +1,6 @@
 //! The rules of one step as calls: on steps, on the rows that one series or group has, and on texts and values alone, so that
 //! nothing that computes a query writes them again.
+//! Its rows of tests are the scripts of `tests/scripts`.
 #![tactic(auto)]
 
 mod absences;

@@ -1,5 +1,5 @@
 -- The order of rows isn't seen: by what comes of them, by an operator between two sides, by a set operator.
-use Rattle.std.proofs.Common.{◌≡◌, ◌∙◌, Bool, true, false, List, [], ◌∷◌, ◌++◌, map, refl, sym, ap, subst, Option}
+use Rattle.std.proofs.Common.{◌≡◌, ◌∙◌, Bool, true, false, List, [], ◌++◌, map, refl, sym, ap, subst, Option}
 use Rattle.std.specs.Prelude.{◌||◌, filter, not, if◌then◌else◌}
 use Rattle.std.specs.BTreeMap.{is_at}
 use Rattle.std.specs.List.{filter_map}

@@ -1,5 +1,5 @@
 -- What a window that is closed on the left has more than the open one.
-use Rattle.std.proofs.Common.{◌≡◌, subst, sym, arith, true, false, inl, inr}
+use Rattle.std.proofs.Common.{◌≡◌, arith, true, false, inl, inr}
 use Rattle.std.specs.Prelude.{ℤ, ◌<ℤ◌, ◌≤ℤ◌, ◌⊎◌}
 use Rattle.std.proofs.lemmas.Int.{ints, by_lt_z}
 use Rattle.ticks.specs.Edges.{ClosedHasItsEdge, IsBetween}

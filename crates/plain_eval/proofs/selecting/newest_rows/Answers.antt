@@ -3,7 +3,7 @@ use Rattle.std.proofs.lemmas.Grind.{common_steps}
 use Rattle.std.specs.List.{AllByRecursion, filter_map}
 use Rattle.promql_meaning.specs.Selecting.{newest_row, passing}
 use Rattle.plain_eval.specs.Numbered.{row_numbered}
-use Rattle.plain_eval.proofs.Newest.{all_within, as_many_pass, made_of, same_passing}
+use Rattle.plain_eval.proofs.Newest.{all_within, as_many_pass, made_of}
 use Rattle.plain_eval.proofs.selecting.newest_rows.Goals as goal
 
 pub loop-s-init : goal.loop-s-init
@@ -23,7 +23,6 @@ returns-clause-rows g c =
     let items = c.as_slice-s-items.result.now in
     let whole : c.loop-s.rows ≡ filter_map f items = grind (arith, common_steps, c.loop-s.invariant.rows) in
     whole ∙ ap (filter_map f) c.as_slice-s-items.ensures ∙ made_of (newest_row c.args.closed c.args.m.0) store _ _ c.in_ok-places.ensures.chosen
-    ∙ ap (filter_map (newest_row c.args.closed c.args.m.0)) (same_passing _ c.args.rules.now store)
 
 pub returns-clause-fetched : goal.returns-clause-fetched
 returns-clause-fetched g c =

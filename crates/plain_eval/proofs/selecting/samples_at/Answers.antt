@@ -1,4 +1,4 @@
-use Rattle.std.proofs.Common.{◌≡◌, ◌∙◌, List, Some, ap, map}
+use Rattle.std.proofs.Common.{◌≡◌, ◌∙◌, Some, ap}
 use Rattle.std.specs.Prelude.{◌-ℤ◌, slice_get}
 use Rattle.std.specs.List.{filter_map}
 use Rattle.std.proofs.lemmas.Result.{IfOk-weaker}

@@ -3,7 +3,7 @@ use Rattle.std.proofs.lemmas.Grind.{common_steps}
 use Rattle.std.specs.List.{AllByRecursion, filter_map}
 use Rattle.promql_meaning.specs.Selecting.{series_window}
 use Rattle.plain_eval.specs.Numbered.{window_numbered}
-use Rattle.plain_eval.proofs.Newest.{all_within, made_of, same_passing}
+use Rattle.plain_eval.proofs.Newest.{all_within, made_of}
 use Rattle.plain_eval.proofs.selecting.window_rows.Goals as goal
 
 pub loop-s-init : goal.loop-s-init
@@ -22,4 +22,3 @@ returns-clause-rows g c =
     let items = c.as_slice-s-items.result.now in
     let whole : c.loop-s.rows ≡ filter_map f items = grind (arith, common_steps, c.loop-s.invariant.rows) in
     whole ∙ ap (filter_map f) c.as_slice-s-items.ensures ∙ made_of (series_window c.args.closed c.args.m.0 c.args.range.0) store _ _ c.in_ok-places.ensures.chosen
-    ∙ ap (filter_map (series_window c.args.closed c.args.m.0 c.args.range.0)) (same_passing _ c.args.rules.now store)

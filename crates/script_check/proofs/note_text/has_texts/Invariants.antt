@@ -1,4 +1,4 @@
-use Rattle.std.proofs.Common.{◌≡◌, drop, not}
+use Rattle.std.proofs.Common.{◌≡◌, drop}
 use Rattle.script_read.specs.Lines.{is_empty}
 use Rattle.script_check.specs.NoteTexts.{texts_of}
 use Rattle.script_check.proofs.note_text.has_texts.Given as goal

@@ -1,4 +1,4 @@
-use Rattle.std.proofs.Common.{◌≡◌, ◌∙◌, ap, length, refl, slice_get, subst, List, ℕ, Some}
+use Rattle.std.proofs.Common.{◌∙◌, ap, length, refl, slice_get, subst, List, ℕ, Some}
 use Rattle.std.proofs.lemmas.Option.{slice_get_read}
 use Rattle.script_read.specs.declared.script.Wanted.{Wanted}
 use Rattle.script_check.specs.Noted.{HasText}

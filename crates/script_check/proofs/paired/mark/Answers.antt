@@ -1,6 +1,5 @@
-use Rattle.std.proofs.Common.{refl, length, sym, subst}
+use Rattle.std.proofs.Common.{refl, length}
 use Rattle.std.proofs.lemmas.Option.{slice_get_read}
-use Rattle.script_check.specs.Paired.{AreMarked}
 use Rattle.script_check.proofs.Pairs.{one_mark}
 use Rattle.script_check.proofs.paired.mark.Goals as goal
 use Rattle.script_check.proofs.paired.mark.Goals.{in-Some, in_default}

@@ -1,4 +1,4 @@
-use Rattle.std.proofs.Common.{rules, ◌≡◌, map, ◌+◌, ◌-◌, ◌<◌, length, [], arith}
+use Rattle.std.proofs.Common.{rules, ◌≡◌, map, ◌-◌, ◌<◌, length, [], arith}
 use Rattle.label_set.specs.Labels.{labels_cmp}
 use Rattle.std.proofs.lemmas.List.{length-map}
 use Rattle.std.proofs.lemmas.Map.Keys.{sorted_from_all_adjacent}
