@@ -1,14 +1,19 @@
 -- A run over files, as far as it came.
-use Rattle.std.proofs.Common.{◌≡◌, ℕ, ◌+◌, Bool, List, [], ◌∷◌, ◌++◌, Option, Result, Ok, Err, IfOk, OnErr, refl, sym, ap, subst, ◌∙◌, append_assoc, append-nil, arith}
+use Rattle.std.proofs.Common.{◌≡◌, ℕ, ◌+◌, Bool, true, false, take, drop, List, [], ◌∷◌, ◌++◌, Option, Result, Ok, Err, IfOk, OnErr, refl, sym, ap, subst, ◌∙◌, append_assoc, append-nil, arith}
 use Rattle.std.specs.Prelude.{◌==◌, if◌then◌else◌}
+use Rattle.std.proofs.lemmas.List.{append_cancel_right, map-append, take-append-drop}
 use Rattle.std.proofs.lemmas.List.Concat.{flat_map-append}
 use Rattle.std.proofs.lemmas.List.Sums.{sum_by-append}
+use Rattle.edge_io.specs.Fetches.{Fetches}
 use Rattle.edge_io.specs.Written.{appended, WroteFront}
 use Rattle.edge_io.specs.declared.sink.SinkFail.{SinkFail}
+use Rattle.edge_io.specs.declared.sink.SinkFail.TheVariants as sinks
 use Rattle.test_runner.specs.Lines.{failed_in, lines_text, passed_in}
 use Rattle.test_runner.specs.Verdicts.{Judged}
-use Rattle.promql_tool.specs.Files.{All, Begins, Gone, JudgedFile, Last, Refused, Sees, all, all_failed, all_passed, files_text, gone, judged, last_text, last_status, refused, report_of, running, waiting}
+use Rattle.promql_tool.specs.Files.{All, Begins, Gone, IsJudged, JudgedFile, Last, Refused, Sees, all, all_failed, all_passed, files_text, gone, judged, last_text, last_status, refused, report_of, running, waiting}
 use Rattle.promql_tool.specs.Runs.{Early, Ends, HasJudged, IsCutFile, IsCutFiles, Late, ReportsFiles, Running, Stops, Unwritten, last_at, stop_report}
+use Rattle.promql_tool.specs.Reached.{AreJudged, ReachesFiles, StopsAt, WroteTheir, paths_of, status_of, up_to, whole}
+use Rattle.promql_tool.specs.Ends.{IsOneOf}
 use Rattle.promql_tool.specs.Texts.{totals_text}
 use Rattle.promql_tool.specs.declared.fault.Stop.{Stop}
 use Rattle.promql_tool.specs.declared.fault.Stop.TheVariants as stop
@@ -22,14 +27,22 @@ pub record RunSoFar (closed : Bool) (found : List ℕ → Option (List ℕ) → 
   pub sees : (more : List JudgedFile) (last : Last) → Sees closed found left more last → Sees closed found paths (files ++ more) last
   pub begins : (text : List ℕ) → Begins closed found left text → Begins closed found paths (files_text files ++ text)
   pub written : now ≡ appended before (files_text files)
-  pub rests : files ≡ [] → idle
+  pub rests : passed + failed ≡ 0 → idle
+  pub names : paths_of files ++ left ≡ paths
+  pub are : AreJudged closed found files
   pub passed_is : passed ≡ all_passed files
   pub failed_is : failed ≡ all_failed files
 
--- more than nothing
-not_nothing : {X : Type 0} (xs : List X) (x : X) → xs ++ x ∷ [] ≡ [] → ⊥
-not_nothing [] x h = cc
-not_nothing (y ∷ xs) x h = cc
+-- no file has no verdict
+none_counted : (files : List JudgedFile) (passed failed : ℕ) → passed ≡ all_passed files → failed ≡ all_failed files → files ≡ [] → passed + failed ≡ 0
+none_counted files passed failed p f none =
+    let np : all_passed files ≡ 0 = ap all_passed none in
+    let nf : all_failed files ≡ 0 = ap all_failed none in
+    omega (arith, p, f, np, nf)
+
+judged_too : {closed : Bool} {found : List ℕ → Option (List ℕ) → Type 0} (files : List JudgedFile) (one : JudgedFile) → AreJudged closed found files → IsJudged closed found one.path one.verdicts → AreJudged closed found (files ++ one ∷ [])
+judged_too [] one are is = (is, tt)
+judged_too (first ∷ files) one are is = (are.0, judged_too files one are.1 is)
 
 module _ (closed : Bool) (found : List ℕ → Option (List ℕ) → Type 0) (paths : List (List ℕ)) (before : Option (List ℕ)) where
   -- nothing was run yet
@@ -40,6 +53,8 @@ module _ (closed : Bool) (found : List ℕ → Option (List ℕ) → Type 0) (pa
     begins = λ text begun. begun;
     written = sym (appended-nil before);
     rests = λ _. rests;
+    names = refl;
+    are = tt;
     passed_is = refl;
     failed_is = refl;
   }
@@ -52,9 +67,9 @@ module _ (closed : Bool) (found : List ℕ → Option (List ℕ) → Type 0) (pa
         ∙ ap (λ (l : List ℕ). files_text h.files ++ l) (append-nil (lines_text path verdicts))
 
     -- one more file was judged
-    pub one_more : (now : Option (List ℕ)) (totals : Totals) (later_idle : Type 0) → HasJudged closed found path mid now totals
+    pub one_more : (now : Option (List ℕ)) (totals : Totals) (later_idle : Type 0) → HasJudged closed found path mid now totals → (totals.passed + totals.failed ≡ 0 → idle → later_idle)
         → RunSoFar closed found paths later before now later_idle (passed + totals.passed) (failed + totals.failed)
-    one_more now totals later_idle j =
+    one_more now totals later_idle j rests_on =
         let one : JudgedFile = record { path = path; verdicts = j.verdicts } in
         let files = h.files ++ one ∷ [] in
         record {
@@ -65,7 +80,9 @@ module _ (closed : Bool) (found : List ℕ → Option (List ℕ) → Type 0) (pa
               (h.begins (lines_text path j.verdicts ++ text) (judged path j.verdicts later text j.judged begun));
           written = j.written ∙ ap (λ (w : Option (List ℕ)). appended w (lines_text path j.verdicts)) h.written ∙ appended-appended before (files_text h.files) (lines_text path j.verdicts)
               ∙ ap (appended before) (sym (text_more j.verdicts));
-          rests = λ nothing. absurd (not_nothing h.files one nothing);
+          rests = λ none. rests_on (omega (arith, none)) (h.rests (omega (arith, none)));
+          names = ap (λ (l : List (List ℕ)). l ++ later) (map-append (λ (file : JudgedFile). file.path) h.files (one ∷ [])) ∙ append_assoc (paths_of h.files) (path ∷ []) later ∙ h.names;
+          are = judged_too h.files one h.are j.judged;
           passed_is = omega (arith, sum_by-append (λ (file : JudgedFile). passed_in file.verdicts) h.files (one ∷ []), h.passed_is, j.passed);
           failed_is = omega (arith, sum_by-append (λ (file : JudgedFile). failed_in file.verdicts) h.files (one ∷ []), h.failed_is, j.failed);
         }
@@ -98,7 +115,7 @@ module _ (closed : Bool) (found : List ℕ → Option (List ℕ) → Type 0) (pa
         → Ends (ReportsFiles closed found paths all_idle) (IsCutFiles closed found paths before now) before now r
     stop_printed stop now all_idle (Ok status) why rests ok err = (
       report_of h.files (last_at path stop),
-      record { files = h.files; last = last_at path stop; seen = all_seen stop why; is = refl; rests = λ nothing. rests (h.rests nothing) },
+      record { files = h.files; last = last_at path stop; seen = all_seen stop why; is = refl; rests = λ nothing. rests (h.rests (none_counted h.files passed failed h.passed_is h.failed_is nothing)) },
       record {
         status_is = ok.0 ∙ stop_status stop;
         text_is = ok.1 ∙ ap (λ (w : Option (List ℕ)). appended w (stop_report path stop).text) h.written ∙ appended-appended before (files_text h.files) (stop_report path stop).text
@@ -124,7 +141,7 @@ module _ (closed : Bool) (found : List ℕ → Option (List ℕ) → Type 0) (pa
         → Ends (ReportsFiles closed found paths idle) (IsCutFiles closed found paths before now) before now r
     totals_printed now (Ok status) ok err = (
       report_of h.files All,
-      record { files = h.files; last = All; seen = seen_all; is = refl; rests = h.rests },
+      record { files = h.files; last = All; seen = seen_all; is = refl; rests = λ nothing. h.rests (none_counted h.files passed failed h.passed_is h.failed_is nothing) },
       record {
         status_is = status_are status.0 ok.0;
         text_is = ok.1 ∙ ap (λ (w : Option (List ℕ)). appended w (totals_text passed failed)) h.written ∙ appended-appended before (files_text h.files) (totals_text passed failed)
@@ -133,3 +150,67 @@ module _ (closed : Bool) (found : List ℕ → Option (List ℕ) → Type 0) (pa
     )
     totals_printed now (Err cause) ok err =
         Late h.files All seen_all (front_last (files_text h.files) (last_text h.files All) h.written (subst (WroteFront mid now) totals_are err))
+
+-- ---- how far a run came
+
+module _ {closed : Bool} {found : List ℕ → Option (List ℕ) → Type 0} {paths left : List (List ℕ)} {before mid : Option (List ℕ)} {idle : Type 0} {passed failed : ℕ} (h : RunSoFar closed found paths left before mid idle passed failed) where
+  wrote_behind : (now : Option (List ℕ)) (text : List ℕ) → now ≡ appended mid text → WroteTheir h.files before now
+  wrote_behind now text is = record {
+    more = text;
+    is = is ∙ ap (λ (w : Option (List ℕ)). appended w text) h.written ∙ appended-appended before (files_text h.files) text;
+  }
+
+  wrote_same : (now : Option (List ℕ)) → now ≡ mid → WroteTheir h.files before now
+  wrote_same now same = wrote_behind now [] (same ∙ sym (appended-nil mid))
+
+cut_stops : (found : List ℕ → Option (List ℕ) → Type 0) (path : List ℕ) (cause : SinkFail) → StopsAt found path (status_of (Err cause))
+cut_stops found path sinks.Failed = record { gone = λ e. absurd (cc); refused = λ e. absurd (cc); is = refl }
+cut_stops found path sinks.Memory = record { gone = λ e. absurd (cc); refused = λ e. absurd (cc); is = refl }
+
+never_idle : (cause : SinkFail) (P : Type 0) → IsOneOf (3 ∷ 6 ∷ []) (status_of (Err cause)) → P
+never_idle sinks.Failed P one = absurd (cc)
+never_idle sinks.Memory P one = absurd (cc)
+
+there_stops : (found : List ℕ → Option (List ℕ) → Type 0) (path : List ℕ) (end : Stop) (status : ℕ) → Stops found path end → status ≡ (stop_report path end).status → StopsAt found path status
+there_stops found path stop.Gone status why is = record { gone = λ _. why; refused = λ six. absurd (omega (arith, is, six)); is = subst (IsOneOf (3 ∷ 4 ∷ 6 ∷ 7 ∷ [])) (sym is) refl }
+there_stops found path (stop.Refused refusal) status why is =
+    record { gone = λ three. absurd (omega (arith, is, three)); refused = λ _. (why.0, refusal, why.1, why.2); is = subst (IsOneOf (3 ∷ 4 ∷ 6 ∷ 7 ∷ [])) (sym is) refl }
+
+totals_of : (failed : ℕ) (r : Result Status SinkFail) (P : Status → Type 0) → IfOk r (λ status. (status.0 ≡ (if failed == 0 then 0 else 1)) × P status) → IsOneOf (0 ∷ 1 ∷ 4 ∷ 7 ∷ []) (status_of r)
+totals_of failed (Ok status) P ok = subst (IsOneOf (0 ∷ 1 ∷ 4 ∷ 7 ∷ [])) (sym ok.0) (elim (failed == 0) as (λ b. IsOneOf (0 ∷ 1 ∷ 4 ∷ 7 ∷ []) (if b then 0 else 1)) [ true ↦ refl | false ↦ refl ])
+totals_of failed (Err sinks.Failed) P ok = refl
+totals_of failed (Err sinks.Memory) P ok = refl
+
+module _ (L : Type 0) (fetch : L → List ℕ → L → Type 0) (library_before library_now : L) (closed : Bool) (found : List ℕ → Option (List ℕ) → Type 0) (paths : List (List ℕ)) (before mid : Option (List ℕ)) (idle : Type 0) (passed failed : ℕ) where
+  module _ (i : ℕ) (path : List ℕ) (h : RunSoFar closed found paths (path ∷ drop (i + 1) paths) before mid idle passed failed) (fetched : Fetches fetch (take (i + 1) paths) library_before library_now) where
+    fetched_so : Fetches fetch (paths_of h.files ++ path ∷ []) library_before library_now
+    fetched_so = subst (λ (ps : List (List ℕ)). Fetches fetch ps library_before library_now)
+        (append_cancel_right (take (i + 1) paths) (paths_of h.files ++ path ∷ []) (drop (i + 1) paths) (take-append-drop (i + 1) paths ∙ sym (append_assoc (paths_of h.files) (path ∷ []) (drop (i + 1) paths) ∙ h.names))) fetched
+
+    -- the next file was cut off
+    pub cut_reaches : (now : Option (List ℕ)) (all_idle : Type 0) (cause : SinkFail) → IsCutFile closed found path mid now → ReachesFiles fetch closed found paths library_before library_now before now all_idle (status_of (Err cause))
+    cut_reaches now all_idle cause cut = up_to h.files path (drop (i + 1) paths) h.names h.are fetched_so (wrote cut) (cut_stops found path cause) (λ one. never_idle cause _ one)
+      where
+        wrote : IsCutFile closed found path mid now → WroteTheir h.files before now
+        wrote (Unwritten same) = wrote_same h now same
+        wrote (Running verdicts is front) = wrote_behind h now front.front front.took
+
+    -- the next file isn't run
+    pub stop_reaches : (end : Stop) (now : Option (List ℕ)) (all_idle : Type 0) (r : Result Status SinkFail) → Stops found path end → (idle → all_idle)
+        → IfOk r (λ status. (status.0 ≡ (stop_report path end).status) × (now ≡ appended mid (stop_report path end).text)) → OnErr r (WroteFront mid now (stop_report path end).text)
+        → ReachesFiles fetch closed found paths library_before library_now before now all_idle (status_of r)
+    stop_reaches end now all_idle (Ok status) why rests ok err =
+        up_to h.files path (drop (i + 1) paths) h.names h.are fetched_so (wrote_behind h now _ ok.1) (there_stops found path end status.0 why ok.0) (λ one none. rests (h.rests (omega (arith, h.passed_is, h.failed_is, none))))
+    stop_reaches end now all_idle (Err cause) why rests ok err =
+        up_to h.files path (drop (i + 1) paths) h.names h.are fetched_so (wrote_behind h now err.front err.took) (cut_stops found path cause) (λ one. never_idle cause _ one)
+
+  -- no file is left
+  pub totals_reach : (h : RunSoFar closed found paths [] before mid idle passed failed) → Fetches fetch paths library_before library_now → (now : Option (List ℕ)) (all_idle : Type 0) (r : Result Status SinkFail)
+      → IfOk r (λ status. (status.0 ≡ (if failed == 0 then 0 else 1)) × (now ≡ appended mid (totals_text passed failed))) → OnErr r (WroteFront mid now (totals_text passed failed))
+      → ReachesFiles fetch closed found paths library_before library_now before now all_idle (status_of r)
+  totals_reach h fetched now all_idle r ok err =
+      whole h.files (sym (append-nil (paths_of h.files)) ∙ h.names) h.are fetched (wrote r ok err) (totals_of failed r (λ _. now ≡ appended mid (totals_text passed failed)) ok)
+    where
+      wrote : (s : Result Status SinkFail) → IfOk s (λ status. (status.0 ≡ (if failed == 0 then 0 else 1)) × (now ≡ appended mid (totals_text passed failed))) → OnErr s (WroteFront mid now (totals_text passed failed)) → WroteTheir h.files before now
+      wrote (Ok status) good bad = wrote_behind h now (totals_text passed failed) good.1
+      wrote (Err cause) good bad = wrote_behind h now bad.front bad.took

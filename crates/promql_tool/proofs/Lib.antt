@@ -9,4 +9,5 @@ pub mod Fetched
 pub mod Querying
 pub mod WordsRun
 pub mod Reported
+pub mod OneReport
 pub mod WorkloadRun

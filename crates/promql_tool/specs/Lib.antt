@@ -7,3 +7,5 @@ pub mod Workload
 pub mod Report
 pub mod Ends
 pub mod Runs
+pub mod Reached
+pub mod Settled

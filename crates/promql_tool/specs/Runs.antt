@@ -1,5 +1,5 @@
 -- What the values of the code say of a run.
-use Rattle.std.specs.Prelude.{◌≡◌, ℕ, Bool, List, [], ◌∷◌, ◌++◌, Option, None, Some, Result, Ok, Err, Vec, map}
+use Rattle.std.specs.Prelude.{◌≡◌, ℕ, ◌+◌, Bool, List, [], ◌∷◌, ◌++◌, Option, None, Some, Result, Ok, Err, Vec, map}
 use Rattle.std.specs.declared.alloc.Global.{Global}
 use Rattle.edge_io.specs.Written.{appended, WroteFront}
 use Rattle.edge_io.specs.declared.sink.SinkFail.{SinkFail}
@@ -90,6 +90,11 @@ pub record HasJudged (closed : Bool) (found : List ℕ → Option (List ℕ) →
 abbrev pub ComesTo : Bool → Finds → List ℕ → Option (List ℕ) → Option (List ℕ) → Type 0 → FileEnd → Type 0
 ComesTo closed found path before now idle (JudgedTo totals) = HasJudged closed found path before now totals
 ComesTo closed found path before now idle (Stopped stop) = Stops found path stop × (now ≡ before) × idle
+
+-- `idle` holds where no evaluation of the file has a verdict
+abbrev pub RestsIfNone : Type 0 → FileEnd → Type 0
+RestsIfNone idle (JudgedTo totals) = totals.passed + totals.failed ≡ 0 → idle
+RestsIfNone idle (Stopped stop) = idle
 
 -- A run over a file was cut off: nothing was written, or a front of the lines of its first verdicts.
 pub data IsCutFile (closed : Bool) (found : List ℕ → Option (List ℕ) → Type 0) (path : List ℕ) (before now : Option (List ℕ)) : Type 0 where

@@ -2,6 +2,7 @@
 ghost use Rattle.edge_io.specs.Causes.{HasCause, Rose};
 ghost use Rattle.edge_io.specs.Fetches.{FetchesFront};
 ghost use Rattle.promql_tool.specs.Found.{IsFound, Just};
+ghost use Rattle.promql_tool.specs.Reached.{ReachesFiles, status_of};
 ghost use Rattle.promql_tool.specs.Runs.{Ends, IsCutFiles, ReportsFiles};
 ghost use Rattle.std.specs.Prelude.{◌≡◌, ◌+◌, ◌<◌, ◌^◌, [], ◌∷◌, IfOk, IsErrOf};
 
@@ -51,6 +52,7 @@ pub fn run_files<L: Library, S: Sink, W: Ledger>(
     work: &mut Work<W>,
 ) -> Result<Status, SinkFail>
     ensures fetched { FetchesFront L.fetches files.now library.old library.new }
+    ensures reached { ReachesFiles L.fetches options.now.closed (IsFound (L.told library.old) (L.sound library.old)) files.now library.old library.new (S.written out.old) (S.written out.new) (work.new ≡ work.old) (status_of result) }
     ensures told { L.told library.new ≡ L.told library.old }
     ensures library_sound { L.sound library.old → L.sound library.new }
     ensures gone { IfOk result (λ status. status.0 ≡ 3 → Rose (L.faults library.old) (L.faults library.new)) }

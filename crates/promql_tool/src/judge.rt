@@ -1,7 +1,7 @@
 //! Running a file: its script is read, and each of its evaluations is judged.
 ghost use Rattle.edge_io.specs.Causes.{HasCause, Rose};
 ghost use Rattle.promql_tool.specs.Found.{IsFound, Just};
-ghost use Rattle.promql_tool.specs.Runs.{ComesTo, IsCutFile, IsCutScript, ScriptComesTo};
+ghost use Rattle.promql_tool.specs.Runs.{ComesTo, IsCutFile, IsCutScript, RestsIfNone, ScriptComesTo};
 ghost use Rattle.promql_tool.specs.declared.fault.Stop.TheVariants.{Gone};
 ghost use Rattle.promql_tool.specs.declared.judge.FileEnd.TheVariants.{Stopped};
 ghost use Rattle.script_check.specs.Verdicts.{KeepsPatterns};
@@ -47,6 +47,7 @@ fn run_script<S: Sink, W: Ledger>(
     requires kept { KeepsPatterns searches.old script.now }
     requires few { length script.now.commands < 2 ^ 32 }
     ensures ran { IfOk result (ScriptComesTo options.now.closed searches.old path.now script.now (S.written out.old) (S.written out.new) (work.new ≡ work.old)) }
+    ensures rests { IfOk result (RestsIfNone (work.new ≡ work.old)) }
     ensures cut { OnErr result (IsCutScript options.now.closed searches.old path.now script.now (S.written out.old) (S.written out.new)) }
     ensures cause { HasCause (S.faults out.old) (S.faults out.new) (IsErrOf result SinkFail.Failed) }
     ensures sound { S.sound out.old → S.sound out.new }
@@ -72,6 +73,7 @@ pub fn run_bytes<S: Sink, W: Ledger>(
     work: &mut Work<W>,
 ) -> Result<FileEnd, SinkFail>
     ensures ran { IfOk result (ComesTo options.now.closed (Just bytes.now) path.now (S.written out.old) (S.written out.new) (work.new ≡ work.old)) }
+    ensures rests { IfOk result (RestsIfNone (work.new ≡ work.old)) }
     ensures cut { OnErr result (IsCutFile options.now.closed (Just bytes.now) path.now (S.written out.old) (S.written out.new)) }
     ensures cause { HasCause (S.faults out.old) (S.faults out.new) (IsErrOf result SinkFail.Failed) }
     ensures sound { S.sound out.old → S.sound out.new }
@@ -102,6 +104,7 @@ pub fn run_file<L: Library, S: Sink, W: Ledger>(
     ensures later { L.faults library.old ≤ L.faults library.new }
     ensures gone { IfOk result (λ end. end ≡ Stopped Gone → Rose (L.faults library.old) (L.faults library.new)) }
     ensures ran { IfOk result (ComesTo options.now.closed (IsFound (L.told library.old) (L.sound library.old)) path.now (S.written out.old) (S.written out.new) (work.new ≡ work.old)) }
+    ensures rests { IfOk result (RestsIfNone (work.new ≡ work.old)) }
     ensures cut { OnErr result (IsCutFile options.now.closed (IsFound (L.told library.old) (L.sound library.old)) path.now (S.written out.old) (S.written out.new)) }
     ensures cause { HasCause (S.faults out.old) (S.faults out.new) (IsErrOf result SinkFail.Failed) }
     ensures sound { S.sound out.old → S.sound out.new }

@@ -6,6 +6,7 @@ mod fault;
 mod fetch;
 mod files;
 mod judge;
+mod laws;
 mod print;
 mod query;
 mod text;
@@ -14,6 +15,7 @@ mod working;
 mod workload;
 
 pub use fault::Refusal;
+pub use laws::words_have_one_report;
 pub use print::Status;
 pub use tool::run_tool;
 pub use workload::{loaded_line, workload_text};

@@ -4,11 +4,12 @@ ghost use Rattle.edge_io.specs.Fetches.{FetchesFront};
 ghost use Rattle.edge_io.specs.Written.{appended};
 ghost use Rattle.promql_tool.specs.Ends.{IfFirst, IfMade, IsCut, IsGone, IsOneOf, IsRefused, IsUnrun, Reports};
 ghost use Rattle.promql_tool.specs.Found.{Have, IsFound};
+ghost use Rattle.promql_tool.specs.Reached.{Reaches, status_of};
 ghost use Rattle.promql_tool.specs.Reading.{IsNoScript};
 ghost use Rattle.promql_tool.specs.Report.{HasReport, closed_of, files_of};
 ghost use Rattle.promql_tool.specs.Runs.{Ends, ReportsWords};
 ghost use Rattle.promql_tool.specs.Texts.{usage};
-ghost use Rattle.std.specs.Prelude.{◌≡◌, ◌≤◌, ◌⊎◌, ℕ, [], ◌∷◌, List, Contains, None, length, map, string_bytes, IfOk, IfSome, IsErrOf};
+ghost use Rattle.std.specs.Prelude.{◌≡◌, ◌≤◌, ◌⊎◌, ℕ, [], ◌∷◌, List, Contains, Err, None, length, map, string_bytes, IfOk, IfSome, IsErrOf};
 ghost use Rattle.tool_words.specs.Asked.{asked};
 
 use crate::files::run_files;
@@ -24,6 +25,7 @@ use tool_words::{Asked, read_words};
 
 /// The status of a run whose printing was cut off.
 fn cut_status(cause: SinkFail) -> Status
+    ensures is { result.0 ≡ status_of (Err cause) }
     ensures failed { cause ≡ SinkFail.Failed → result.0 ≡ 4 }
     ensures memory { cause ≡ SinkFail.Memory → result.0 ≡ 7 }
 {
@@ -42,6 +44,7 @@ fn run_words<L: Library, S: Sink, W: Ledger>(
     work: &mut Work<W>,
 ) -> Result<Status, SinkFail>
     ensures fetched { FetchesFront L.fetches (files_of (map string_bytes words.now)) library.old library.new }
+    ensures reached { Reaches L.fetches (map string_bytes words.now) (IsFound (L.told library.old) (L.sound library.old)) library.old library.new (S.written out.old) (S.written out.new) (work.new ≡ work.old) (status_of result) }
     ensures told { L.told library.new ≡ L.told library.old }
     ensures library_sound { L.sound library.old → L.sound library.new }
     ensures gone { IfOk result (λ status. status.0 ≡ 3 → Rose (L.faults library.old) (L.faults library.new)) }
@@ -112,6 +115,10 @@ pub fn run_tool<L: Library, S: Sink, W: Ledger>(
     // The files of the words were fetched, from the first on, each at most once for each time that it is named, and nothing
     // else: of words that are no command nothing. What library and sink tell of themselves stays.
     ensures fetched { FetchesFront L.fetches (files_of (map string_bytes words.now)) library.old library.new }
+
+    // A run over files fetches them until all were judged, or up to and with the first at which it stops: one that isn't there or is
+    // refused, of which nothing is evaluated, or in which a write failed or memory ran out. A query fetches its one file.
+    ensures reached { Reaches L.fetches (map string_bytes words.now) (IsFound (L.told library.old) (L.sound library.old)) library.old library.new (S.written out.old) (S.written out.new) (work.new ≡ work.old) result.0 }
     ensures told { L.told library.new ≡ L.told library.old }
     ensures library_sound { L.sound library.old → L.sound library.new }
     ensures sink_sound { S.sound out.old → S.sound out.new }

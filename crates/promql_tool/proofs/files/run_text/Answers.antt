@@ -21,9 +21,10 @@ returns-in-Judged-clause-ends g c =
     let idle = c.run_bytes.new.work ≡ c.args.work.now in
     let totals = c.in-Judged.totals in
     let came = rw c.in-Judged.is at c.in_ok-totals.ensures.ran in
+    let rests = rw c.in-Judged.is at c.in_ok-totals.ensures.rests in
     let passed : 0 + totals.passed ≡ c.from.result = omega (arith, c.from.ensures) in
     let failed : 0 + totals.failed ≡ c.from-in-Judged.result = omega (arith, c.from-in-Judged.ensures) in
-    let run = one_more c.args.options.now.closed found (path ∷ []) before path [] before (Unit {0}) 0 0 (none_run c.args.options.now.closed found (path ∷ []) before (Unit {0}) tt) now totals idle came in
+    let run = one_more c.args.options.now.closed found (path ∷ []) before path [] before (Unit {0}) 0 0 (none_run c.args.options.now.closed found (path ∷ []) before (Unit {0}) tt) now totals idle came (λ none _. rests none) in
     let counted = subst (λ (n : ℕ). RunSoFar c.args.options.now.closed found (path ∷ []) [] before now idle c.from.result n) failed (subst (λ (n : ℕ). RunSoFar c.args.options.now.closed found (path ∷ []) [] before now idle n (0 + totals.failed)) passed run) in
     totals_printed c.args.options.now.closed found (path ∷ []) before now idle c.from.result c.from-in-Judged.result counted (g.S.Sink.written c.print_totals.new.out) c.print_totals.result
     c.print_totals.ensures.ok c.print_totals.ensures.err

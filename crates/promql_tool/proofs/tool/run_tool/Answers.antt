@@ -1,5 +1,7 @@
 use Rattle.std.proofs.Common.{◌≡◌, [], ◌∷◌, None, map, string_bytes, refl}
 use Rattle.promql_tool.specs.Ends.{IfFirst, IsOneOf, IsUnrun}
+use Rattle.promql_tool.specs.Found.{IsFound}
+use Rattle.promql_tool.specs.Reached.{Reaches}
 use Rattle.promql_tool.specs.Reading.{IsNoScript}
 use Rattle.promql_tool.specs.Report.{files_of}
 use Rattle.tool_words.specs.Asked.{asked}
@@ -81,3 +83,6 @@ returns-in-Err-clause-missing g c =
     let is = cut_status c.in-Err.cause c.cut_status.result.0 (IsOneOf (3 ∷ 4 ∷ 7 ∷ [])) c.cut_status.ensures.failed c.cut_status.ensures.memory refl refl in
     told_each (g.L.Library.told c.args.library.now) (λ files. IfFirst paths (λ path. files path ≡ None → IsOneOf (3 ∷ 4 ∷ 7 ∷ []) c.cut_status.result.0))
     (λ files. first_of paths (λ path. files path ≡ None → IsOneOf (3 ∷ 4 ∷ 7 ∷ []) c.cut_status.result.0) (λ path none. is))
+
+pub returns-in-Err-clause-reached : goal.returns-in-Err-clause-reached
+returns-in-Err-clause-reached g c = rw (sym c.cut_status.ensures.is) at c.in-Err.ensures.reached

@@ -1,7 +1,9 @@
 use Rattle.std.proofs.Common.{◌≡◌, ◌∙◌, false, List, ℕ, Some, map, string_bytes, refl, sym, ap}
+use Rattle.std.proofs.lemmas.Result.{err_from_is_err_and}
 use Rattle.tool_words.specs.Asked.{asked, query, test, workload}
 use Rattle.ticks.specs.Moments.{moments_in}
 use Rattle.promql_tool.specs.Found.{IsFound}
+use Rattle.promql_tool.specs.Reached.{Reaches, files, no_file, no_memory, one_file}
 use Rattle.promql_tool.specs.Report.{files_asked}
 use Rattle.promql_tool.proofs.WordsRun.{files_end, misuse_ends, one_fetched, query_end, workload_end}
 use Rattle.promql_tool.proofs.tool.run_words.Goals as goal
@@ -49,3 +51,38 @@ returns-in-Some-Workload-clause-ends g c =
     let wish = rw (c.in-Some-Workload.is, c.in-Some-Workload.field-0-is) at c.in_ok-read_words.ensures.wish in
     let is : asked words ≡ Some (workload c.in-Some-Workload.closed c.in-Some-Workload.count) = sym wish in
     workload_end words c.in-Some-Workload.closed found (g.S.Sink.written c.args.out.now) (g.S.Sink.written c.run_workload.new.out) _ c.in-Some-Workload.count c.run_workload.result is c.run_workload.ensures.ends
+
+pub returns-in_err-read_words-clause-reached : goal.returns-in_err-read_words-clause-reached
+returns-in_err-read_words-clause-reached g c =
+    let p = err_from_is_err_and c.from_residual.result c.from_residual.ensures.1 in
+    rw (p.1, p.2) (no_memory refl refl refl)
+
+pub returns-in-None-clause-reached : goal.returns-in-None-clause-reached
+returns-in-None-clause-reached g c =
+    let wish = rw c.in-None.is at c.in_ok-read_words.ensures.wish in
+    no_file (ap files_asked (sym wish)) refl
+
+pub returns-in-Some-Test-clause-reached : goal.returns-in-Some-Test-clause-reached
+returns-in-Some-Test-clause-reached g c =
+    let words = map string_bytes c.args.words.now in
+    let wish = rw (c.in-Some-Test.is, c.in-Some-Test.field-0-is) at c.in_ok-read_words.ensures.wish in
+    let is : asked words ≡ Some (test c.in-Some-Test.closed c.as_slice.result.now) = sym wish ∙ ap (λ (paths : List (List ℕ)). Some (test c.in-Some-Test.closed paths)) (sym c.as_slice.ensures) in
+    files c.in-Some-Test.closed c.as_slice.result.now is c.run_files.ensures.reached
+
+pub returns-in-Some-Query-clause-reached : goal.returns-in-Some-Query-clause-reached
+returns-in-Some-Query-clause-reached g c =
+    let words = map string_bytes c.args.words.now in
+    let path = c.as_str-in-Some-Query.result.now in
+    let expr = c.as_str.result.now in
+    let grid = c.in-Some-Query.grid in
+    let instant = c.in-Some-Query.instant in
+    let moments = moments_in grid instant in
+    let wish = rw (c.in-Some-Query.is, c.in-Some-Query.field-0-is) at c.in_ok-read_words.ensures.wish in
+    let is : asked words ≡ Some (query c.in-Some-Query.closed moments path expr) =
+    sym wish ∙ ap (λ (p : List ℕ). Some (query c.in-Some-Query.closed moments p c.in-Some-Query.expr)) (sym c.as_str-in-Some-Query.ensures) ∙ ap (λ (e : List ℕ). Some (query c.in-Some-Query.closed moments path e)) (sym c.as_str.ensures) in
+    one_file c.in-Some-Query.closed grid instant path expr is c.run_query.ensures.fetched
+
+pub returns-in-Some-Workload-clause-reached : goal.returns-in-Some-Workload-clause-reached
+returns-in-Some-Workload-clause-reached g c =
+    let wish = rw (c.in-Some-Workload.is, c.in-Some-Workload.field-0-is) at c.in_ok-read_words.ensures.wish in
+    no_file (ap files_asked (sym wish)) refl

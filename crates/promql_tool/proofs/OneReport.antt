@@ -1,0 +1,129 @@
+-- Words that come to one thing have one report.
+use Rattle.std.proofs.Common.{◌≡◌, ℕ, Bool, List, [], ◌∷◌, Option, None, Some, refl, sym, ap, subst, ◌∙◌}
+use Rattle.std.specs.List.{AllByRecursion}
+use Rattle.ticks.specs.Moments.{Moments, moments_in}
+use Rattle.ticks.specs.declared.grid.Grid.{Grid}
+use Rattle.tool_words.specs.Asked.{Wish, asked, query, test, workload}
+use Rattle.promql_meaning.specs.declared.answer.Outcome.{Outcome}
+use Rattle.test_runner.specs.Verdicts.{Judged}
+use Rattle.promql_tool.specs.Files.{All, Gone, JudgedFile, Last, Refused, Sees, all, gone, judged, refused, report_of}
+use Rattle.promql_tool.specs.Found.{Have, Just}
+use Rattle.promql_tool.specs.Query.{Queried, outcome_report}
+use Rattle.promql_tool.specs.Query as queries
+use Rattle.promql_tool.specs.Report.{IsReport, misused, queried, tested, worked, workload_report}
+use Rattle.promql_tool.specs.Settled.{Came, ComesToOne, IsAnsweredOnce, IsSeen, IsSettled, IsToldSo, NoFile, NoScript, NotRun, NotThere, Run, Seen, Told}
+use Rattle.promql_tool.specs.Texts.{Report, fault_report, refusal_report, usage_report}
+use Rattle.promql_tool.specs.Workload.{workload_path, workload_text}
+use Rattle.promql_tool.specs.declared.fault.Refusal.{Refusal}
+
+-- ---- files
+
+module _ (closed : Bool) (found : List ℕ → Option (List ℕ) → Type 0) where
+  -- what is seen from a file on, by what that one comes to
+  abbrev Follows : List ℕ → List (List ℕ) → Seen → List JudgedFile → Last → Type 0
+  Follows path later NotThere files last = (files ≡ []) × (last ≡ Gone path)
+  Follows path later (NotRun refusal) files last = (files ≡ []) × (last ≡ Refused path refusal)
+  Follows path later (Run verdicts) files last = (more : List JudgedFile) × (files ≡ record { path = path; verdicts = verdicts } ∷ more) × Sees closed found later more last
+
+  record First (path : List ℕ) (later : List (List ℕ)) (files : List JudgedFile) (last : Last) : Type 0 where
+    seen : Seen
+    is : IsSeen closed found path seen
+    follows : Follows path later seen files last
+
+  first_seen : (paths : List (List ℕ)) (files : List JudgedFile) (last : Last) → Sees closed found paths files last → (path : List ℕ) (later : List (List ℕ)) → paths ≡ path ∷ later → First path later files last
+  first_seen paths files last all path later e = absurd (cc)
+  first_seen paths files last (gone p ps none) path later e =
+      let same : p ≡ path = cc in
+      subst (λ (x : List ℕ). First x later [] (Gone p)) same (record { seen = NotThere; is = none; follows = (refl, refl) })
+  first_seen paths files last (refused p bytes refusal ps is why) path later e =
+      let same : p ≡ path = cc in
+      subst (λ (x : List ℕ). First x later [] (Refused p refusal)) same (record { seen = NotRun refusal; is = (bytes, is, why); follows = (refl, refl) })
+  first_seen paths files last (judged p verdicts ps more end is rest) path later e =
+      let same : p ≡ path = cc in
+      let behind : ps ≡ later = cc in
+      subst (λ (x : List ℕ). First x later (record { path = p; verdicts = verdicts } ∷ more) end) same
+      (record { seen = Run verdicts; is = is; follows = (more, refl, subst (λ (l : List (List ℕ)). Sees closed found l more end) behind rest) })
+
+  none_seen : (paths : List (List ℕ)) (files : List JudgedFile) (last : Last) → Sees closed found paths files last → paths ≡ [] → (files ≡ []) × (last ≡ All)
+  none_seen paths files last all e = (refl, refl)
+  none_seen paths files last (gone p ps none) e = absurd (cc)
+  none_seen paths files last (refused p bytes refusal ps is why) e = absurd (cc)
+  none_seen paths files last (judged p verdicts ps more end is rest) e = absurd (cc)
+
+  abbrev Same : List JudgedFile → Last → List JudgedFile → Last → Type 0
+  Same files last others end = (files ≡ others) × (last ≡ end)
+
+  seen_once : (paths : List (List ℕ)) → AllByRecursion (ComesToOne closed found) paths → (files others : List JudgedFile) (last end : Last) → Sees closed found paths files last → Sees closed found paths others end → Same files last others end
+  seen_once [] once files others last end a b =
+      let x = none_seen [] files last a refl in
+      let y = none_seen [] others end b refl in
+      (x.0 ∙ sym y.0, x.1 ∙ sym y.1)
+  seen_once (path ∷ later) once files others last end a b =
+      let x = first_seen (path ∷ later) files last a path later refl in
+      let y = first_seen (path ∷ later) others end b path later refl in
+      go x.seen x.follows (subst (λ (s : Seen). Follows path later s others end) (once.0 y.seen x.seen y.is x.is) y.follows)
+    where
+      go : (s : Seen) → Follows path later s files last → Follows path later s others end → Same files last others end
+      go NotThere f g = (f.0 ∙ sym g.0, f.1 ∙ sym g.1)
+      go (NotRun refusal) f g = (f.0 ∙ sym g.0, f.1 ∙ sym g.1)
+      go (Run verdicts) f g =
+          let more = seen_once later once.1 f.0 g.0 last end f.2 g.2 in
+          (f.1 ∙ ap (λ (l : List JudgedFile). record { path = path; verdicts = verdicts } ∷ l) more.0 ∙ sym g.1, more.1)
+
+  reports_once : (paths : List (List ℕ)) → AllByRecursion (ComesToOne closed found) paths → (report : List JudgedFile → Last → Report) (files others : List JudgedFile) (last end : Last)
+      → Sees closed found paths files last → Sees closed found paths others end → report files last ≡ report others end
+  reports_once paths once report files others last end a b =
+      let same = seen_once paths once files others last end a b in
+      ap (λ (l : List JudgedFile). report l last) same.0 ∙ ap (report others) same.1
+
+-- ---- queries
+
+module _ (closed : Bool) (moments : Moments) (found : List ℕ → Option (List ℕ) → Type 0) (path expr : List ℕ) where
+  abbrev says : Told → Report
+  says NoFile = fault_report path
+  says (NoScript refusal) = refusal_report path refusal
+  says (Came got notes) = outcome_report got notes
+
+  record Says (report : Report) : Type 0 where
+    told : Told
+    is : IsToldSo closed moments found path expr told
+    same : report ≡ says told
+
+  said : (grid : Grid) (instant : Bool) → moments ≡ moments_in grid instant → (report : Report) → Queried closed found path expr grid instant report → Says report
+  said grid instant at report (queries.gone none) = record { told = NoFile; is = none; same = refl }
+  said grid instant at report (queries.refused bytes refusal is why) = record { told = NoScript refusal; is = (bytes, is, why); same = refl }
+  said grid instant at report (queries.answered bytes kept script got notes is read over lines) = record {
+    told = Came got notes;
+    is = record { grid = grid; instant = instant; at = at; bytes = bytes; is_found = is; kept = kept; script = script; is_read = read; over = over; lines = lines };
+    same = refl;
+  }
+
+  answers_once : IsAnsweredOnce closed moments found path expr → (one other : Report) → Says one → Says other → one ≡ other
+  answers_once once one other a b = a.same ∙ ap says (once a.told b.told a.is b.is) ∙ sym b.same
+
+-- ---- words
+
+module _ (files : List ℕ → Option (List ℕ)) where
+  -- what a report says of what is asked
+  abbrev SaysOf : Option Wish → Report → Type 0
+  SaysOf None report = report ≡ usage_report
+  SaysOf (Some (test closed paths)) report = (seen : List JudgedFile) × (last : Last) × Sees closed (Have files) paths seen last × (report ≡ report_of seen last)
+  SaysOf (Some (query closed moments path expr)) report = Says closed moments (Have files) path expr report
+  SaysOf (Some (workload closed series)) report =
+      (seen : List JudgedFile) × (last : Last) × Sees closed (Just (workload_text series)) (workload_path ∷ []) seen last × (report ≡ workload_report series seen last)
+
+  says_of : (words : List (List ℕ)) (report : Report) → IsReport words (Have files) report → SaysOf (asked words) report
+  says_of words report (misused none) = subst (λ (w : Option Wish). SaysOf w usage_report) (sym none) refl
+  says_of words report (tested closed paths seen last is sees) = subst (λ (w : Option Wish). SaysOf w (report_of seen last)) (sym is) (seen, last, sees, refl)
+  says_of words report (queried closed grid instant path expr said_so is q) = subst (λ (w : Option Wish). SaysOf w said_so) (sym is) (said closed (moments_in grid instant) (Have files) path expr grid instant refl said_so q)
+  says_of words report (worked closed series seen last is sees) = subst (λ (w : Option Wish). SaysOf w (workload_report series seen last)) (sym is) (seen, last, sees, refl)
+
+  one_of : (wish : Option Wish) → IsSettled wish files → (one other : Report) → SaysOf wish one → SaysOf wish other → one ≡ other
+  one_of None once one other a b = a ∙ sym b
+  one_of (Some (test closed paths)) once one other a b = a.3 ∙ reports_once closed (Have files) paths once report_of a.0 b.0 a.1 b.1 a.2 b.2 ∙ sym b.3
+  one_of (Some (query closed moments path expr)) once one other a b = answers_once closed moments (Have files) path expr once one other a b
+  one_of (Some (workload closed series)) once one other a b =
+      a.3 ∙ reports_once closed (Just (workload_text series)) (workload_path ∷ []) (once, tt) (workload_report series) a.0 b.0 a.1 b.1 a.2 b.2 ∙ sym b.3
+
+pub one_report : (words : List (List ℕ)) (files : List ℕ → Option (List ℕ)) → IsSettled (asked words) files → (one other : Report) → IsReport words (Have files) one → IsReport words (Have files) other → one ≡ other
+one_report words files once one other a b = one_of files (asked words) once one other (says_of files words one a) (says_of files words other b)

@@ -1,0 +1,69 @@
+-- What files and queries come to, where that is one thing. (This project's own.)
+use Rattle.std.specs.Prelude.{◌≡◌, ℕ, Bool, List, Option, None, Some, Ok}
+use Rattle.std.specs.List.{AllByRecursion}
+use Rattle.promql_meaning.specs.declared.answer.Outcome.{Outcome}
+use Rattle.script_read.specs.Outcomes.{PatternList}
+use Rattle.script_read.specs.declared.script.Script.{Script}
+use Rattle.test_runner.specs.Running.{IsAnswerOver}
+use Rattle.test_runner.specs.Verdicts.{Judged}
+use Rattle.ticks.specs.Moments.{Moments, moments_in}
+use Rattle.ticks.specs.declared.grid.Grid.{Grid}
+use Rattle.tool_words.specs.Asked.{Wish, asked, query, test, workload}
+use Rattle.promql_tool.specs.Files.{IsJudged}
+use Rattle.promql_tool.specs.Found.{Have, Just}
+use Rattle.promql_tool.specs.Query.{AreNoteLines, notes_in}
+use Rattle.promql_tool.specs.Reading.{IsReadAs, IsRefusedFor}
+use Rattle.promql_tool.specs.Workload.{workload_path, workload_text}
+use Rattle.promql_tool.specs.declared.fault.Refusal.{Refusal}
+
+-- what a file comes to: it isn't there, or is refused, or its evaluations have these verdicts
+pub data Seen : Type 0 where
+  NotThere : Seen
+  NotRun : Refusal → Seen
+  Run : List Judged → Seen
+
+-- a file comes to this
+abbrev pub IsSeen : Bool → (List ℕ → Option (List ℕ) → Type 0) → List ℕ → Seen → Type 0
+IsSeen closed found path NotThere = found path None
+IsSeen closed found path (NotRun refusal) = (bytes : List ℕ) × found path (Some bytes) × IsRefusedFor bytes refusal
+IsSeen closed found path (Run verdicts) = IsJudged closed found path verdicts
+
+-- a file comes to one thing
+abbrev pub ComesToOne : Bool → (List ℕ → Option (List ℕ) → Type 0) → List ℕ → Type 0
+ComesToOne closed found path = (a b : Seen) → IsSeen closed found path a → IsSeen closed found path b → a ≡ b
+
+-- what a query over a file comes to: the file isn't there, or is refused, or the expression has this outcome, whose notes have these
+-- lines
+pub data Told : Type 0 where
+  NoFile : Told
+  NoScript : Refusal → Told
+  Came : Outcome → List (List ℕ) → Told
+
+-- an expression has this outcome at these moments over the samples that a file leaves, and its notes have these lines
+pub record CameOver (closed : Bool) (moments : Moments) (found : List ℕ → Option (List ℕ) → Type 0) (path expr : List ℕ) (got : Outcome) (notes : List (List ℕ)) : Type 0 where
+  pub grid : Grid
+  pub instant : Bool
+  pub at : moments ≡ moments_in grid instant
+  pub bytes : List ℕ
+  pub is_found : found path (Some bytes)
+  pub kept : PatternList
+  pub script : Script
+  pub is_read : IsReadAs kept bytes (Ok script)
+  pub over : IsAnswerOver script expr grid instant closed got
+  pub lines : AreNoteLines (notes_in got) notes
+
+abbrev pub IsToldSo : Bool → Moments → (List ℕ → Option (List ℕ) → Type 0) → List ℕ → List ℕ → Told → Type 0
+IsToldSo closed moments found path expr NoFile = found path None
+IsToldSo closed moments found path expr (NoScript refusal) = (bytes : List ℕ) × found path (Some bytes) × IsRefusedFor bytes refusal
+IsToldSo closed moments found path expr (Came got notes) = CameOver closed moments found path expr got notes
+
+-- a query comes to one thing
+abbrev pub IsAnsweredOnce : Bool → Moments → (List ℕ → Option (List ℕ) → Type 0) → List ℕ → List ℕ → Type 0
+IsAnsweredOnce closed moments found path expr = (a b : Told) → IsToldSo closed moments found path expr a → IsToldSo closed moments found path expr b → a ≡ b
+
+-- What words ask for comes to one thing: each of the files, the query, or the script of the workload.
+abbrev pub IsSettled : Option Wish → (List ℕ → Option (List ℕ)) → Type 0
+IsSettled None files = Unit {0}
+IsSettled (Some (test closed paths)) files = AllByRecursion (ComesToOne closed (Have files)) paths
+IsSettled (Some (query closed moments path expr)) files = IsAnsweredOnce closed moments (Have files) path expr
+IsSettled (Some (workload closed series)) files = ComesToOne closed (Just (workload_text series)) workload_path
