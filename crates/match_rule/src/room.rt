@@ -1,6 +1,9 @@
+ghost use Rattle.std.specs.Prelude.{◌≡◌, IfOk};
+
 use crate::built::Built;
 use std::alloc::{AllocError, Global};
 use std::cell::OnceCell;
+use std::marker::Model;
 
 /// The most patterns that are kept.
 pub(crate) const MOST_PATTERNS: usize = 32;
@@ -12,9 +15,20 @@ pub struct PatternRoom {
     places: Vec<OnceCell<Built>>,
 }
 
+/// Contracts see how many places there are.
+impl Model for PatternRoom {
+    ghost use Rattle.std.specs.Prelude.{ℕ, length};
+
+    ghost Value = { ℕ };
+
+    ghost view = { λ r. length r.places.items };
+}
+
 impl PatternRoom {
-    /// Empty places. The only error is want of memory.
-    pub fn new(alloc: Global) -> Result<PatternRoom, AllocError> {
+    /// Empty places for the most patterns that are kept. The only error is want of memory.
+    pub fn new(alloc: Global) -> Result<PatternRoom, AllocError>
+        ensures places { IfOk result (λ room. room ≡ 32) }
+    {
         let mut places = Vec::new(alloc);
         for _ in 0..MOST_PATTERNS {
             places.push(OnceCell::new())?;
@@ -23,7 +37,9 @@ impl PatternRoom {
     }
 
     /// Empties each place.
-    pub(crate) fn clear(&mut self) {
+    pub(crate) fn clear(&mut self)
+        ensures places { self.new ≡ self.old }
+    {
         for place in self.places.iter_mut() {
             place.take();
         }

@@ -37,6 +37,7 @@ pub fn is_warning(note: &Note) -> bool
     }
 }
 
+/// Whether a note is a warning, or else whether it is none.
 pub fn is_of(warnings: bool, note: &Note) -> bool
     ensures { result ≡ is_of warnings note.now }
 {
