@@ -16,7 +16,7 @@ use Rattle.step_table.specs.Laws.{GroupListTakesOver}
 use Rattle.step_table.specs.Operators.{all_put}
 use Rattle.step_table.proofs.LoneRows.{equal_from_is}
 
-same_name : (name n : List ℕ) → is_at (byte_cmp name) n ≡ true → name ≡ n
+pub same_name : (name n : List ℕ) → is_at (byte_cmp name) n ≡ true → name ≡ n
 same_name name n e = exact_bytes name n (equal_from_is (byte_cmp name n) e)
 
 -- ---- a value that is put
@@ -33,7 +33,7 @@ put_apart name k n v w o true false e f g = refl
 put_apart name k n v w o false true e f g = refl
 put_apart name k n v w o false false e f g = refl
 
-lookup_put : (name k v : List ℕ) (ps : Names) → lookup (is_at (byte_cmp name)) (insert_entry byte_cmp ps k v) ≡ cond (is_at (byte_cmp name) k) (Some v) (lookup (is_at (byte_cmp name)) ps)
+pub lookup_put : (name k v : List ℕ) (ps : Names) → lookup (is_at (byte_cmp name)) (insert_entry byte_cmp ps k v) ≡ cond (is_at (byte_cmp name) k) (Some v) (lookup (is_at (byte_cmp name)) ps)
 lookup_put name k v [] = refl
 lookup_put name k v (p ∷ ps) =
     elim (byte_cmp k p.0) as (λ r. byte_cmp k p.0 ≡ r → lookup (is_at (byte_cmp name)) (match_ordering r ((k, v) ∷ p ∷ ps) ((p.0, v) ∷ ps) (p ∷ insert_entry byte_cmp ps k v)) ≡ cond (is_at (byte_cmp name) k) (Some v) (cond (is_at (byte_cmp name) p.0) (Some p.1) (lookup (is_at (byte_cmp name)) ps))) [

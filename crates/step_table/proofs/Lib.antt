@@ -4,6 +4,7 @@ pub mod Filters
 pub mod Gathers
 pub mod Grouped
 pub mod Itself
+pub mod LabelsWithin
 pub mod LoneRows
 pub mod Matched
 pub mod Members

@@ -3,6 +3,7 @@ pub mod AllGathered
 pub mod Gathering
 pub mod Groups
 pub mod KeySets
+pub mod LabelLimits
 pub mod Laws
 pub mod Matching
 pub mod OneSides

@@ -1,4 +1,5 @@
 //! Laws of steps that users rely on. The functions do nothing: each stands for what its contract says.
+ghost use Rattle.step_table.specs.LabelLimits.{PairLabelsAreWithin};
 ghost use Rattle.step_table.specs.Laws.{AndUnlessPart, CombinedIsWellFormed, GroupListTakesOver, OrOfItself, PairedIsWellFormed, PlusExchangesPairs, PlusExchangesRows, PlusIsExchanged, PlusKeepsSignature, SettledIsWellFormed, TakenHasSets, TakenIsTable, UnionHasMarks, UnionHasNotes, UnionIsSet};
 
 use xfrac::laws::sum_ignores_order;
@@ -43,4 +44,9 @@ pub fn plus_is_exchanged()
 /// The labels of a grouped pair are the one side's under the names of the group list, and else the many side's.
 pub fn group_list_is_taken_over()
     ensures { GroupListTakesOver }
+{}
+
+/// The labels of a pair are its whole set of labels; there are none exactly where that would pass a limit of labels.
+pub fn pair_labels_are_within()
+    ensures { PairLabelsAreWithin }
 {}

@@ -1,5 +1,5 @@
 -- The aggregations and the functions over windows give numbers where the values are numbers.
-use Rattle.std.proofs.Common.{◌≡◌, ◌<◌, ◌≤◌, ◌-◌, ◌∙◌, ℕ, zero, suc, Bool, true, false, refl, ap, subst, arith, List, [], ◌∷◌, length, drop, map, filter, fold, Option, Some, None, Result, Ok, Err, min}
+use Rattle.std.proofs.Common.{◌≡◌, ◌<◌, ◌≤◌, ◌-◌, ◌∙◌, ◌⊎◌, inl, inr, ℕ, zero, suc, Bool, true, false, refl, ap, subst, arith, List, [], ◌∷◌, length, drop, map, filter, fold, Option, Some, None, Result, Ok, Err, min}
 use Rattle.std.specs.Prelude.{ℤ, pos, ◌-ℤ◌, ◌*ℤ◌, unsigned_abs, IfOk, IfSome, ◌&&◌, ◌||◌, is_ok, count_by, if◌then◌else◌, slice_index_or}
 use Rattle.std.specs.List.{All, filter_map, list_all, zip}
 use Rattle.std.specs.Option.{ok_or}
@@ -16,7 +16,7 @@ use Rattle.xfrac.specs.Arithmetic.{arithmetic, mean_of, whole_number}
 use Rattle.xfrac.specs.Forming.{floor_of, formed as formed_of, negated}
 use Rattle.xfrac.specs.Fractions.{limit, lowest}
 use Rattle.xfrac.specs.Kinds.{is_not_a_number}
-use Rattle.xfrac.specs.Laws.{IsNumber}
+use Rattle.xfrac.specs.Laws.{IsNumber, IsWhole}
 use Rattle.xfrac.specs.NumberLaws.{FloorIsNumber, FormedIsNumber, FractionIsFormed, HasDenominator, MeanIsNumber, NumberHasDenominator, SumIsNumber}
 use Rattle.xfrac.specs.Order.{compares}
 use Rattle.xfrac.specs.Reduced.{whole_is_reduced}
@@ -33,7 +33,7 @@ use Rattle.window_fn.specs.declared.increases.Layout.{Layout}
 use Rattle.window_fn.specs.declared.slopes.Moments.{Moments}
 use Rattle.window_fn.specs.Aggregates.{ascending, at_rank, average, count_of, greater, greatest, inserted, interpolated, is_before, least, lesser, low_share, overflow_alone, place_of, quantile_of, squared_distance, total, total_of_answers, variance, weighed, weighed_at}
 use Rattle.window_fn.specs.Increases.{at_most, carried, change, covered, eleven_tenths, extrapolated, increase, layout_of, lost, mean_gap, rate, start_way, way_back, way_to_edge, way_to_zero}
-use Rattle.window_fn.specs.NumberLaws.{AggregateIsNumber, AreAggregatedToNumbers, SecondsAreNumbers, WindowIsNumber}
+use Rattle.window_fn.specs.NumberLaws.{AggregateIsAlike, AggregateIsNumber, AreAggregatedAlike, AreAggregatedToNumbers, IsNumberOrWhole, SecondsAreNumbers, WindowIsAlike, WindowIsNumber}
 use Rattle.window_fn.specs.Points.{begun, ended, ended_before, first_of, in_seconds, last_but_one, last_of, milliseconds, neighbours}
 use Rattle.window_fn.specs.Slopes.{both, cross, derivative, extended_line, intercept_of, is_finite, moments_of, prediction, products, rise_in, slope_by_seconds, slope_of, spans, squares, value_after}
 use Rattle.window_fn.specs.Steps.{changes, differ, instant_rate, last_difference, last_rise, resets}
@@ -448,6 +448,69 @@ module _ (formed : FormedIsNumber) (has : NumberHasDenominator) (sum_is : SumIsN
       chosen (λ (r : Result (Option XFrac) NumFault). IfOk r (λ row. IfSome row IsNumber)) (has_no_row f values) (Ok None) (overflow_alone (value_over f times values frame arg) >>= λ value. Ok (Some value)) tt
       (then_holds IsNumber (λ row. IfSome row IsNumber) (overflow_alone (value_over f times values frame arg)) (λ value. Ok (Some value))
       (overflow_kept IsNumber (value_over f times values frame arg) (value_is f times values frame arg all few h)) (λ value v. v))
+
+  -- ---- numbers and whole numbers of any size
+
+  whole_has : (v : XFrac) → IsWhole v → D v
+  whole_has (Fin f) h = omega (arith, h)
+  whole_has PosInf h = absurd h
+  whole_has NegInf h = absurd h
+  whole_has NaN h = absurd h
+
+  alike_has : (v : XFrac) → IsNumberOrWhole v → D v
+  alike_has v (inl h) = has v h
+  alike_has v (inr h) = whole_has v h
+
+  all_alike : (values : List XFrac) → All IsNumberOrWhole values → All D values
+  all_alike values all = All-weaker IsNumberOrWhole D alike_has values all
+
+  if_alike : (r : Result XFrac NumFault) → IfOk r IsNumber → IfOk r IsNumberOrWhole
+  if_alike (Ok v) h = inl h
+  if_alike (Err f) h = tt
+
+  greatest_alike : (values : List XFrac) → All IsNumberOrWhole values → IsNumberOrWhole (greatest values)
+  greatest_alike values all = fold_all IsNumberOrWhole greater (λ m x h k. chosen IsNumberOrWhole (is_not_a_number m || compares Gt x m) x m k h) values NaN (inl tt) all
+
+  least_alike : (values : List XFrac) → All IsNumberOrWhole values → IsNumberOrWhole (least values)
+  least_alike values all = fold_all IsNumberOrWhole lesser (λ m x h k. chosen IsNumberOrWhole (is_not_a_number m || compares Lt x m) x m k h) values NaN (inl tt) all
+
+  pub aggregates_alike : AggregateIsAlike
+  aggregates_alike values all =
+      record {
+        total = total_is values (all_alike values all);
+        average = average_is values (all_alike values all);
+        greatest = greatest_alike values all;
+        least = least_alike values all;
+        variance = variance_is values (all_alike values all);
+        quantile = λ q h. quantile_is q values (alike_has q h) (all_alike values all);
+      }
+
+  value_alike : (f : Window) (times : List Ms) (values : List XFrac) (frame : WindowFrame) (arg : XFrac) → All IsNumberOrWhole values → IsNumberOrWhole arg → IfOk (value_over f times values frame arg) IsNumberOrWhole
+  value_alike Rate times values frame arg all h = if_alike (rate times values frame) (rate_is times values frame (all_alike values all))
+  value_alike Increase times values frame arg all h = if_alike (increase true times values frame) (increase_is true times values frame (all_alike values all))
+  value_alike Delta times values frame arg all h = if_alike (increase false times values frame) (increase_is false times values frame (all_alike values all))
+  value_alike Irate times values frame arg all h = if_alike (instant_rate times values) (instant_is times values (all_alike values all))
+  value_alike Idelta times values frame arg all h = if_alike (last_difference values) (difference_is values (all_alike values all))
+  value_alike Deriv times values frame arg all h = if_alike (derivative times values) (derivative_is times values (all_alike values all))
+  value_alike PredictLinear times values frame arg all h =
+      if_alike (prediction frame.eval.0 times values arg) (prediction_is frame.eval.0 times values arg (all_alike values all) (alike_has arg h))
+  value_alike Changes times values frame arg all h = inr refl
+  value_alike Resets times values frame arg all h = inr refl
+  value_alike AvgOver times values frame arg all h = if_alike (average values) (average_is values (all_alike values all))
+  value_alike MinOver times values frame arg all h = least_alike values all
+  value_alike MaxOver times values frame arg all h = greatest_alike values all
+  value_alike SumOver times values frame arg all h = if_alike (total values) (total_is values (all_alike values all))
+  value_alike CountOver times values frame arg all h = inr refl
+  value_alike StdvarOver times values frame arg all h = if_alike (variance values) (variance_is values (all_alike values all))
+  value_alike QuantileOver times values frame arg all h = if_alike (quantile_of arg values) (quantile_is arg values (alike_has arg h) (all_alike values all))
+  value_alike LastOver times values frame arg all h = item_is IsNumberOrWhole values _ all (inl tt)
+  value_alike PresentOver times values frame arg all h = inr refl
+
+  pub windows_alike : WindowIsAlike
+  windows_alike f times values frame arg all h =
+      chosen (λ (r : Result (Option XFrac) NumFault). IfOk r (λ row. IfSome row IsNumberOrWhole)) (has_no_row f values) (Ok None) (overflow_alone (value_over f times values frame arg) >>= λ value. Ok (Some value)) tt
+      (then_holds IsNumberOrWhole (λ row. IfSome row IsNumberOrWhole) (overflow_alone (value_over f times values frame arg)) (λ value. Ok (Some value))
+      (overflow_kept IsNumberOrWhole (value_over f times values frame arg) (value_alike f times values frame arg all h)) (λ value v. v))
 
 -- ---- seconds
 

@@ -1,6 +1,6 @@
 //! Laws of functions over windows that users rely on. The functions do nothing: each stands for what its contract says.
 ghost use Rattle.window_fn.specs.Laws.{AscendingIsRanked, GreatestIsGreatest, IncreaseWithoutResets, LeastIsLeast, OneValueStays, OrderDoesntMatter, TimesDontMatter};
-ghost use Rattle.window_fn.specs.NumberLaws.{AggregateIsNumber, SecondsAreNumbers, WindowIsNumber};
+ghost use Rattle.window_fn.specs.NumberLaws.{AggregateIsAlike, AggregateIsNumber, SecondsAreNumbers, WindowIsAlike, WindowIsNumber};
 
 use xfrac::laws::{
     arithmetic_gives_numbers, order_is_total, rounding_gives_numbers, small_terms_are_formed,
@@ -50,6 +50,16 @@ pub fn ranks_are_of_values()
 pub fn windows_give_numbers()
     ensures aggregates { AggregateIsNumber }
     ensures windows { WindowIsNumber }
+{
+    arithmetic_gives_numbers();
+    sums_are_numbers();
+    rounding_gives_numbers();
+}
+
+/// The same of values that are numbers or whole numbers of any size, however many they are: they give such values.
+pub fn windows_give_numbers_or_wholes()
+    ensures aggregates { AggregateIsAlike }
+    ensures windows { WindowIsAlike }
 {
     arithmetic_gives_numbers();
     sums_are_numbers();
