@@ -23,7 +23,8 @@ use Rattle.step_table.specs.KeySets.{sorted_set}
 use Rattle.step_table.specs.Operators.{all_put}
 use Rattle.step_table.specs.Unions.{set_of}
 use Rattle.promql_meaning.specs.Absences.{absent_pair, absent_pairs, absent_value, equal_text, is_equality, kinds_on, unless_empty}
-use Rattle.promql_meaning.specs.LimitLaws.{AbsentLabelsAreWithin, is_beyond}
+use Rattle.step_table.specs.LabelLimits.{is_beyond}
+use Rattle.promql_meaning.specs.LimitLaws.{AbsentLabelsAreWithin}
 
 -- ---- a name behind all that are there
 

@@ -4,8 +4,6 @@ use Rattle.std.specs.List.{AllByRecursion}
 use Rattle.ticks.specs.Moments.{Moments, moments_in}
 use Rattle.ticks.specs.declared.grid.Grid.{Grid}
 use Rattle.tool_words.specs.Asked.{Wish, asked, query, test, workload}
-use Rattle.promql_meaning.specs.declared.answer.Outcome.{Outcome}
-use Rattle.test_runner.specs.Verdicts.{Judged}
 use Rattle.promql_tool.specs.Files.{All, Gone, JudgedFile, Last, Refused, Sees, all, gone, judged, refused, report_of}
 use Rattle.promql_tool.specs.Found.{Have, Just}
 use Rattle.promql_tool.specs.Query.{Queried, outcome_report}
@@ -14,7 +12,6 @@ use Rattle.promql_tool.specs.Report.{IsReport, misused, queried, tested, worked,
 use Rattle.promql_tool.specs.Settled.{Came, ComesToOne, IsAnsweredOnce, IsSeen, IsSettled, IsToldSo, NoFile, NoScript, NotRun, NotThere, Run, Seen, Told}
 use Rattle.promql_tool.specs.Texts.{Report, fault_report, refusal_report, usage_report}
 use Rattle.promql_tool.specs.Workload.{workload_path, workload_text}
-use Rattle.promql_tool.specs.declared.fault.Refusal.{Refusal}
 
 -- ---- files
 

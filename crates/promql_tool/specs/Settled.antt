@@ -8,7 +8,7 @@ use Rattle.test_runner.specs.Running.{IsAnswerOver}
 use Rattle.test_runner.specs.Verdicts.{Judged}
 use Rattle.ticks.specs.Moments.{Moments, moments_in}
 use Rattle.ticks.specs.declared.grid.Grid.{Grid}
-use Rattle.tool_words.specs.Asked.{Wish, asked, query, test, workload}
+use Rattle.tool_words.specs.Asked.{Wish, query, test, workload}
 use Rattle.promql_tool.specs.Files.{IsJudged}
 use Rattle.promql_tool.specs.Found.{Have, Just}
 use Rattle.promql_tool.specs.Query.{AreNoteLines, notes_in}

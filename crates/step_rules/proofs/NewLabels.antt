@@ -20,11 +20,11 @@ use Rattle.label_set.specs.declared.labels.LabelRefusal.TheVariants.{TooLong, To
 use Rattle.label_set.specs.declared.rules.Grouping.{Grouping}
 use Rattle.step_table.specs.Groups.{Names}
 use Rattle.promql_meaning.specs.Countings.{is_left_out, with_label}
-use Rattle.promql_meaning.specs.LimitLaws.{is_beyond, pass_limits}
+use Rattle.step_table.specs.LabelLimits.{AreWithin, is_beyond, pass_limits, unless_beyond}
 use Rattle.promql_meaning.specs.Ranks.{kept_labels}
 use Rattle.promql_meaning.specs.Relabels.{separated}
 use Rattle.promql_meaning.specs.Templates.{expanded}
-use Rattle.step_rules.specs.NewLabels.{AreWithin, CountedLabelsAreWithin, JoinedLabelsAreWithin, ReplacedLabelsAreWithin, SetLabelsAreWithin, unless_beyond}
+use Rattle.step_rules.specs.NewLabels.{CountedLabelsAreWithin, JoinedLabelsAreWithin, ReplacedLabelsAreWithin, SetLabelsAreWithin}
 
 -- ---- labels with one value more
 

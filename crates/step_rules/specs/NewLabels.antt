@@ -1,27 +1,17 @@
 -- Labels that label_replace, label_join and count_values make anew: there are none exactly where their whole set passes a limit.
 -- (Prometheus querying, "Functions" and "Aggregation operators"; the limits of labels are this project's own.)
-use Rattle.std.specs.Prelude.{◌≡◌, ℕ, List, false, map, Option, None, Some, if◌then◌else◌}
-use Rattle.std.specs.List.{list_any}
+use Rattle.std.specs.Prelude.{◌≡◌, ℕ, List, map, Some, if◌then◌else◌}
 use Rattle.frac_text.specs.Spellings.{spelling}
-use Rattle.label_set.specs.Labels.{IsLabelSet, value_of, with_value}
+use Rattle.label_set.specs.Labels.{value_of, with_value}
 use Rattle.label_set.specs.declared.rules.Grouping.{Grouping}
 use Rattle.match_rule.specs.Patterns.{pattern_groups}
 use Rattle.step_table.specs.Groups.{Names}
 use Rattle.step_table.specs.declared.step.Row.{Row}
 use Rattle.promql_meaning.specs.Countings.{counted_labels, is_left_out, with_label}
-use Rattle.promql_meaning.specs.LimitLaws.{is_beyond, pass_limits}
+use Rattle.step_table.specs.LabelLimits.{AreWithin, unless_beyond}
 use Rattle.promql_meaning.specs.Ranks.{kept_labels}
 use Rattle.promql_meaning.specs.Relabels.{joined_labels, replaced_labels, separated}
 use Rattle.promql_meaning.specs.Templates.{Spans, expanded}
-
--- labels as rows have them: a label set, no text of which passes its limit
-pub record AreWithin (labels : Names) : Type 0 where
-  pub set : IsLabelSet labels
-  pub texts : list_any is_beyond labels ≡ false
-
--- labels, or none where they pass a limit
-abbrev pub unless_beyond : Names → Option Names
-unless_beyond labels = if pass_limits labels then None else Some labels
 
 -- a value that is set under a name
 abbrev pub SetLabelsAreWithin : Type 0

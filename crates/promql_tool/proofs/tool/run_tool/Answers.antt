@@ -1,7 +1,5 @@
 use Rattle.std.proofs.Common.{◌≡◌, [], ◌∷◌, None, map, string_bytes, refl}
 use Rattle.promql_tool.specs.Ends.{IfFirst, IsOneOf, IsUnrun}
-use Rattle.promql_tool.specs.Found.{IsFound}
-use Rattle.promql_tool.specs.Reached.{Reaches}
 use Rattle.promql_tool.specs.Reading.{IsNoScript}
 use Rattle.promql_tool.specs.Report.{files_of}
 use Rattle.tool_words.specs.Asked.{asked}

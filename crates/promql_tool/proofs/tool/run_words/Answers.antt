@@ -3,7 +3,7 @@ use Rattle.std.proofs.lemmas.Result.{err_from_is_err_and}
 use Rattle.tool_words.specs.Asked.{asked, query, test, workload}
 use Rattle.ticks.specs.Moments.{moments_in}
 use Rattle.promql_tool.specs.Found.{IsFound}
-use Rattle.promql_tool.specs.Reached.{Reaches, files, no_file, no_memory, one_file}
+use Rattle.promql_tool.specs.Reached.{files, no_file, no_memory, one_file}
 use Rattle.promql_tool.specs.Report.{files_asked}
 use Rattle.promql_tool.proofs.WordsRun.{files_end, misuse_ends, one_fetched, query_end, workload_end}
 use Rattle.promql_tool.proofs.tool.run_words.Goals as goal
