@@ -17,10 +17,10 @@ module _ (taken : List (List ℕ)) where
   abbrev pub OneLabel : List Lexeme → List ℕ → Type 0
   OneLabel xs label = (l : Lexeme) × (xs ≡ l ∷ []) × IsLabel taken l label
 
-  single : (xs : List Lexeme) (label : List ℕ) → OneLabel xs label → LabelList taken xs (label ∷ [])
+  pub single : (xs : List Lexeme) (label : List ℕ) → OneLabel xs label → LabelList taken xs (label ∷ [])
   single xs label one = subst (λ z. LabelList taken z (label ∷ [])) (sym one.1) (LabelList.one one.0 label one.2)
 
-  longer : (us xs ys : List Lexeme) (labels : List (List ℕ)) (label : List ℕ) (c : Lexeme) → LabelList taken xs labels → IsSign Comma c → OneLabel ys label → us ≡ xs ++ c ∷ ys
+  pub longer : (us xs ys : List Lexeme) (labels : List (List ℕ)) (label : List ℕ) (c : Lexeme) → LabelList taken xs labels → IsSign Comma c → OneLabel ys label → us ≡ xs ++ c ∷ ys
       → LabelList taken us (labels ++ label ∷ [])
   longer us xs ys labels label c list comma one split = LabelList.more c one.0 label list comma one.2 (split ∙ ap (λ z. xs ++ c ∷ z) one.1)
 
@@ -44,7 +44,7 @@ module _ (taken : List (List ℕ)) where
           is = (l, refl, subst (IsLabel taken l) (ap (λ x. x.0) ends) (kind_found l (label_of l.kind) refl r.0 r.1));
         }
 
-    in_parens : (begin close : Lexeme) → IsSign LeftParen begin → IsSign RightParen close → {xs : List Lexeme} {labels : List (List ℕ)} → Inside (LabelList taken) xs labels
+    pub in_parens : (begin close : Lexeme) → IsSign LeftParen begin → IsSign RightParen close → {xs : List Lexeme} {labels : List (List ℕ)} → Inside (LabelList taken) xs labels
         → Labels taken (begin ∷ xs ++ close ∷ []) labels
     in_parens begin close opens closes Inside.none = Labels.none begin close opens closes
     in_parens begin close opens closes (Inside.some list) = Labels.listed begin close opens list closes refl
@@ -69,7 +69,7 @@ module _ (taken : List (List ℕ)) where
           is = subst (Labels taken (begin.0 ∷ all.mid ++ close.0 ∷ [])) (ap (λ x. x.0) ends) (in_parens begin.0 close.0 begin.2 close.2 all.inside);
         }
 
-word_grouped : (l : Lexeme) (k : LexemeKind) → l.kind ≡ k → (without : Bool) → grouping_word k ≡ Some without → {xs : List Lexeme} {labels : List (List ℕ)} → Labels [] xs labels
+pub word_grouped : (l : Lexeme) (k : LexemeKind) → l.kind ≡ k → (without : Bool) → grouping_word k ≡ Some without → {xs : List Lexeme} {labels : List (List ℕ)} → Labels [] xs labels
     → Grouped (l ∷ xs) (grouping_of without labels)
 word_grouped l (kinds.Word By spelling) is without word {xs} {labels} list =
     subst (λ w. Grouped (l ∷ xs) (grouping_of w labels)) (same_some _ _ word) (Grouped.by l (spelling, is) list)

@@ -1,3 +1,4 @@
+pub mod BracesStop
 pub mod LabelsFound
 pub mod LexemesGood
 pub mod Lists
@@ -7,7 +8,9 @@ pub mod ModifiersFound
 pub mod ModifiersRead
 pub mod PartsRead
 pub mod PartsStand
+pub mod PartsStop
 pub mod PartsWithin
 pub mod Patterning
 pub mod Shrinks
 pub mod SpansFound
+pub mod Stopping

@@ -29,13 +29,13 @@ list_turn end close item sofar ls = if begins close ls then Ok (false, sofar, ls
   next ← item_behind end close x.1
   Ok (next.0, sofar ++ x.0 ∷ [], next.1))
 
-closing : {X : Type 0} {Items : List Lexeme → List X → Type 0} {us : List Lexeme} {items : List X} → Before Items us items → Inside Items us items
+pub closing : {X : Type 0} {Items : List Lexeme → List X → Type 0} {us : List Lexeme} {items : List X} → Before Items us items → Inside Items us items
 closing Before.start = Inside.none
 closing (Before.behind c is is_comma split) = Inside.comma c is is_comma split
 
 module _ {X : Type 0} (One : List Lexeme → X → Type 0) (Items : List Lexeme → List X → Type 0) (single : (xs : List Lexeme) (x : X) → One xs x → Items xs (x ∷ []))
     (longer : (us xs ys : List Lexeme) (items : List X) (x : X) (c : Lexeme) → Items xs items → IsSign Comma c → One ys x → us ≡ xs ++ c ∷ ys → Items us (items ++ x ∷ [])) where
-  added : {us : List Lexeme} {items : List X} → Before Items us items → (ys : List Lexeme) (x : X) → One ys x → Items (us ++ ys) (items ++ x ∷ [])
+  pub added : {us : List Lexeme} {items : List X} → Before Items us items → (ys : List Lexeme) (x : X) → One ys x → Items (us ++ ys) (items ++ x ∷ [])
   added Before.start ys x one = single ys x one
   added (Before.behind {us = us} {xs = xs} {items = items} c is is_comma split) ys x one =
       longer (us ++ ys) xs ys items x c is is_comma one (ap (λ z. z ++ ys) split ∙ append_assoc xs (c ∷ []) ys)
@@ -74,7 +74,7 @@ module _ {X : Type 0} (One : List Lexeme → X → Type 0) (Items : List Lexeme 
       closes = next.closes;
     }
 
-    shorter : (n : ℕ) (ls front mid : List Lexeme) (u : Lexeme) → ls ≡ front ++ u ∷ mid → length ls < suc n → length mid < n
+    pub shorter : (n : ℕ) (ls front mid : List Lexeme) (u : Lexeme) → ls ≡ front ++ u ∷ mid → length ls < suc n → length mid < n
     shorter n ls front mid u split room = let sizes : length ls ≡ length front + length (u ∷ mid) = ap length split ∙ length-append front (u ∷ mid) in omega (arith, sizes, room)
 
     abbrev TurnsFound : ℕ → Type 0

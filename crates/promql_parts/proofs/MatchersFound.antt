@@ -19,11 +19,11 @@ use Rattle.promql_parts.specs.declared.selector.MatchOp.TheVariants as ops
 use Rattle.promql_parts.specs.declared.selector.Matcher.{Matcher}
 use Rattle.promql_parts.proofs.Lists.{Before, Inside, turns_found}
 
-longer : (us xs ys : List Lexeme) (matchers : List Matcher) (m : Matcher) (c : Lexeme) → MatcherList xs matchers → IsSign Comma c → OneMatcher ys m → us ≡ xs ++ c ∷ ys
+pub longer : (us xs ys : List Lexeme) (matchers : List Matcher) (m : Matcher) (c : Lexeme) → MatcherList xs matchers → IsSign Comma c → OneMatcher ys m → us ≡ xs ++ c ∷ ys
     → MatcherList us (matchers ++ m ∷ [])
 longer us xs ys matchers m c list comma one split = MatcherList.more c list comma one split
 
-abbrev op_sign : MatchOp → Sign
+abbrev pub op_sign : MatchOp → Sign
 op_sign ops.Equals = Equal
 op_sign ops.Differs = Unequal
 op_sign ops.Passes = Matches
@@ -62,7 +62,7 @@ module _ (end : ℕ) where
       record { front = l ∷ []; split = ap (λ x. l ∷ x) (ap (λ x. x.1) ends); is = subst (OneMatcher (l ∷ [])) (ap (λ x. x.0) ends) (OneMatcher.quoted_name l text is) }
   alone_found l _ is ls m rest read = no_ok _ _ read
 
-  op_begins : (ls : List Lexeme) (op : MatchOp) → match_op_at ls ≡ Some op → (o : Lexeme) × (ls ≡ o ∷ drop 1 ls) × IsSign (op_sign op) o
+  pub op_begins : (ls : List Lexeme) (op : MatchOp) → match_op_at ls ≡ Some op → (o : Lexeme) × (ls ≡ o ∷ drop 1 ls) × IsSign (op_sign op) o
   op_begins [] op is = no_some _ is
   op_begins (o ∷ ls) op is = (o, refl, op_found o.kind op is)
 
@@ -89,7 +89,7 @@ module _ (end : ℕ) where
   matcher_found [] m rest read = no_ok _ _ read
   matcher_found (l ∷ ls) m rest read = labelled_found l (label_of l.kind) refl ls m rest read
 
-  in_braces : (begin close : Lexeme) → IsSign LeftBrace begin → IsSign RightBrace close → {xs : List Lexeme} {matchers : List Matcher} → Inside MatcherList xs matchers
+  pub in_braces : (begin close : Lexeme) → IsSign LeftBrace begin → IsSign RightBrace close → {xs : List Lexeme} {matchers : List Matcher} → Inside MatcherList xs matchers
       → Matchers (begin ∷ xs ++ close ∷ []) matchers
   in_braces begin close opens closes Inside.none = Matchers.none begin close opens closes
   in_braces begin close opens closes (Inside.some list) = Matchers.listed begin close opens list closes refl

@@ -22,7 +22,7 @@ flag_word (kinds.Word Flag spelling) is = (spelling, refl)
 flag_word _ is = true_false (sym is)
 
 module _ (op : BinaryOp) (end : ℕ) where
-  flag_found : Sound (flag_at op end) (BoolModifier op)
+  pub flag_found : Sound (flag_at op end) (BoolModifier op)
   flag_found [] flag rest read =
       let ends = same_ok _ _ read in
       record { front = []; split = ap (λ x. x.1) ends; is = subst (BoolModifier op []) (ap (λ x. x.0) ends) BoolModifier.none }
@@ -47,7 +47,7 @@ module _ (op : BinaryOp) (end : ℕ) where
     pub found : Found (λ xs p. GroupModifiers op xs p bare) ls pairing rest
     pub apart : begins_labels bare rest ≡ false
 
-  group_begins : (ls : List Lexeme) (card : Card) → group_begun ls ≡ Some card → (u : Lexeme) × (ls ≡ u ∷ drop 1 ls) × (group_word u.kind ≡ Some card)
+  pub group_begins : (ls : List Lexeme) (card : Card) → group_begun ls ≡ Some card → (u : Lexeme) × (ls ≡ u ∷ drop 1 ls) × (group_word u.kind ≡ Some card)
   group_begins [] card is = no_some _ is
   group_begins (u ∷ ls) card is = (u, refl, is)
 
@@ -105,7 +105,7 @@ module _ (op : BinaryOp) (end : ℕ) where
     kind_found ls (Some card) begun pairing rest read =
         ⊎_elim (λ p. no_ok _ _ p.1) (λ p. group_found ls card begun p.0 pairing rest p.1) (chosen (is_set_operator op) _ _ _ read)
 
-  word_begins : (ls : List Lexeme) (on : Bool) → matching_begun ls ≡ Some on → (u : Lexeme) × (ls ≡ u ∷ drop 1 ls) × (matching_word u.kind ≡ Some on)
+  pub word_begins : (ls : List Lexeme) (on : Bool) → matching_begun ls ≡ Some on → (u : Lexeme) × (ls ≡ u ∷ drop 1 ls) × (matching_word u.kind ≡ Some on)
   word_begins [] on is = no_some _ is
   word_begins (u ∷ ls) on is = (u, refl, is)
 

@@ -25,7 +25,7 @@ positive_found at zero length read = no_ok _ _ read
 positive_found at (suc n) length read = (omega arith, sym (same_ok _ _ read))
 
 module _ (end : ℕ) where
-  length_found : (ls : List Lexeme) (length : Ms) (rest : List Lexeme) → length_at end ls ≡ Ok (length, rest) → (l : Lexeme) × (ls ≡ l ∷ rest) × IsLength l length
+  pub length_found : (ls : List Lexeme) (length : Ms) (rest : List Lexeme) → length_at end ls ≡ Ok (length, rest) → (l : Lexeme) × (ls ≡ l ∷ rest) × IsLength l length
   length_found [] length rest read = no_ok _ _ read
   length_found (l ∷ ls) length rest read =
       let r = bind_ok (amount_kind hundred_years l l.kind >>= positive l.at) _ _ read in
@@ -149,7 +149,7 @@ module _ (end : ℕ) (sign : Lexeme) (is_at : IsSign AtSign sign) where
   abbrev BehindAt : List Lexeme → Fixed → Type 0
   BehindAt xs time = TimeBehind (sign ∷ xs) time
 
-  edge_found : (u : Lexeme) (k : LexemeKind) → u.kind ≡ k → (begin close : Lexeme) → IsSign LeftParen begin → IsSign RightParen close → (time : Fixed) → preprocessor k ≡ Some time
+  pub edge_found : (u : Lexeme) (k : LexemeKind) → u.kind ≡ k → (begin close : Lexeme) → IsSign LeftParen begin → IsSign RightParen close → (time : Fixed) → preprocessor k ≡ Some time
       → BehindAt (u ∷ begin ∷ close ∷ []) time
   edge_found u (kinds.Word Start spelling) is begin close opens closes time found =
       subst (BehindAt (u ∷ begin ∷ close ∷ [])) (same_some _ _ found) (TimeBehind.start sign u begin close is_at (spelling, is) opens closes)
@@ -157,7 +157,7 @@ module _ (end : ℕ) (sign : Lexeme) (is_at : IsSign AtSign sign) where
       subst (BehindAt (u ∷ begin ∷ close ∷ [])) (same_some _ _ found) (TimeBehind.end sign u begin close is_at (spelling, is) opens closes)
   edge_found u _ is begin close opens closes time found = no_some _ found
 
-  preprocessor_begins : (ls : List Lexeme) (time : Fixed) → preprocessor_at ls ≡ Some time → (u : Lexeme) × (ls ≡ u ∷ drop 1 ls) × (preprocessor u.kind ≡ Some time)
+  pub preprocessor_begins : (ls : List Lexeme) (time : Fixed) → preprocessor_at ls ≡ Some time → (u : Lexeme) × (ls ≡ u ∷ drop 1 ls) × (preprocessor u.kind ≡ Some time)
   preprocessor_begins [] time is = no_some _ is
   preprocessor_begins (u ∷ ls) time is = (u, refl, is)
 

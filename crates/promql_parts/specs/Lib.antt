@@ -12,4 +12,6 @@ pub mod Spans
 pub mod Standing
 pub mod Stands
 pub mod Steps
+pub mod Stopped
+pub mod Stops
 pub mod Turns

@@ -1,6 +1,7 @@
 //! Laws of the readers of parts and their grammar.
 ghost use Rattle.promql_parts.specs.Laws.{BracedIsRead, BracesAreMatchers, BracketsAreRead, BracketsAreSpans, GroupedIsRead, GroupingsAreGrouped, MatchingsAreModifiers, ModifierIsRead, OffsetIsRead, OffsetsAreSigned, RefusedAsTokens, TimeIsRead, TimesStandBehind};
 ghost use Rattle.promql_parts.specs.Limits.{OffsetsAreWithin, RangesAreWithin, RulesHaveTheirs, StepsAreWithin, TimesAreWithin};
+ghost use Rattle.promql_parts.specs.Stops.{BracesStop, BracketsStop, GroupingsStop, MatchingsStop, OffsetsStop, TimesStop};
 ghost use Rattle.promql_parts.specs.Stands.{BracesStand, BracketsStand, GroupingBehindStands, GroupingStands, MatchingStands, OffsetStands, TimeStands};
 
 use promql_lex::kinds_are_of_spellings;
@@ -41,6 +42,17 @@ pub fn refusals_of_parts_stand()
     ensures offset { OffsetStands }
     ensures time { TimeStands }
     ensures matching { MatchingStands }
+{}
+
+/// Where a part stops since something else was expected, the lexemes before begin such a part: some lexemes go on with them. But
+/// for braces with two names, which are refused where they close, and a name without a letter, which no text has.
+pub fn parts_stop_where_they_can_go_on()
+    ensures groupings { GroupingsStop }
+    ensures braces { BracesStop }
+    ensures brackets { BracketsStop }
+    ensures offsets { OffsetsStop }
+    ensures times { TimesStop }
+    ensures matchings { MatchingsStop }
 {}
 
 /// Each part lies within the limits: lengths are positive and at most 100 years, offsets are at most 100 years of either sign,

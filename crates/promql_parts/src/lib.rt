@@ -17,7 +17,7 @@ mod taken;
 pub use labels::{grouping_at, grouping_begun, grouping_behind};
 pub use laws::{
     each_part_is_read, lexemes_are_refused_as_their_tokens, parts_lie_within_limits,
-    refusals_of_parts_stand, what_is_read_is_a_part,
+    parts_stop_where_they_can_go_on, refusals_of_parts_stand, what_is_read_is_a_part,
 };
 pub use lexeme::{Lexeme, LexemeKind, Sign};
 pub use operator::{BinaryOp, Matching, matching_at, op_at};
