@@ -104,6 +104,23 @@ fn node_of(op: BinaryOp, matching: Matching, left: Boxed<Expr>, right: Boxed<Exp
     }
 }
 
+/// An operator between two sides with so many nodes on their longest path, which begins where the left one does.
+fn between(
+    alloc: Global,
+    depth: u32,
+    op: BinaryOp,
+    matching: Matching,
+    left: Expr,
+    right: Expr,
+) -> Result<Built, AllocError>
+    ensures { IfOk result (λ built. built ≡ over depth left.at (node_of op matching left right)) }
+{
+    let at = left.at;
+    let left = Boxed::new(alloc, left)?;
+    let right = Boxed::new(alloc, right)?;
+    Ok(over(depth, at, node_of(op, matching, left, right)))
+}
+
 /// An operator between two trees, which begins where the left one does. The only error is want of memory.
 pub fn binary(
     alloc: Global,
@@ -114,16 +131,10 @@ pub fn binary(
 ) -> Result<Built, AllocError>
     ensures { IfOk result (λ built. built ≡ binary op matching left right) }
 {
-    let Built::Whole(l, a) = left else {
-        return Ok(Built::Deep);
-    };
-    let Built::Whole(r, b) = right else {
-        return Ok(Built::Deep);
-    };
-    let at = l.at;
-    let l = Boxed::new(alloc, l)?;
-    let r = Boxed::new(alloc, r)?;
-    Ok(over(a.max(b), at, node_of(op, matching, l, r)))
+    match (left, right) {
+        (Built::Whole(l, a), Built::Whole(r, b)) => between(alloc, a.max(b), op, matching, l, r),
+        _ => Ok(Built::Deep),
+    }
 }
 
 /// No arguments. It takes no memory.
