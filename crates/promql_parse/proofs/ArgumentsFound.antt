@@ -25,16 +25,16 @@ pub record Parsed (b level : ℕ) (ls : List Lexeme) (made : Built) (rest : List
   pub made_so : made ≡ cut e depth
 
 -- what stands before an argument: nothing, or arguments and a comma
-data Before (b : ℕ) : List Lexeme → List Expr → ℕ → Type 0 where
+pub data Before (b : ℕ) : List Lexeme → List Expr → ℕ → Type 0 where
   start : Before b [] [] 0
   behind : {m : ℕ} {us xs : List Lexeme} {es : List Expr} (c : Lexeme) → ArgumentList b xs es m → IsSign Comma c → us ≡ xs ++ c ∷ [] → Before b us es m
 
-added : {b m : ℕ} {us : List Lexeme} {es : List Expr} → Before b us es m → (ys : List Lexeme) (e : Expr) (n : ℕ) → Phrase b 5 ys e n → ArgumentList b (us ++ ys) (es ++ e ∷ []) (max m n)
+pub added : {b m : ℕ} {us : List Lexeme} {es : List Expr} → Before b us es m → (ys : List Lexeme) (e : Expr) (n : ℕ) → Phrase b 5 ys e n → ArgumentList b (us ++ ys) (es ++ e ∷ []) (max m n)
 added {b} Before.start ys e n phrase = let same : n ≡ max 0 n = omega arith in subst (ArgumentList b ys (e ∷ [])) same (ArgumentList.one phrase)
 added (Before.behind {us = us} {xs = xs} c list comma split) ys e n phrase = ArgumentList.more c list comma phrase (ap (λ z. z ++ ys) split ∙ append_assoc xs (c ∷ []) ys)
 
 module _ (end b : ℕ) (reader : List Lexeme → Read Built) (sound : (ls : List Lexeme) (made : Built) (rest : List Lexeme) → reader ls ≡ Ok (made, rest) → Parsed b 5 ls made rest) where
-  record Listed (us ls : List Lexeme) (made : Arguments) (rest : List Lexeme) : Type 0 where
+  pub record Listed (us ls : List Lexeme) (made : Arguments) (rest : List Lexeme) : Type 0 where
     pub mid : List Lexeme
     pub es : List Expr
     pub depth : ℕ
@@ -59,7 +59,7 @@ module _ (end b : ℕ) (reader : List Lexeme → Read Built) (sound : (ls : List
   shorter : (n : ℕ) (ls front mid : List Lexeme) (u : Lexeme) → ls ≡ front ++ u ∷ mid → length ls < suc n → length mid < n
   shorter n ls front mid u split room = let sizes : length ls ≡ length front + length (u ∷ mid) = ap length split ∙ length-append front (u ∷ mid) in omega (arith, sizes, room)
 
-  abbrev TurnsFound : ℕ → Type 0
+  abbrev pub TurnsFound : ℕ → Type 0
   TurnsFound n = (us : List Lexeme) (es : List Expr) (m : ℕ) (ls : List Lexeme) (made : Arguments) (rest : List Lexeme) → Before b us es m → length ls < n
       → turns (arguments_turn end reader) n (cut_arguments es m) ls ≡ Ok (made, rest) → Listed us ls made rest
 
@@ -79,7 +79,7 @@ module _ (end b : ℕ) (reader : List Lexeme → Read Built) (sound : (ls : List
       at_close us ls front mid rest es d made split (q.1 ∙ ap (λ x. x.1) ends) list (sym (ap (λ x. x.0) ends) ∙ so))
       (item_found end RightParen mid another tail read)
 
-  turns_found : (n : ℕ) → TurnsFound n
+  pub turns_found : (n : ℕ) → TurnsFound n
   unfolding turns arguments_turn
   turns_found zero us es m ls made rest before room read = absurd (omega (arith, room))
   turns_found (suc n) us es m ls made rest before room read =

@@ -14,7 +14,7 @@ use Rattle.promql_ast.specs.declared.tree.Fixed.{Fixed}
 use Rattle.promql_ast.specs.declared.tree.Node.TheVariants.{Number, Words, Paren, Negate, Call, Aggregate as Aggregated}
 use Rattle.promql_parse.specs.Build.{aggregate, binary, bracketed, call, is_plain, leaf, may_fix, may_offset, moment_of, negate, node_of, operand_built, other, paren, plain, selected, tree}
 use Rattle.promql_parse.specs.Grammar.{Body, Operand, Phrase, Primary, Term, another, a_range, a_selector, a_subquery, term_tree}
-use Rattle.promql_parse.specs.Reading.{Levels, Opens, aggregate_at, begins_grouping, body_at, bracket_turn, braced_at, call_at, chain_from, chain_turn, duration_at, exponent_at, function_at, function_found, grouped, grouped_before, grouped_behind, is_refused_aggregation, level_at, metric_at, minus_at, named_at, offset_turn, operand_at, paren_at, plus_at, postfix_kind, postfix_turn, power_at, power_behind, power_kind, primary_at, primary_kind, refused_at_name, seconds_of, side_at, time_turn, unary_at, unary_kind, within, word_at}
+use Rattle.promql_parse.specs.Reading.{Levels, Opens, aggregate_at, begins_grouping, body_at, braced_at, bracket_turn, call_at, chain_from, chain_turn, duration_at, exponent_at, function_at, function_found, grouped, grouped_before, grouped_behind, is_refused_aggregation, level_at, metric_at, minus_at, named_at, offset_turn, operand_at, paren_at, plus_at, postfix_kind, postfix_turn, power_at, power_behind, power_kind, primary_at, primary_kind, refused_at_name, seconds_of, side_at, time_turn, unary_at, unary_kind, within, word_at}
 use Rattle.promql_parse.specs.declared.build.Built.{Built}
 use Rattle.promql_parse.specs.declared.build.Operand.{Operand as Made}
 use Rattle.promql_parse.specs.declared.build.Part.TheVariants as parts
@@ -71,19 +71,19 @@ pub record PrimaryFound (b at : ℕ) (ls : List Lexeme) (made : Built) (rest : L
   pub placed : e.at ≡ at
   pub made_so : made ≡ cut e depth
 
-front_apart : (bare : Bool) (zs rest : List Lexeme) → begins_labels bare (zs ++ rest) ≡ false → begins_labels bare zs ≡ false
+pub front_apart : (bare : Bool) (zs rest : List Lexeme) → begins_labels bare (zs ++ rest) ≡ false → begins_labels bare zs ≡ false
 front_apart true [] rest is = refl
 front_apart false [] rest is = refl
 front_apart bare (u ∷ us) rest is = is
 
 module _ (known : Parts) (end : ℕ) where
   -- what is read inside of what a lexeme opens
-  abbrev Inside : ℕ → Type 0
+  abbrev pub Inside : ℕ → Type 0
   Inside b = (at : ℕ) (read : Levels) → within end b at ≡ Ok read
       → (c : ℕ) × (b ≡ suc c) × ((level : ℕ) (ls : List Lexeme) (made : Built) (rest : List Lexeme) → read level ls ≡ Ok (made, rest) → Parsed c level ls made rest)
 
   module _ (b : ℕ) (inside : Inside b) where
-    abbrev opens : Opens
+    abbrev pub opens : Opens
     opens = within end b
 
     -- ---- operands
@@ -359,7 +359,7 @@ module _ (known : Parts) (end : ℕ) where
         from_primary (l ∷ ls) l.at (leaf l.at (Number v.0)) ls made rest
         (record { front = l ∷ []; e = tree l.at (Number v.0); depth = 1; split = refl; primary = Primary.duration l duration v.0 is v.1; placed = refl; made_so = refl }) v.2
 
-    primary_found : (l : Lexeme) (k : LexemeKind) → l.kind ≡ k → (ls : List Lexeme) (made : Made) (rest : List Lexeme) → primary_kind end opens l k ls ≡ Ok (made, rest) → OperandFound b (l ∷ ls) made rest
+    pub primary_found : (l : Lexeme) (k : LexemeKind) → l.kind ≡ k → (ls : List Lexeme) (made : Made) (rest : List Lexeme) → primary_kind end opens l k ls ≡ Ok (made, rest) → OperandFound b (l ∷ ls) made rest
     primary_found l (kinds.Number value) is ls made rest got =
         from_primary (l ∷ ls) l.at (leaf l.at (Number value)) ls made rest
         (record { front = l ∷ []; e = tree l.at (Number value); depth = 1; split = refl; primary = Primary.number l value is; placed = refl; made_so = refl }) got
@@ -377,7 +377,7 @@ module _ (known : Parts) (end : ℕ) where
     abbrev next_operands : ℕ → Result (Bool × Made × List Lexeme) QueryRefusal → Read Made
     next_operands n r = r >>= λ next. cond next.0 (turns (postfix_turn end) n next.1 next.2) (Ok (next.1, next.2))
 
-    abbrev PostfixesFound : ℕ → Type 0
+    abbrev pub PostfixesFound : ℕ → Type 0
     PostfixesFound n = (front : List Lexeme) (term : Term) (offset : Option Ms) (fixed : Option Fixed) (at d : ℕ) (ls : List Lexeme) (made : Made) (rest : List Lexeme)
         → Operand b term offset fixed front at d → turns (postfix_turn end) n (operand_of at term offset fixed d) ls ≡ Ok (made, rest) → OperandFound b (front ++ ls) made rest
 
@@ -458,14 +458,14 @@ module _ (known : Parts) (end : ℕ) where
             (λ p. operand_here front term offset fixed at d (l ∷ ls) made rest operand (ap (next_operands n) p.1 ∙ got)) (chosen (may_fix now) _ _ _ refl)
         kind_next _ is got = operand_here front term offset fixed at d (l ∷ ls) made rest operand got
 
-    postfixes_found : (n : ℕ) → PostfixesFound n
+    pub postfixes_found : (n : ℕ) → PostfixesFound n
     unfolding turns
     postfixes_found zero front term offset fixed at d ls made rest operand got = operand_here front term offset fixed at d ls made rest operand got
     postfixes_found (suc n) front term offset fixed at d [] made rest operand got = operand_here front term offset fixed at d [] made rest operand got
     postfixes_found (suc n) front term offset fixed at d (l ∷ ls) made rest operand got =
         kind_next n (postfixes_found n) front term offset fixed at d operand l ls made rest l.kind refl got
 
-    operand_is : (l : Lexeme) (ls : List Lexeme) (made : Made) (rest : List Lexeme) → operand_at end opens l ls ≡ Ok (made, rest) → OperandFound b (l ∷ ls) made rest
+    pub operand_is : (l : Lexeme) (ls : List Lexeme) (made : Made) (rest : List Lexeme) → operand_at end opens l ls ≡ Ok (made, rest) → OperandFound b (l ∷ ls) made rest
     unfolding operand_at
     operand_is l ls made rest got =
         let r = bind_ok (primary_at end opens l ls) _ _ got in
@@ -474,7 +474,7 @@ module _ (known : Parts) (end : ℕ) where
         (postfixes_found (suc (length r.0.1)) p.front p.term p.offset p.fixed p.at p.depth r.0.1 made rest p.operand (ap (λ o. all_turns (postfix_turn end) o r.0.1) (sym p.made_so) ∙ r.2))
 
     -- ---- signs and powers
-    moved : (level : ℕ) (ls us : List Lexeme) (made : Built) (rest : List Lexeme) → ls ≡ us → Parsed b level us made rest → Parsed b level ls made rest
+    pub moved : (level : ℕ) (ls us : List Lexeme) (made : Built) (rest : List Lexeme) → ls ≡ us → Parsed b level us made rest → Parsed b level ls made rest
     moved level ls us made rest same p = record { front = p.front; e = p.e; depth = p.depth; split = same ∙ p.split; phrase = p.phrase; made_so = p.made_so }
 
     -- a phrase that is read, where it ends
@@ -586,18 +586,18 @@ module _ (known : Parts) (end : ℕ) where
     unary_found (l ∷ ls) made rest got = unary_kind_found l l.kind refl ls made rest got
 
     -- ---- levels
-    abbrev LevelFound : ℕ → Type 0
+    abbrev pub LevelFound : ℕ → Type 0
     LevelFound level = (ls : List Lexeme) (made : Built) (rest : List Lexeme) → level_at end opens level ls ≡ Ok (made, rest) → Parsed b level ls made rest
 
     module _ (level : ℕ) (tighter : LevelFound level) where
-      abbrev turn : Built → List Lexeme → Result (Bool × Built × List Lexeme) QueryRefusal
+      abbrev pub turn : Built → List Lexeme → Result (Bool × Built × List Lexeme) QueryRefusal
       turn = chain_turn end (suc level) (level_at end opens level)
 
-      op_begins : (ls : List Lexeme) (op : BinaryOp) → op_at (suc level) ls ≡ Some op → (l : Lexeme) × (ls ≡ l ∷ drop 1 ls) × (op_of (suc level) l.kind ≡ Some op)
+      pub op_begins : (ls : List Lexeme) (op : BinaryOp) → op_at (suc level) ls ≡ Some op → (l : Lexeme) × (ls ≡ l ∷ drop 1 ls) × (op_of (suc level) l.kind ≡ Some op)
       op_begins [] op is = no_some _ is
       op_begins (l ∷ ls) op is = (l, refl, is)
 
-      abbrev TurnsFound : ℕ → Type 0
+      abbrev pub TurnsFound : ℕ → Type 0
       TurnsFound n = (front : List Lexeme) (e : Expr) (m : ℕ) (ls : List Lexeme) (made : Built) (rest : List Lexeme) → Phrase b (suc level) front e m
           → turns turn n (cut e m) ls ≡ Ok (made, rest) → Parsed b (suc level) (front ++ ls) made rest
 
@@ -627,7 +627,7 @@ module _ (known : Parts) (end : ℕ) where
           (more all whole (max m p.depth + 1) r.0.1 made rest longer_phrase
           (ap (λ x. turns turn n x r.0.1) (sym same) ∙ ap (λ x. cond x.0 (turns turn n x.1 x.2) (Ok (x.1, x.2))) state ∙ turned.2))
 
-      turns_found : (n : ℕ) → TurnsFound n
+      pub turns_found : (n : ℕ) → TurnsFound n
       unfolding turns
       turns_found zero front e m ls made rest phrase got = here (suc level) front e m ls made rest phrase got
       turns_found (suc n) front e m ls made rest phrase got = chain_found n (turns_found n) front e m ls made rest phrase (op_at (suc level) ls) refl got
@@ -640,7 +640,7 @@ module _ (known : Parts) (end : ℕ) where
           moved (suc level) ls (p.front ++ o.0.1) made rest p.split
           (turns_found (suc (length o.0.1)) p.front p.e p.depth o.0.1 made rest (Phrase.tighter p.phrase) (ap (λ x. all_turns turn x o.0.1) (sym p.made_so) ∙ o.2))
 
-    levels_found : (level : ℕ) → LevelFound level
+    pub levels_found : (level : ℕ) → LevelFound level
     unfolding level_at
     levels_found zero ls made rest got = unary_found ls made rest got
     levels_found (suc level) ls made rest got = chained level (levels_found level) ls made rest got
@@ -660,3 +660,7 @@ module _ (known : Parts) (end : ℕ) where
   pub found : (b : ℕ) → AllFound b
   found zero level ls made rest got = levels_found zero nothing_inside level ls made rest got
   found (suc b) level ls made rest got = levels_found (suc b) (inside_next b (found b)) level ls made rest got
+
+  pub found_inside : (b : ℕ) → Inside b
+  found_inside zero = nothing_inside
+  found_inside (suc b) = inside_next b (found b)

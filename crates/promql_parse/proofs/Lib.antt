@@ -9,5 +9,6 @@ pub mod PhrasesRead
 pub mod QueriesWithin
 pub mod Quiet
 pub mod Stand
+pub mod Stop
 pub mod Whole
 pub mod Wholes

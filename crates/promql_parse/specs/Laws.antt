@@ -1,7 +1,7 @@
 -- How the reader and the grammar are tied: what is read is in the grammar, what is in the grammar is read, unless its tree is
 -- too deep, there is one tree at most, and a refusal stands whatever follows the lexemes that are refused. And what is known of
 -- each tree of the grammar: its parts lie within limits, which are this project's own, and how deep it is.
-use Rattle.std.specs.Prelude.{◌≡◌, ◌≤◌, ◌<◌, ℕ, Bool, true, false, List, ◌∷◌, ◌++◌, Ok, Err}
+use Rattle.std.specs.Prelude.{◌≡◌, ◌⊎◌, ◌≤◌, ◌<◌, ℕ, Some, Bool, true, false, List, ◌∷◌, ◌++◌, Ok, Err}
 use Rattle.frac_text.specs.Times.{time_limit}
 use Rattle.match_rule.specs.Patterns.{HaveTheirPatterns}
 use Rattle.promql_ast.specs.Depth.{depth}
@@ -14,7 +14,9 @@ use Rattle.promql_parse.specs.Grammar.{IsQuery}
 use Rattle.promql_parse.specs.Reading.{reading}
 use Rattle.promql_lex.specs.declared.word.Word.TheVariants.{And, Or, Unless, By, Without, Offset, Atan2}
 use Rattle.promql_parts.specs.Patterned.{HavePatterns, Kept}
+use Rattle.promql_parts.specs.Productions.{IsSign, metric_name}
 use Rattle.promql_parts.specs.Reads.{refused}
+use Rattle.promql_parts.specs.Stops.{IsHopeless, StopsAt}
 use Rattle.promql_parts.specs.declared.lexeme.Lexeme.{Lexeme}
 use Rattle.promql_parts.specs.declared.lexeme.LexemeKind.{LexemeKind}
 use Rattle.promql_parts.specs.declared.lexeme.LexemeKind.TheVariants as kinds
@@ -97,3 +99,19 @@ DepthsAreTold = (ls : List Lexeme) (e : Expr) (nodes : ℕ) → IsQuery ls e nod
 -- the tree of a query is open on the left everywhere: setting that edge leaves it as it is
 abbrev pub QueriesAreOpen : Type 0
 QueriesAreOpen = (ls : List Lexeme) (e : Expr) (nodes : ℕ) → IsQuery ls e nodes → edged false e ≡ e
+
+-- lexemes with which a query begins: some lexemes, or none, go on with them
+abbrev pub BeginsAQuery : List Lexeme → Type 0
+BeginsAQuery ls = (more : List Lexeme) × (e : Expr) × (depth : ℕ) × IsQuery (ls ++ more) e depth
+
+-- lexemes that end within the braces of a selector that has two names already, which is refused where they close; or in a name without a
+-- letter, which no text has
+pub data EndsHopeless : List Lexeme → Type 0 where
+  named : {us ys : List Lexeme} (xs : List Lexeme) (l begin : Lexeme) (name : List ℕ) → metric_name l.kind ≡ Some name → IsSign LeftBrace begin → IsHopeless true ys
+      → us ≡ xs ++ l ∷ (begin ∷ ys) → EndsHopeless us
+  unnamed : {us ys : List Lexeme} (xs : List Lexeme) (begin : Lexeme) → IsSign LeftBrace begin → IsHopeless false ys → us ≡ xs ++ begin ∷ ys → EndsHopeless us
+
+-- The lexeme, or the end, that is refused as unexpected is the first that fits no query: a query begins with the lexemes before it,
+-- unless they end in such braces.
+abbrev pub UnexpectedIsFirst : Type 0
+UnexpectedIsFirst = (end place : ℕ) (ls : List Lexeme) → reading end ls ≡ Err (Expected place) → StopsAt end place (λ front. BeginsAQuery front ⊎ EndsHopeless front) ls

@@ -1,9 +1,10 @@
 //! Laws of the reader and the grammar.
-ghost use Rattle.promql_parse.specs.Laws.{DeepIsRefused, DepthsAreTold, InGrammarIsRead, NoQueryBeginsSo, OneTree, QueriesAreOpen, QueriesAreWithin, ReadIsInGrammar, RefusalStands, RefusedBehind};
+ghost use Rattle.promql_parse.specs.Laws.{DeepIsRefused, DepthsAreTold, InGrammarIsRead, NoQueryBeginsSo, OneTree, QueriesAreOpen, QueriesAreWithin, ReadIsInGrammar, RefusalStands, RefusedBehind, UnexpectedIsFirst};
 
 use promql_ast::edged_trees_stay;
 use promql_parts::{
-    each_part_is_read, parts_lie_within_limits, refusals_of_parts_stand, what_is_read_is_a_part,
+    each_part_is_read, parts_lie_within_limits, parts_stop_where_they_can_go_on,
+    refusals_of_parts_stand, what_is_read_is_a_part,
 };
 
 /// A tree that is read is a query's by the grammar, with at most 128 nodes on its longest path.
@@ -42,6 +43,15 @@ pub fn what_no_query_goes_on_with_is_refused()
 {
     what_is_read_is_a_part();
     each_part_is_read();
+}
+
+/// The lexeme that is refused as unexpected is the first that fits no query: a query begins with the lexemes before it, unless they
+/// end in braces that have two names already, which are refused where they close; or in a name without a letter, which no text has.
+pub fn unexpected_is_first()
+    ensures { UnexpectedIsFirst }
+{
+    what_is_read_is_a_part();
+    parts_stop_where_they_can_go_on();
 }
 
 /// The parts of each query of the grammar lie within the limits, and the nodes on its longest path are as many as the grammar
