@@ -10,7 +10,7 @@ use Rattle.promql_lex.specs.declared.word.Word.TheVariants.{On, Ignoring, GroupL
 use Rattle.promql_parse.specs.Build.{binary, negate, operand_built, paren}
 use Rattle.promql_parse.specs.Grammar.{Operand, Phrase, Term}
 use Rattle.promql_parse.specs.Laws.{RefusedBehind, goes_on, refusal_behind}
-use Rattle.promql_parse.specs.Reading.{Opens, chain_from, chain_turn, exponent_at, finished, level_at, minus_at, plus_at, postfix_kind, postfix_turn, power_behind, power_kind, reading, side_at, unary_at, unary_kind, within}
+use Rattle.promql_parse.specs.Reading.{Opens, chain_from, chain_turn, exponent_at, finished, level_at, minus_at, plus_at, postfix_kind, postfix_turn, power_behind, power_kind, raised_at, reading, side_at, unary_at, unary_kind, within}
 use Rattle.promql_parse.specs.declared.build.Built.{Built}
 use Rattle.promql_parse.specs.declared.build.Built.TheVariants as built
 use Rattle.promql_parse.specs.declared.build.Operand.{Operand as Made}
@@ -115,7 +115,7 @@ module _ (sound : Parts) (known : Known) (end : ℕ) (l : Lexeme) (more : List L
 
   exponent_stops : (b at : ℕ) (base : Built) (ys zs : List Lexeme) (matching : Matching) (bare : Bool) → BinModifier (Arith Pow) ys matching bare → Begins zs → begins_labels bare zs ≡ false
       → Stops b 0 zs → exponent_at end (within end (suc b)) at base (ys ++ (zs ++ rest)) ≡ Err refusal
-  unfolding exponent_at within
+  unfolding exponent_at raised_at within
   exponent_stops b at base ys zs matching bare is begins_so apart right =
       ap (λ (q : Read Matching). q >>= λ matching. level_at end (within end b) 0 matching.1 >>= λ right. Ok (binary (Arith Pow) matching.0 base right.0, right.1))
       (modifier_read sound known end (Arith Pow) ys zs matching bare is begins_so apart rest)

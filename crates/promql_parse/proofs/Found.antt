@@ -14,7 +14,7 @@ use Rattle.promql_ast.specs.declared.tree.Fixed.{Fixed}
 use Rattle.promql_ast.specs.declared.tree.Node.TheVariants.{Number, Words, Paren, Negate, Call, Aggregate as Aggregated}
 use Rattle.promql_parse.specs.Build.{aggregate, binary, bracketed, call, is_plain, leaf, may_fix, may_offset, moment_of, negate, node_of, operand_built, other, paren, plain, selected, tree}
 use Rattle.promql_parse.specs.Grammar.{Body, Operand, Phrase, Primary, Term, another, a_range, a_selector, a_subquery, term_tree}
-use Rattle.promql_parse.specs.Reading.{Levels, Opens, aggregate_at, begins_grouping, body_at, braced_at, bracket_turn, call_at, chain_from, chain_turn, duration_at, exponent_at, function_at, function_found, grouped, grouped_before, grouped_behind, is_refused_aggregation, level_at, metric_at, minus_at, named_at, offset_turn, operand_at, paren_at, plus_at, postfix_kind, postfix_turn, power_at, power_behind, power_kind, primary_at, primary_kind, refused_at_name, seconds_of, side_at, time_turn, unary_at, unary_kind, within, word_at}
+use Rattle.promql_parse.specs.Reading.{Levels, Opens, aggregate_at, begins_grouping, body_at, braced_at, bracket_turn, call_at, chain_from, chain_turn, duration_at, exponent_at, function_at, function_found, grouped, grouped_before, grouped_behind, is_refused_aggregation, level_at, metric_at, minus_at, named_at, offset_turn, operand_at, paren_at, plus_at, postfix_kind, postfix_turn, power_at, power_behind, power_kind, primary_at, primary_kind, raised_at, refused_at_name, seconds_of, side_at, time_turn, unary_at, unary_kind, within, word_at}
 use Rattle.promql_parse.specs.declared.build.Built.{Built}
 use Rattle.promql_parse.specs.declared.build.Operand.{Operand as Made}
 use Rattle.promql_parse.specs.declared.build.Part.TheVariants as parts
@@ -495,7 +495,7 @@ module _ (known : Parts) (end : ℕ) where
 
       exponent_found : (l : Lexeme) → IsSign Caret l → (ls : List Lexeme) (made : Built) (rest : List Lexeme) → exponent_at end opens l.at (cut base d) ls ≡ Ok (made, rest)
           → Parsed b 0 (front ++ l ∷ ls) made rest
-      unfolding exponent_at
+      unfolding exponent_at raised_at
       exponent_found l sign ls made rest got =
           let o = bind_ok (opens l.at) _ _ got in
           let m = bind_ok (matching_at (Arith Pow) end ls) _ _ o.2 in

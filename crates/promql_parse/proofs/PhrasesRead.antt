@@ -14,7 +14,7 @@ use Rattle.promql_ast.specs.declared.tree.Fixed.{Fixed}
 use Rattle.promql_ast.specs.declared.tree.Node.TheVariants.{Number, Words, Paren, Negate, Call, Aggregate as Aggregated}
 use Rattle.promql_parse.specs.Build.{add, aggregate, binary, bracketed, call, is_plain, leaf, may_fix, may_offset, moment_of, negate, no_arguments, node_of, operand_built, other, paren, plain, selected, tree, with_offset, with_time}
 use Rattle.promql_parse.specs.Grammar.{ArgumentList, Body, Operand, Phrase, Primary, Term, another, a_range, a_selector, a_subquery, takes_modifiers, term_tree}
-use Rattle.promql_parse.specs.Reading.{Opens, aggregate_at, arguments_at, arguments_turn, begins_grouping, body_at, bracket_turn, braced_at, call_arguments, call_at, chain_from, chain_turn, duration_at, exponent_at, function_found, grouped, grouped_before, grouped_behind, is_refused_aggregation, level_at, metric_at, minus_at, named_at, offset_turn, operand_at, paren_at, plus_at, postfix_kind, postfix_turn, power_at, power_behind, power_kind, primary_kind, refused_at_name, seconds_of, side_at, time_turn, unary_at, unary_kind, within}
+use Rattle.promql_parse.specs.Reading.{Opens, aggregate_at, arguments_at, arguments_turn, begins_grouping, body_at, braced_at, bracket_turn, call_arguments, call_at, chain_from, chain_turn, duration_at, exponent_at, function_found, grouped, grouped_before, grouped_behind, is_refused_aggregation, level_at, metric_at, minus_at, named_at, offset_turn, operand_at, paren_at, plus_at, postfix_kind, postfix_turn, power_at, power_behind, power_kind, primary_kind, raised_at, refused_at_name, seconds_of, side_at, time_turn, unary_at, unary_kind, within}
 use Rattle.promql_parse.specs.declared.build.Arguments.{Arguments}
 use Rattle.promql_parse.specs.declared.build.Built.{Built}
 use Rattle.promql_parse.specs.declared.build.Operand.{Operand as Made}
@@ -530,7 +530,7 @@ module _ (sound : Parts) (known : Known) (end : ℕ) where
   exponent_read : (b at : ℕ) (base : Built) (ys zs : List Lexeme) (matching : Matching) (bare : Bool) (r : Expr) (n : ℕ) → BinModifier (Arith Pow) ys matching bare → Begins zs → begins_labels bare zs ≡ false
       → (rest : List Lexeme) → level_at end (within end b) 0 (zs ++ rest) ≡ Ok (cut r n, rest)
       → exponent_at end (within end (suc b)) at base (ys ++ (zs ++ rest)) ≡ Ok (binary (Arith Pow) matching base (cut r n), rest)
-  unfolding exponent_at within
+  unfolding exponent_at raised_at within
   exponent_read b at base ys zs matching bare r n is begins_so apart rest right =
       ap (λ (q : Read Matching). q >>= λ matching. level_at end (within end b) 0 matching.1 >>= λ right. Ok (binary (Arith Pow) matching.0 base right.0, right.1))
       (modifier_read (Arith Pow) ys zs matching bare is begins_so apart rest)

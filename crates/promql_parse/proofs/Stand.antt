@@ -9,7 +9,7 @@ use Rattle.promql_ast.specs.declared.tree.Expr.{Expr}
 use Rattle.promql_ast.specs.declared.tree.Node.TheVariants.{Number}
 use Rattle.promql_parse.specs.Build.{add, aggregate, binary, bracketed, call, is_plain, leaf, may_fix, may_offset, negate, no_arguments, operand_built, other, paren, selected, with_offset, with_time}
 use Rattle.promql_parse.specs.Laws.{IsFinal, NoQueryBeginsSo, RefusalStands}
-use Rattle.promql_parse.specs.Reading.{Levels, Opens, aggregate_at, aggregation_at, arguments_at, arguments_turn, body_at, bracket_turn, braced_at, call_arguments, call_at, chain_from, chain_turn, duration_at, exponent_at, finished, function_at, grouped, grouped_before, grouped_behind, is_refused_aggregation, level_at, metric_at, minus_at, named_at, offset_turn, operand_at, paren_at, plus_at, postfix_kind, postfix_turn, power_at, power_behind, power_kind, primary_kind, reading, refused_at_name, seconds_of, side_at, time_turn, unary_at, unary_kind, within, word_at}
+use Rattle.promql_parse.specs.Reading.{Levels, Opens, aggregate_at, aggregation_at, arguments_at, arguments_turn, body_at, braced_at, bracket_turn, call_arguments, call_at, chain_from, chain_turn, duration_at, exponent_at, finished, function_at, grouped, grouped_before, grouped_behind, is_refused_aggregation, level_at, metric_at, minus_at, named_at, offset_turn, operand_at, paren_at, plus_at, postfix_kind, postfix_turn, power_at, power_behind, power_kind, primary_kind, raised_at, reading, refused_at_name, seconds_of, side_at, time_turn, unary_at, unary_kind, within, word_at}
 use Rattle.promql_parse.specs.declared.build.Arguments.{Arguments}
 use Rattle.promql_parse.specs.declared.build.Built.{Built}
 use Rattle.promql_parse.specs.declared.build.Built.TheVariants as built
@@ -253,7 +253,7 @@ module _ (sound : Parts) (known : Known) (standing : Standing) (end last : ℕ) 
         (λ x u us. postfixes_stand x (u ∷ us)) (primary_stands l l.kind ls)
 
     exponent_stands : (at : ℕ) (base : Built) (ls : List Lexeme) → Same (exponent_at end opens at base ls) (exponent_at last wider at base (ls ++ more))
-    unfolding exponent_at
+    unfolding exponent_at raised_at
     exponent_stands at base ls =
         opens_by pair end last more b at (λ inside. matching_at (Arith Pow) end ls >>= λ matching. inside 0 matching.1 >>= λ right. Ok (binary (Arith Pow) matching.0 base right.0, right.1))
         (λ inside. matching_at (Arith Pow) last (ls ++ more) >>= λ matching. inside 0 matching.1 >>= λ right. Ok (binary (Arith Pow) matching.0 base right.0, right.1))

@@ -14,7 +14,7 @@ use Rattle.promql_ast.specs.declared.tree.Fixed.{Fixed}
 use Rattle.promql_parse.specs.Build.{add, binary, call, is_plain, may_fix, may_offset, no_arguments, operand_built, other}
 use Rattle.promql_parse.specs.Grammar.{ArgumentList, Body, Operand, Phrase, Primary, Term, a_selector}
 use Rattle.promql_parse.specs.Laws.{BeginsAQuery, EndsHopeless, UnexpectedIsFirst}
-use Rattle.promql_parse.specs.Reading.{Levels, Opens, aggregate_at, arguments_at, arguments_turn, begins_grouping, body_at, braced_at, bracket_turn, call_arguments, call_at, chain_from, chain_turn, duration_at, exponent_at, finished, function_at, function_found, grouped, grouped_before, grouped_behind, is_refused_aggregation, level_at, metric_at, minus_at, named_at, offset_turn, operand_at, paren_at, plus_at, postfix_kind, postfix_turn, power_at, power_behind, power_kind, primary_at, primary_kind, reading, refused_at_name, seconds_of, side_at, time_turn, unary_at, unary_kind, within, word_at}
+use Rattle.promql_parse.specs.Reading.{Levels, Opens, aggregate_at, arguments_at, arguments_turn, begins_grouping, body_at, braced_at, bracket_turn, call_arguments, call_at, chain_from, chain_turn, duration_at, exponent_at, finished, function_at, function_found, grouped, grouped_before, grouped_behind, is_refused_aggregation, level_at, metric_at, minus_at, named_at, offset_turn, operand_at, paren_at, plus_at, postfix_kind, postfix_turn, power_at, power_behind, power_kind, primary_at, primary_kind, raised_at, reading, refused_at_name, seconds_of, side_at, time_turn, unary_at, unary_kind, within, word_at}
 use Rattle.promql_parse.specs.declared.build.Arguments.{Arguments}
 use Rattle.promql_parse.specs.declared.build.Built.{Built}
 use Rattle.promql_parse.specs.declared.build.Built.TheVariants as built
@@ -630,7 +630,7 @@ module _ (end place : ℕ) where
             (_, _, Phrase.power {xs = front} {ys = ys} {zs = zs} l (subst (λ k. Operand k o.term o.offset o.fixed front o.at o.depth) deeper o.is) sign is side.0.2 side.1 refl)
 
         exponent_stops : (l : Lexeme) → IsSign Caret l → (base : Built) (ls : List Lexeme) → all ≡ front ++ l ∷ ls → exponent_at end opens l.at base ls ≡ Err (Expected place) → StopsIn (IsPhrase b 0) all
-        unfolding exponent_at
+        unfolding exponent_at raised_at
         exponent_stops l sign base ls split read =
             opened l.at _ read
             (λ levels inner got.

@@ -141,6 +141,13 @@ module _ (end : ℕ) where
   postfix_turn o [] = Ok (false, o, [])
   postfix_turn o (l ∷ ls) = postfix_kind o l.kind (l ∷ ls)
 
+  -- how the sides of `^` are matched, and its right side
+  unfoldable pub raised_at : (List Lexeme → Read Built) → Built → List Lexeme → Read Built
+  raised_at operand base ls = do
+    matching ← matching_at (Arith Pow) end ls
+    right ← operand matching.1
+    Ok (binary (Arith Pow) matching.0 base right.0, right.1)
+
   module _ (opens : Opens) where
     -- a call, from behind its opening parenthesis
     unfoldable pub call_at : ℕ → List ℕ → List Lexeme → Read Operand
@@ -206,11 +213,7 @@ module _ (end : ℕ) where
     operand_at l ls = primary_at l ls >>= λ first. all_turns postfix_turn first.0 first.1
 
     unfoldable pub exponent_at : ℕ → Built → List Lexeme → Read Built
-    exponent_at at base ls = do
-      inside ← opens at
-      matching ← matching_at (Arith Pow) end ls
-      right ← inside 0 matching.1
-      Ok (binary (Arith Pow) matching.0 base right.0, right.1)
+    exponent_at at base ls = opens at >>= λ inside. raised_at (inside 0) base ls
 
     -- a power, or an operand alone; `atan2` in an operator's place is refused
     abbrev pub power_kind : Lexeme → Built → LexemeKind → List Lexeme → Read Built

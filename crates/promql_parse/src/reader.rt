@@ -1,6 +1,6 @@
 //! The readers of expressions. Each reads at the front of the lexemes and answers what is read and what stands behind it.
 //! Nesting is bounded by `budget`, the levels that are left, and chains are read by loops.
-ghost use Rattle.promql_parse.specs.Reading.{aggregate_at, aggregation_at, arguments_at, arguments_turn, begins_grouping, body_at, braced_at, bracket_turn, call_arguments, call_at, chain_turn, duration_at, exponent_at, grouped, grouped_before, grouped_behind, level_at, metric_at, minus_at, named_at, offset_turn, operand_at, paren_at, plus_at, postfix_kind, postfix_turn, power_at, power_behind, primary_at, refused_at_name, side_at, time_turn, unary_at, within, word_at};
+ghost use Rattle.promql_parse.specs.Reading.{aggregate_at, aggregation_at, arguments_at, arguments_turn, begins_grouping, body_at, braced_at, bracket_turn, call_arguments, call_at, chain_turn, duration_at, exponent_at, grouped, grouped_before, grouped_behind, level_at, metric_at, minus_at, named_at, offset_turn, operand_at, paren_at, plus_at, postfix_kind, postfix_turn, power_at, power_behind, primary_at, raised_at, refused_at_name, side_at, time_turn, unary_at, within, word_at};
 ghost use Rattle.promql_parse.specs.Build.{no_arguments};
 ghost use Rattle.promql_parts.specs.Labels.{grouping_begun};
 ghost use Rattle.promql_parts.specs.Reads.{Gives, all_turns};
@@ -456,7 +456,20 @@ fn operand_at<'a>(
     postfixes(source, first, behind)
 }
 
-/// The right side of `^`, from behind it.
+/// How the sides of `^` are matched, and its right side, from behind it.
+#[cycle(reader)]
+#[tactic(auto, unfolding(crate::specs::Reading::raised_at))]
+fn raised_at<'a>(source: Source, budget: u32, base: Built, lexemes: &'a [Lexeme]) -> Read<'a, Built>
+    ensures is { Gives (λ read. (read.0, read.1.now)) result (raised_at source.end (level_at source.end (within source.end budget) 0) base lexemes.now) }
+    ensures shorter { IfOk result (λ read. length read.1.now ≤ length lexemes.now) }
+{
+    let power = BinaryOp::Arith(ArithOp::Pow);
+    let (matching, behind) = matching_at(source.alloc, power, source.end, lexemes)?;
+    let (right, rest) = level_at(source, budget, 0, behind)?;
+    Ok((binary(source.alloc, power, matching, base, right)?, rest))
+}
+
+/// The right side of `^`, from behind it, one level further inside.
 #[cycle(reader)]
 #[tactic(auto, unfolding(crate::specs::Reading::exponent_at))]
 fn exponent_at<'a>(
@@ -470,10 +483,7 @@ fn exponent_at<'a>(
     ensures shorter { IfOk result (λ read. length read.1.now ≤ length lexemes.now) }
 {
     let inside = opened(budget, at)?;
-    let power = BinaryOp::Arith(ArithOp::Pow);
-    let (matching, behind) = matching_at(source.alloc, power, source.end, lexemes)?;
-    let (right, rest) = level_at(source, inside, 0, behind)?;
-    Ok((binary(source.alloc, power, matching, base, right)?, rest))
+    raised_at(source, inside, base, lexemes)
 }
 
 /// A power, or its base alone. `atan2` in an operator's place is refused.

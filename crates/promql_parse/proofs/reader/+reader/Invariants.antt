@@ -24,6 +24,9 @@ decreases-call_at l = 40 * l.budget + 1
 abbrev pub decreases-aggregate_at : goal.decreases-aggregate_at
 decreases-aggregate_at l = 40 * l.budget + 1
 
+abbrev pub decreases-raised_at : goal.decreases-raised_at
+decreases-raised_at l = 40 * l.budget + 10
+
 abbrev pub decreases-power_behind : goal.decreases-power_behind
 decreases-power_behind l = 40 * l.budget + 2
 
