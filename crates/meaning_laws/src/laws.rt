@@ -1,0 +1,21 @@
+//! Laws of meanings that users rely on. The functions do nothing: each stands for what its contract says.
+ghost use Rattle.meaning_laws.specs.ValueLaws.{MeaningGivesValues, MeaningHasValues, ValueWithinIsNumber};
+
+use window_fn::laws::windows_give_numbers_or_wholes;
+use xfrac::laws::{
+    arithmetic_gives_numbers, rounding_gives_numbers, small_terms_are_formed, sums_are_numbers,
+};
+
+/// Over samples that are numbers each value of a meaning is a number, or a whole number of any size, as a count is; such a value
+/// within the limit of numbers is a number.
+pub fn values_are_numbers()
+    ensures given { MeaningGivesValues }
+    ensures step { MeaningHasValues }
+    ensures within { ValueWithinIsNumber }
+{
+    arithmetic_gives_numbers();
+    sums_are_numbers();
+    rounding_gives_numbers();
+    small_terms_are_formed();
+    windows_give_numbers_or_wholes();
+}
