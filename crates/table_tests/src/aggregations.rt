@@ -1,10 +1,10 @@
-use crate::written::{mark, names, row, value};
+use crate::written::{is_wanted, names, value, vector};
 use func_table::{Aggregate, Element, Found, Func, find};
-use label_set::{Grouping, Items};
+use label_set::Grouping;
 use promql_meaning::*;
 use std::alloc::Global;
 use std::test::Fail;
-use step_table::{Marks, Note, Step, Table};
+use step_table::Step;
 use xfrac::{XFrac, whole};
 
 // Each line is a vector, an aggregation with its parameter and grouping, and the rows and the marks that come, worked by hand. A
@@ -276,73 +276,6 @@ a:1;b:2 clamp=2,1 - -
 a:1;!Q2 abs :1 Q2
 a:1;b:1;!Q2;!Q3 abs - S;Q2;Q3";
 
-fn no_step(alloc: Global) -> Step {
-    Step {
-        table: Table {
-            rows: Items::new(alloc),
-        },
-        marks: Marks {
-            fatal: Items::new(alloc),
-            notes: Items::new(alloc),
-        },
-    }
-}
-
-fn add_note(step: &mut Step, number: &str) -> Result<(), Fail> {
-    let q = value(number)?;
-    step.marks.notes.push(Note::QuantileRange(q))?;
-    Ok(())
-}
-
-fn add_fatal(alloc: Global, step: &mut Step, word: &str) -> Result<(), Fail> {
-    let mark = mark(alloc, word)?;
-    step.marks.fatal.push(mark)?;
-    Ok(())
-}
-
-fn add_mark(alloc: Global, step: &mut Step, word: &str) -> Result<(), Fail> {
-    if word == "-" {
-        return Ok(());
-    }
-    match word.strip_prefix('Q') {
-        Some(number) => add_note(step, number),
-        None => add_fatal(alloc, step, word),
-    }
-}
-
-fn add_row(alloc: Global, step: &mut Step, word: &str) -> Result<(), Fail> {
-    step.table.rows.push(row(alloc, word)?)?;
-    Ok(())
-}
-
-fn add_word(alloc: Global, step: &mut Step, word: &str) -> Result<(), Fail> {
-    if word == "-" {
-        return Ok(());
-    }
-    match word.strip_prefix('!') {
-        Some(word) => add_mark(alloc, step, word),
-        None => add_row(alloc, step, word),
-    }
-}
-
-/// A vector: rows, and marks behind `!`.
-fn vector(alloc: Global, text: &str) -> Result<Step, Fail> {
-    let mut step = no_step(alloc);
-    for word in text.split(';') {
-        add_word(alloc, &mut step, word)?;
-    }
-    Ok(step)
-}
-
-/// The step that is wanted: rows, and marks.
-fn wanted(alloc: Global, rows: &str, marks: &str) -> Result<Step, Fail> {
-    let mut step = vector(alloc, rows)?;
-    for word in marks.split(';') {
-        add_mark(alloc, &mut step, word)?;
-    }
-    Ok(step)
-}
-
 fn grouping(alloc: Global, word: &str) -> Result<Grouping, Fail> {
     let (kind, list) = word.split_once('=').unwrap_or(("by", ""));
     let names = names(alloc, list)?;
@@ -350,46 +283,27 @@ fn grouping(alloc: Global, word: &str) -> Result<Grouping, Fail> {
     Ok(Grouping { without, names })
 }
 
-fn ranking(name: &str) -> Result<Aggregate, Fail> {
-    if name == "topk" {
-        Ok(Aggregate::TopK)
-    } else if name == "bottomk" {
-        Ok(Aggregate::BottomK)
-    } else if name == "quantile" {
-        Ok(Aggregate::Quantile)
-    } else if name == "count_values" {
-        Ok(Aggregate::CountValues)
-    } else {
-        Err("no aggregation")?
-    }
-}
-
 fn aggregation(name: &str) -> Result<Aggregate, Fail> {
-    if name == "sum" {
-        Ok(Aggregate::Sum)
-    } else if name == "avg" {
-        Ok(Aggregate::Avg)
-    } else if name == "min" {
-        Ok(Aggregate::Min)
-    } else if name == "max" {
-        Ok(Aggregate::Max)
-    } else if name == "count" {
-        Ok(Aggregate::Count)
-    } else if name == "group" {
-        Ok(Aggregate::Group)
-    } else if name == "stdvar" {
-        Ok(Aggregate::Stdvar)
-    } else {
-        ranking(name)
+    match name {
+        "sum" => Ok(Aggregate::Sum),
+        "avg" => Ok(Aggregate::Avg),
+        "min" => Ok(Aggregate::Min),
+        "max" => Ok(Aggregate::Max),
+        "count" => Ok(Aggregate::Count),
+        "group" => Ok(Aggregate::Group),
+        "stdvar" => Ok(Aggregate::Stdvar),
+        "topk" => Ok(Aggregate::TopK),
+        "bottomk" => Ok(Aggregate::BottomK),
+        "quantile" => Ok(Aggregate::Quantile),
+        "count_values" => Ok(Aggregate::CountValues),
+        _ => Err("no aggregation")?,
     }
 }
 
 fn element_function(name: &str) -> Result<Element, Fail> {
-    if name == "neg" {
-        return Ok(Element::Neg);
-    }
-    match find(name) {
-        Found::Known(Func::Element(f)) => Ok(f),
+    match (name, find(name)) {
+        ("neg", _) => Ok(Element::Neg),
+        (_, Found::Known(Func::Element(f))) => Ok(f),
         _ => Err("no function")?,
     }
 }
@@ -419,42 +333,41 @@ fn mapped(alloc: Global, step: &Step, call: &str) -> Result<Step, Fail> {
     Ok(map_rows(alloc, step, f, &value(first)?, &value(second)?)?)
 }
 
-fn is_wanted(alloc: Global, answer: &Step, rows: &str, marks: &str) -> Result<bool, Fail> {
-    Ok(wanted(alloc, rows, marks)?.is_same(answer))
+/// Whether an aggregation or an element function of a vector gives rows and marks.
+fn line_holds(alloc: Global, line: &str, groups: bool) -> Result<bool, Fail> {
+    let (operand, rest) = line.split_once(' ').ok_or("no call")?;
+    let (call, texts) = rest.split_once(' ').ok_or("no rows")?;
+    let step = vector(alloc, operand)?;
+    let answer = if groups {
+        grouped(alloc, &step, call)?
+    } else {
+        mapped(alloc, &step, call)?
+    };
+    is_wanted(alloc, &answer, texts)
 }
 
-/// Whether an aggregation of a vector gives rows and marks.
-fn groups(alloc: Global, line: &str) -> Result<bool, Fail> {
-    let mut words = line.split_whitespace();
-    let step = vector(alloc, words.next().unwrap_or(""))?;
-    let answer = grouped(alloc, &step, words.next().unwrap_or(""))?;
-    let rows = words.next().unwrap_or("");
-    is_wanted(alloc, &answer, rows, words.next().unwrap_or(""))
-}
-
-/// Whether an element function of a vector gives rows and marks.
-fn maps(alloc: Global, line: &str) -> Result<bool, Fail> {
-    let mut words = line.split_whitespace();
-    let step = vector(alloc, words.next().unwrap_or(""))?;
-    let answer = mapped(alloc, &step, words.next().unwrap_or(""))?;
-    let rows = words.next().unwrap_or("");
-    is_wanted(alloc, &answer, rows, words.next().unwrap_or(""))
+/// The first line that doesn't hold.
+fn first_wrong(alloc: Global, lines: &'static str, groups: bool) -> Result<&'static str, Fail> {
+    for line in lines.lines() {
+        if !line_holds(alloc, line, groups)? {
+            return Ok(line);
+        }
+    }
+    Ok("none")
 }
 
 #[test]
 fn groups_of_rows(rt: HostRuntime) -> Result<(), Fail> {
-    for line in GROUPS.lines() {
-        assert!(rt; groups(rt.alloc(), line)?, "{line}");
-    }
+    let wrong = first_wrong(rt.alloc(), GROUPS, true)?;
+    assert_eq!(rt; wrong, "none");
     assert_eq!(rt; GROUPS.lines().count(), 197);
     Ok(())
 }
 
 #[test]
 fn functions_of_rows(rt: HostRuntime) -> Result<(), Fail> {
-    for line in ROWS.lines() {
-        assert!(rt; maps(rt.alloc(), line)?, "{line}");
-    }
+    let wrong = first_wrong(rt.alloc(), ROWS, false)?;
+    assert_eq!(rt; wrong, "none");
     assert_eq!(rt; ROWS.lines().count(), 66);
     Ok(())
 }

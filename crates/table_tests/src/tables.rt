@@ -1,9 +1,9 @@
-use crate::written::{mark, names, row};
+use crate::written::{is_wanted, names, vector};
 use func_table::SetOp;
 use label_set::{Card, Items, Pairing};
 use std::alloc::Global;
 use std::test::Fail;
-use step_table::*;
+use step_table::{Step, combine, pair};
 use xfrac::{ArithOp, CompareOp, PairOp};
 
 // Each line is a left vector, an operator with its modifiers, a right vector, and the rows and the marks that come,
@@ -125,114 +125,46 @@ x:1;y:2 and;on=__name__ y:7 y:2 -
 x:1;x:2 or - - S,x
 x,i=1:nan and y,i=1:0 x,i=1:nan -";
 
-/// The marks among words, which stand behind a sign.
-fn marks(alloc: Global, text: &str, sign: &str) -> Result<Items<Mark>, Fail> {
-    let mut marks = Items::new(alloc);
-    for word in text.split(';') {
-        if let Some(word) = word.strip_prefix(sign) {
-            if word != "-" {
-                marks.push(mark(alloc, word)?)?;
-            }
-        }
-    }
-    Ok(marks)
-}
-
-/// The rows among words.
-fn rows(alloc: Global, text: &str) -> Result<Items<Row>, Fail> {
-    let mut rows = Items::new(alloc);
-    for word in text.split(';') {
-        if word != "-" && !word.starts_with('!') {
-            rows.push(row(alloc, word)?)?;
-        }
-    }
-    Ok(rows)
-}
-
-/// A step of rows and of marks behind a sign.
-fn step(alloc: Global, listed: &str, marked: &str, sign: &str) -> Result<Step, Fail> {
-    let rows = rows(alloc, listed)?;
-    let fatal = marks(alloc, marked, sign)?;
-    Ok(Step {
-        table: Table { rows },
-        marks: Marks {
-            fatal,
-            notes: Items::new(alloc),
-        },
-    })
-}
-
-/// A vector: rows, and marks behind `!`.
-fn vector(alloc: Global, text: Option<&str>) -> Result<Step, Fail> {
-    let text = text.ok_or("no vector")?;
-    step(alloc, text, text, "!")
-}
-
 fn comparison(word: &str) -> CompareOp {
-    if word == "==" {
-        CompareOp::Eq
-    } else if word == "!=" {
-        CompareOp::Ne
-    } else if word == "<" {
-        CompareOp::Lt
-    } else if word == "<=" {
-        CompareOp::Le
-    } else if word == ">" {
-        CompareOp::Gt
-    } else {
-        CompareOp::Ge
-    }
-}
-
-fn arithmetic(word: &str) -> Option<ArithOp> {
-    if word == "+" {
-        Some(ArithOp::Add)
-    } else if word == "-" {
-        Some(ArithOp::Sub)
-    } else if word == "*" {
-        Some(ArithOp::Mul)
-    } else if word == "/" {
-        Some(ArithOp::Div)
-    } else if word == "%" {
-        Some(ArithOp::Rem)
-    } else if word == "^" {
-        Some(ArithOp::Pow)
-    } else {
-        None
+    match word {
+        "==" => CompareOp::Eq,
+        "!=" => CompareOp::Ne,
+        "<" => CompareOp::Lt,
+        "<=" => CompareOp::Le,
+        ">" => CompareOp::Gt,
+        _ => CompareOp::Ge,
     }
 }
 
 fn pair_operator(word: &str) -> PairOp {
-    if let Some(op) = arithmetic(word) {
-        return PairOp::Arith(op);
-    }
-    match word.strip_suffix('b') {
-        Some(word) => PairOp::Flag(comparison(word)),
-        None => PairOp::Filter(comparison(word)),
+    match word {
+        "+" => PairOp::Arith(ArithOp::Add),
+        "-" => PairOp::Arith(ArithOp::Sub),
+        "*" => PairOp::Arith(ArithOp::Mul),
+        "/" => PairOp::Arith(ArithOp::Div),
+        "%" => PairOp::Arith(ArithOp::Rem),
+        "^" => PairOp::Arith(ArithOp::Pow),
+        _ => match word.strip_suffix('b') {
+            Some(word) => PairOp::Flag(comparison(word)),
+            None => PairOp::Filter(comparison(word)),
+        },
     }
 }
 
 fn set_operator(word: &str) -> Option<SetOp> {
-    if word == "and" {
-        Some(SetOp::And)
-    } else if word == "unless" {
-        Some(SetOp::Unless)
-    } else if word == "or" {
-        Some(SetOp::Or)
-    } else {
-        None
+    match word {
+        "and" => Some(SetOp::And),
+        "unless" => Some(SetOp::Unless),
+        "or" => Some(SetOp::Or),
+        _ => None,
     }
 }
 
 fn set_modifier(alloc: Global, p: &mut Pairing, word: &str) -> Result<(), Fail> {
     let (kind, list) = word.split_once('=').ok_or("no modifier")?;
     let list = names(alloc, list)?;
-    if kind == "on" {
-        p.on = true;
-        p.names = list;
-        return Ok(());
-    }
-    if kind == "ign" {
+    if kind == "on" || kind == "ign" {
+        p.on = kind == "on";
         p.names = list;
         return Ok(());
     }
@@ -270,31 +202,31 @@ fn operated(alloc: Global, l: &Step, text: &str, r: &Step) -> Result<Step, Fail>
     }
 }
 
-fn answer(
-    alloc: Global,
-    left: Option<&str>,
-    op: Option<&str>,
-    right: Option<&str>,
-) -> Result<Step, Fail> {
-    let left = vector(alloc, left)?;
-    let right = vector(alloc, right)?;
-    operated(alloc, &left, op.unwrap_or(""), &right)
-}
-
 /// Whether the rows and the marks of a line come.
 fn line_holds(alloc: Global, line: &str) -> Result<bool, Fail> {
-    let mut words = line.split_whitespace();
-    let (left, op, right) = (words.next(), words.next(), words.next());
-    let (rows, marks) = (words.next().unwrap_or(""), words.next().unwrap_or(""));
-    let got = answer(alloc, left, op, right)?;
-    Ok(got == step(alloc, rows, marks, "")?)
+    let (left, rest) = line.split_once(' ').ok_or("no operator")?;
+    let (op, rest) = rest.split_once(' ').ok_or("no right vector")?;
+    let (right, texts) = rest.split_once(' ').ok_or("no rows")?;
+    let left = vector(alloc, left)?;
+    let right = vector(alloc, right)?;
+    let answer = operated(alloc, &left, op, &right)?;
+    is_wanted(alloc, &answer, texts)
+}
+
+/// The first line that doesn't hold.
+fn first_wrong(alloc: Global) -> Result<&'static str, Fail> {
+    for line in ROWS.lines() {
+        if !line_holds(alloc, line)? {
+            return Ok(line);
+        }
+    }
+    Ok("none")
 }
 
 #[test]
 fn rows_between_two_vectors(rt: HostRuntime) -> Result<(), Fail> {
-    for line in ROWS.lines() {
-        assert!(rt; line_holds(rt.alloc(), line)?, "{line}");
-    }
+    let wrong = first_wrong(rt.alloc())?;
+    assert_eq!(rt; wrong, "none");
     assert_eq!(rt; ROWS.lines().count(), 115);
     Ok(())
 }

@@ -2,23 +2,12 @@
 use label_set::{Items, Labels, METRIC_NAME, Text};
 use std::alloc::Global;
 use std::test::Fail;
-use step_table::{Mark, Row};
+use step_table::{Mark, Marks, Note, Row, Step, Table};
 use xfrac::{XFrac, of};
 
-/// A whole number, a fraction n/d, `inf`, `-inf`, `nan`, or `big`, which is 10^30.
-pub fn value(text: &str) -> Result<XFrac, Fail> {
-    if text == "inf" {
-        return Ok(XFrac::PosInf);
-    }
-    if text == "-inf" {
-        return Ok(XFrac::NegInf);
-    }
-    if text == "nan" {
-        return Ok(XFrac::NaN);
-    }
-    if text == "big" {
-        return Ok(of(1_000_000_000_000_000_000_000_000_000_000, 1)?);
-    }
+const BIG: i128 = 1_000_000_000_000_000_000_000_000_000_000;
+
+fn fraction(text: &str) -> Result<XFrac, Fail> {
     let (n, d) = text.split_once('/').unwrap_or((text, "1"));
     let n: i128 = n.parse()?;
     let d: i128 = d.parse()?;
@@ -26,6 +15,17 @@ pub fn value(text: &str) -> Result<XFrac, Fail> {
         return Err("no denominator")?;
     }
     Ok(of(n, d)?)
+}
+
+/// A whole number, a fraction n/d, `inf`, `-inf`, `nan`, or `big`, which is 10^30.
+pub fn value(text: &str) -> Result<XFrac, Fail> {
+    match text {
+        "inf" => Ok(XFrac::PosInf),
+        "-inf" => Ok(XFrac::NegInf),
+        "nan" => Ok(XFrac::NaN),
+        "big" => Ok(of(BIG, 1)?),
+        _ => fraction(text),
+    }
 }
 
 fn set_many(alloc: Global, labels: &mut Labels, count: u32) -> Result<(), Fail> {
@@ -45,7 +45,7 @@ fn set_label(alloc: Global, labels: &mut Labels, word: &str) -> Result<(), Fail>
 }
 
 /// A metric's name and labels, parted by commas; `#N` is N labels from `l0` on.
-pub fn labels(alloc: Global, text: &str) -> Result<Labels, Fail> {
+fn labels(alloc: Global, text: &str) -> Result<Labels, Fail> {
     let mut labels = Labels::empty(alloc);
     for word in text.split(',') {
         if word != "" {
@@ -56,31 +56,25 @@ pub fn labels(alloc: Global, text: &str) -> Result<Labels, Fail> {
 }
 
 fn mark_of(kind: &str, labels: Labels) -> Mark {
-    if kind == "O" {
-        Mark::Overflow
-    } else if kind == "I" {
-        Mark::Irrational
-    } else if kind == "S" {
-        Mark::SameLabelset(labels)
-    } else if kind == "D" {
-        Mark::DuplicateOneSide(labels)
-    } else if kind == "M" {
-        Mark::ImplicitManyToOne(labels)
-    } else if kind == "C" {
-        Mark::OutOfCalendar
-    } else {
-        Mark::DuplicateResult(labels)
+    match kind {
+        "O" => Mark::Overflow,
+        "I" => Mark::Irrational,
+        "S" => Mark::SameLabelset(labels),
+        "D" => Mark::DuplicateOneSide(labels),
+        "M" => Mark::ImplicitManyToOne(labels),
+        "C" => Mark::OutOfCalendar,
+        _ => Mark::DuplicateResult(labels),
     }
 }
 
 /// A mark: the letter of its kind, and its labels.
-pub fn mark(alloc: Global, text: &str) -> Result<Mark, Fail> {
+fn mark(alloc: Global, text: &str) -> Result<Mark, Fail> {
     let (kind, names) = text.split_once(',').unwrap_or((text, ""));
     Ok(mark_of(kind, labels(alloc, names)?))
 }
 
 /// A row: its labels, and its value behind a colon.
-pub fn row(alloc: Global, word: &str) -> Result<Row, Fail> {
+fn row(alloc: Global, word: &str) -> Result<Row, Fail> {
     let (names, number) = word.split_once(':').ok_or("a row without a value")?;
     let value = value(number)?;
     Ok(Row {
@@ -99,4 +93,64 @@ pub fn names(alloc: Global, text: &str) -> Result<Items<Text>, Fail> {
         names.push(Text::of(alloc, word)?)?;
     }
     Ok(names)
+}
+
+fn no_step(alloc: Global) -> Step {
+    Step {
+        table: Table {
+            rows: Items::new(alloc),
+        },
+        marks: Marks {
+            fatal: Items::new(alloc),
+            notes: Items::new(alloc),
+        },
+    }
+}
+
+/// Adds a mark, or the note of a quantile behind `Q`; `-` is none.
+fn add_mark(alloc: Global, marks: &mut Marks, word: &str) -> Result<(), Fail> {
+    if word == "-" {
+        return Ok(());
+    }
+    match word.strip_prefix('Q') {
+        Some(number) => marks.notes.push(Note::QuantileRange(value(number)?))?,
+        None => marks.fatal.push(mark(alloc, word)?)?,
+    }
+    Ok(())
+}
+
+/// Adds a row, or a mark behind `!`; `-` is none.
+fn add_word(alloc: Global, step: &mut Step, word: &str) -> Result<(), Fail> {
+    if word == "-" {
+        return Ok(());
+    }
+    match word.strip_prefix('!') {
+        Some(word) => add_mark(alloc, &mut step.marks, word),
+        None => Ok(step.table.rows.push(row(alloc, word)?)?),
+    }
+}
+
+/// A vector: rows, and marks behind `!`.
+pub fn vector(alloc: Global, text: &str) -> Result<Step, Fail> {
+    let mut step = no_step(alloc);
+    for word in text.split(';') {
+        add_word(alloc, &mut step, word)?;
+    }
+    Ok(step)
+}
+
+/// The step of rows and of marks.
+fn wanted(alloc: Global, rows: &str, marks: &str) -> Result<Step, Fail> {
+    let mut step = vector(alloc, rows)?;
+    for word in marks.split(';') {
+        add_mark(alloc, &mut step.marks, word)?;
+    }
+    Ok(step)
+}
+
+/// Whether a step has these rows and these marks, which stand behind a blank.
+pub fn is_wanted(alloc: Global, answer: &Step, texts: &str) -> Result<bool, Fail> {
+    let (rows, marks) = texts.split_once(' ').ok_or("no marks")?;
+    let wanted = wanted(alloc, rows, marks)?;
+    Ok(wanted.is_same(answer) && wanted == *answer)
 }
