@@ -106,6 +106,7 @@ fn push_tail(out: &mut String, alloc: Global, e: &Expr) -> Result<(), Fail> {
     Ok(())
 }
 
+/// Adds a text that was made, or says that memory was short as it was made or added.
 pub fn push_text(out: &mut String, text: Result<String, AllocError>) -> Result<(), AllocError> {
     let text = text?;
     out.push_str(text.as_str())
