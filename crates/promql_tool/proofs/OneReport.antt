@@ -58,13 +58,14 @@ module _ (closed : Bool) (found : List ℕ → Option (List ℕ) → Type 0) whe
   seen_once (path ∷ later) once files others last end a b =
       let x = first_seen (path ∷ later) files last a path later refl in
       let y = first_seen (path ∷ later) others end b path later refl in
-      go x.seen x.follows (subst (λ (s : Seen). Follows path later s others end) (once.0 y.seen x.seen y.is x.is) y.follows)
+      go x.seen (seen_once later once.1) x.follows (subst (λ (s : Seen). Follows path later s others end) (once.0 y.seen x.seen y.is x.is) y.follows)
     where
-      go : (s : Seen) → Follows path later s files last → Follows path later s others end → Same files last others end
-      go NotThere f g = (f.0 ∙ sym g.0, f.1 ∙ sym g.1)
-      go (NotRun refusal) f g = (f.0 ∙ sym g.0, f.1 ∙ sym g.1)
-      go (Run verdicts) f g =
-          let more = seen_once later once.1 f.0 g.0 last end f.2 g.2 in
+      go : (s : Seen) → ((more rest : List JudgedFile) (l e : Last) → Sees closed found later more l → Sees closed found later rest e → Same more l rest e) → Follows path later s files last → Follows path later s others end
+          → Same files last others end
+      go NotThere behind f g = (f.0 ∙ sym g.0, f.1 ∙ sym g.1)
+      go (NotRun refusal) behind f g = (f.0 ∙ sym g.0, f.1 ∙ sym g.1)
+      go (Run verdicts) behind f g =
+          let more = behind f.0 g.0 last end f.2 g.2 in
           (f.1 ∙ ap (λ (l : List JudgedFile). record { path = path; verdicts = verdicts } ∷ l) more.0 ∙ sym g.1, more.1)
 
   reports_once : (paths : List (List ℕ)) → AllByRecursion (ComesToOne closed found) paths → (report : List JudgedFile → Last → Report) (files others : List JudgedFile) (last end : Last)

@@ -1,4 +1,4 @@
-use Rattle.std.proofs.Common.{◌≡◌, [], ◌∷◌, None, map, string_bytes, refl}
+use Rattle.std.proofs.Common.{◌≡◌, [], ◌∷◌, None, map, string_bytes, refl, sym}
 use Rattle.promql_tool.specs.Ends.{IfFirst, IsOneOf, IsUnrun}
 use Rattle.promql_tool.specs.Reading.{IsNoScript}
 use Rattle.promql_tool.specs.Report.{files_of}
