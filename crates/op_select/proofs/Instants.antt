@@ -1,8 +1,7 @@
 -- The step of an instant.
-use Rattle.std.proofs.Common.{◌≡◌, ◌∙◌, ◌++◌, ◌∷◌, [], List, Some, None, sym, ap, subst, arith}
-use Rattle.std.specs.Prelude.{ℕ, ℤ, ◌<ℤ◌, ◌≤ℤ◌, Bool, true, false}
+use Rattle.std.proofs.Common.{◌≡◌, ◌∙◌, ◌++◌, ◌∷◌, [], List, Some, sym, ap, subst}
+use Rattle.std.specs.Prelude.{ℕ, ℤ, ◌<ℤ◌, Bool}
 use Rattle.std.specs.List.{filter_map}
-use Rattle.std.proofs.lemmas.Int.{ints}
 use Rattle.sample_store.specs.Samples.{AllSeries, Names}
 use Rattle.series_marks.specs.Reads.{AreRising, IsNoEarlier, Reached, edge_of}
 use Rattle.step_batch.specs.Lent.{IsLater, Lent, no_marks, step_of}
@@ -12,41 +11,25 @@ use Rattle.ticks.specs.Walks.{moment_at}
 use Rattle.ticks.specs.declared.moment.Ms.{Ms}
 use Rattle.ticks.specs.declared.walk.WalkMoment.{WalkMoment}
 use Rattle.xfrac.specs.declared.value.XFrac.{XFrac}
-use Rattle.op_select.specs.Newest.{InstantsFrom, IsReached, entry_shown, selected, window_edge}
+use Rattle.promql_meaning.specs.Selecting.{lookback}
+use Rattle.series_marks.specs.Reaches.{IsReached, window_edge}
+use Rattle.series_marks.specs.Spent.{edge_early}
+use Rattle.op_select.specs.Newest.{InstantsFrom, entry_shown, selected}
 use Rattle.op_select.proofs.More.{all_alike}
 use Rattle.op_select.proofs.Shows.{entry_is, newest_entry, numbered_rows}
 
--- ---- edges
-
-le_same : (a : ℤ) → a ≤ℤ a
-le_same a = omega (arith, ints)
-
-le_both : (a b c : ℤ) → a ≤ℤ b → b ≤ℤ c → a ≤ℤ c
-le_both a b c h k = omega (arith, ints, h, k)
-
-edge_later : (closed : Bool) (a b : ℤ) → a ≤ℤ b → window_edge closed a ≤ℤ window_edge closed b
-edge_later false a b h = omega (arith, ints, h)
-edge_later true a b h = omega (arith, ints, h)
-
-edge_early : (closed : Bool) (reached : Reached) (edge m : Ms) → edge.0 ≡ window_edge closed m.0 → IsReached closed reached → IsNoEarlier reached m → (edge_of reached edge).0 ≤ℤ window_edge closed m.0
-edge_early closed None edge m e r n = subst (λ (z : ℤ). z ≤ℤ window_edge closed m.0) (sym e) (le_same (window_edge closed m.0))
-edge_early closed (Some (a, b)) edge m e r n = le_both a.0 (window_edge closed b.0) (window_edge closed m.0) r (edge_later closed b.0 m.0 n)
-
-pub reached_on : (closed : Bool) (reached : Reached) (edge m : Ms) → edge ≡ record { 0 = window_edge closed m.0 } → IsReached closed reached → IsNoEarlier reached m → IsReached closed (Some (edge_of reached edge, m))
-reached_on closed reached edge m e r n = edge_early closed reached edge m (ap (λ (x : Ms). x.0) e) r n
-
 -- ---- the rows
 
-entries_newest : (store : AllSeries) (series : List ℕ) (stamped closed : Bool) (reached : Reached) (edge m : Ms) → AreRising store → edge.0 ≡ window_edge closed m.0 → IsReached closed reached → IsNoEarlier reached m
+entries_newest : (store : AllSeries) (series : List ℕ) (stamped closed : Bool) (reached : Reached) (edge m : Ms) → AreRising store → edge.0 ≡ window_edge closed lookback m.0 → IsReached closed lookback reached → IsNoEarlier reached m
     → filter_map (entry_shown store stamped (Some (edge_of reached edge, m)) edge.0) series ≡ filter_map (newest_entry store stamped closed m.0) series
 entries_newest store series stamped closed reached edge m rises e r n =
-    let early = edge_early closed reached edge m e r n in
+    let early = edge_early closed lookback reached edge m e r n in
     all_alike (entry_shown store stamped (Some (edge_of reached edge, m)) edge.0) (newest_entry store stamped closed m.0) series (λ s.
     subst (λ (d : ℤ). entry_shown store stamped (Some (edge_of reached edge, m)) d s ≡ newest_entry store stamped closed m.0 s) (sym e)
     (entry_is store stamped closed (edge_of reached edge).0 m.0 s (rises s) early))
 
-pub stage_selected : (store : AllSeries) (series xs : List ℕ) (moment : WalkMoment) (stamped : Bool) (reached : Reached) (edge m t : Ms) (front now : List StepAt) → AreRising store → edge ≡ record { 0 = window_edge moment.closed m.0 }
-    → m ≡ record { 0 = moment_at moment t.0 } → xs ≡ series → IsReached moment.closed reached → IsNoEarlier reached (record { 0 = moment_at moment t.0 })
+pub stage_selected : (store : AllSeries) (series xs : List ℕ) (moment : WalkMoment) (stamped : Bool) (reached : Reached) (edge m t : Ms) (front now : List StepAt) → AreRising store → edge ≡ record { 0 = window_edge moment.closed lookback m.0 }
+    → m ≡ record { 0 = moment_at moment t.0 } → xs ≡ series → IsReached moment.closed lookback reached → IsNoEarlier reached (record { 0 = moment_at moment t.0 })
     → now ≡ front ++ record { at = t; step = step_of (filter_map (entry_shown store stamped (Some (edge_of reached edge, m)) edge.0) xs) no_marks } ∷ []
     → now ≡ front ++ selected store series moment stamped t ∷ []
 stage_selected store series xs moment stamped reached edge m t front now rises at is same r n made =

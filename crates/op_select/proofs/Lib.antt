@@ -1,7 +1,5 @@
-pub mod Counted
 pub mod Instants
 pub mod Lasts
 pub mod More
 pub mod Naming
 pub mod Shows
-pub mod Bounded

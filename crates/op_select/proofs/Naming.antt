@@ -6,7 +6,8 @@ use Rattle.indexmap.specs.IndexSet.{insert_key}
 use Rattle.label_set.specs.LabelEquality.{labels_decide, labels_eq}
 use Rattle.sample_store.specs.Samples.{AllSeries, Names, labels_at}
 use Rattle.std.proofs.lemmas.Map.Keys.{IsDistinct-head, IsDistinct-tail}
-use Rattle.op_select.specs.Newest.{AreOnce, AreThere, names_of}
+use Rattle.series_marks.specs.Reaches.{AreThere}
+use Rattle.op_select.specs.Newest.{AreOnce, names_of}
 
 key_at : (store : AllSeries) (s : ℕ) → s < length store → slice_get (keys_of store) s ≡ Some (labels_at store s)
 key_at [] s l = absurd (omega arith)

@@ -12,7 +12,8 @@ use Rattle.promql_meaning.specs.declared.given.Stamped.{Stamped}
 use Rattle.sample_store.specs.Samples.{AllSeries, Names, Samples, labels_at, samples_at}
 use Rattle.series_marks.specs.Reads.{Rises, Sample, after, in_span, last_of, mark_at}
 use Rattle.series_marks.specs.Walked.{after_after, last_front, rises_after, rises_next, span_is}
-use Rattle.op_select.specs.Newest.{entry_told, entry_under, numbered, shown, told, window_edge}
+use Rattle.series_marks.specs.Reaches.{numbered, window_edge}
+use Rattle.op_select.specs.Newest.{entry_told, entry_under, shown, told}
 
 -- ---- one series
 
@@ -52,13 +53,13 @@ between_is closed edge m (x ∷ xs) =
     ∙ elim (int_lt (before closed edge) x.0.0 && int_le x.0.0 m) as (λ q. (if q then x ∷ between closed edge m xs else between closed edge m xs) ≡ (if q then x ∷ in_span (before closed edge) m xs else in_span (before closed edge) m xs))
     [ true ↦ ap (λ (ss : Samples). x ∷ ss) rest | false ↦ rest ]
 
-edge_up : (closed : Bool) (m : ℤ) → window_edge closed m ≤ℤ m
+edge_up : (closed : Bool) (m : ℤ) → window_edge closed lookback m ≤ℤ m
 edge_up false m = omega (arith, ints)
 edge_up true m = omega (arith, ints)
 
-shows_newest : (stamped closed : Bool) (e m : ℤ) (S : Samples) → Rises None S → e ≤ℤ window_edge closed m → shown stamped (window_edge closed m) (mark_at e m S).last ≡ option_and_then (told stamped) (newest closed m S)
+shows_newest : (stamped closed : Bool) (e m : ℤ) (S : Samples) → Rises None S → e ≤ℤ window_edge closed lookback m → shown stamped (window_edge closed lookback m) (mark_at e m S).last ≡ option_and_then (told stamped) (newest closed m S)
 shows_newest stamped closed e m S r h =
-    let d = window_edge closed m in
+    let d = window_edge closed lookback m in
     shown_within stamped d (last_of m (after e S) None)
     ∙ ap (λ (l : Option Sample). option_and_then (told stamped) (option_and_then fresh_sample l))
     (sym (last_within d m (after e S) None (rises_after e S r) (edge_up closed m) refl) ∙ ap (λ (xs : Samples). last_of m xs None) (after_after e d S h)
@@ -70,8 +71,8 @@ shows_newest stamped closed e m S r h =
 abbrev pub newest_entry : AllSeries → Bool → Bool → ℤ → ℕ → Option (Names × XFrac)
 newest_entry store stamped closed m s = entry_under (labels_at store s) (option_and_then (told stamped) (newest closed m (samples_at store s)))
 
-pub entry_is : (store : AllSeries) (stamped closed : Bool) (e m : ℤ) (s : ℕ) → Rises None (samples_at store s) → e ≤ℤ window_edge closed m
-    → entry_under (labels_at store s) (shown stamped (window_edge closed m) (mark_at e m (samples_at store s)).last) ≡ newest_entry store stamped closed m s
+pub entry_is : (store : AllSeries) (stamped closed : Bool) (e m : ℤ) (s : ℕ) → Rises None (samples_at store s) → e ≤ℤ window_edge closed lookback m
+    → entry_under (labels_at store s) (shown stamped (window_edge closed lookback m) (mark_at e m (samples_at store s)).last) ≡ newest_entry store stamped closed m s
 entry_is store stamped closed e m s r h = ap (entry_under (labels_at store s)) (shows_newest stamped closed e m (samples_at store s) r h)
 
 abbrev row_under : Names → Ms × XFrac → Stamped

@@ -1,29 +1,25 @@
 -- What a kernel over the store lends: at each instant the newest rows of its series. (The rule is that of the meaning; what a
 -- kernel has come to is this project's own.)
-use Rattle.std.specs.Prelude.{◌≡◌, ◌*◌, ◌<◌, ◌≤ℤ◌, ◌-ℤ◌, ℕ, ℤ, Bool, List, [], ◌∷◌, length, map, sum_by, Option, None, Some, int_lt, slice_get, option_and_then, if◌then◌else◌, ⊤}
+use Rattle.std.specs.Prelude.{◌≡◌, ℕ, ℤ, Bool, List, [], ◌∷◌, map, Option, None, Some, int_lt, option_and_then, if◌then◌else◌, ⊤}
 use Rattle.std.specs.List.{AllByRecursion, filter_map}
 use Rattle.std.specs.Option.{option_map}
 use Rattle.std.specs.Result.{result_ok}
-use Rattle.promql_meaning.specs.Selecting.{fresh_sample, lookback, newest_rows}
+use Rattle.promql_meaning.specs.Selecting.{fresh_sample, newest_rows}
 use Rattle.promql_meaning.specs.declared.given.Stamped.{Stamped}
 use Rattle.sample_store.specs.Samples.{AllSeries, Names, labels_at, samples_at}
-use Rattle.series_marks.specs.Reads.{IsNoEarlier, Reached, Sample, edge_of, mark_of, probes_of, read_of}
+use Rattle.series_marks.specs.Reaches.{numbered}
+use Rattle.series_marks.specs.Reads.{Reached, Sample, mark_of}
 use Rattle.series_marks.specs.declared.mark.Mark.{Mark}
 use Rattle.step_batch.specs.Lent.{IsLater, Lent, no_marks, step_of}
 use Rattle.step_batch.specs.LentWindows.{TimesRise}
 use Rattle.step_table.specs.Timed.{StepAt}
-use Rattle.ticks.specs.Edges.{before}
-use Rattle.ticks.specs.Walks.{IsTime, moment_at}
+use Rattle.ticks.specs.Walks.{moment_at}
 use Rattle.ticks.specs.declared.moment.Ms.{Ms}
 use Rattle.ticks.specs.declared.walk.WalkMoment.{WalkMoment}
 use Rattle.window_fn.specs.Points.{in_seconds, milliseconds}
 use Rattle.xfrac.specs.declared.value.XFrac.{XFrac}
 
 -- ---- the rule
-
--- the series with some numbers
-abbrev pub numbered : AllSeries → List ℕ → AllSeries
-numbered store series = filter_map (slice_get store) series
 
 -- a sample's value, or where it is stamped its time in seconds
 abbrev pub told : Bool → Ms × XFrac → Option XFrac
@@ -42,40 +38,12 @@ selected store series moment stamped t =
 
 -- ---- conditions
 
-abbrev pub AreThere : AllSeries → List ℕ → Type 0
-AreThere store series = AllByRecursion (λ (s : ℕ). s < length store) series
-
 -- no number stands twice
 abbrev pub AreOnce : List ℕ → Type 0
 AreOnce [] = ⊤
 AreOnce (s ∷ series) = AllByRecursion (λ (u : ℕ). s ≡ u → ⊥) series × AreOnce series
 
--- the last time before the window of a moment
-abbrev pub window_edge : Bool → ℤ → ℤ
-window_edge closed m = before closed (m -ℤ lookback)
-
--- an instant more: the edge of the first one's window stays, and the moment goes on
-abbrev pub reach : Reached → WalkMoment → Ms → Reached
-reach reached moment t = Some (edge_of reached (record { 0 = window_edge moment.closed (moment_at moment t.0) }), record { 0 = moment_at moment t.0 })
-
-abbrev pub reach_all : Reached → WalkMoment → List Ms → Reached
-reach_all reached moment [] = reached
-reach_all reached moment (t ∷ ts) = reach_all (reach reached moment t) moment ts
-
--- the moment of an instant isn't before those that were reached, and its window lies within the times
-abbrev pub IsSoon : Reached → WalkMoment → Ms → Type 0
-IsSoon reached moment t = IsNoEarlier reached (record { 0 = moment_at moment t.0 }) × IsTime (moment_at moment t.0) × IsTime (moment_at moment t.0 -ℤ lookback)
-
-abbrev pub Follow : Reached → WalkMoment → List Ms → Type 0
-Follow reached moment [] = ⊤
-Follow reached moment (t ∷ ts) = IsSoon reached moment t × Follow (reach reached moment t) moment ts
-
 -- ---- what a kernel has come to
-
--- the first window's edge isn't behind that of the last moment's window
-abbrev pub IsReached : Bool → Reached → Type 0
-IsReached closed None = ⊤
-IsReached closed (Some r) = r.0.0 ≤ℤ window_edge closed r.1.0
 
 abbrev pub marks_of : Reached → AllSeries → List ℕ → List Mark
 marks_of reached store series = map (λ s. mark_of reached (samples_at store s)) series
@@ -87,13 +55,6 @@ names_of store series = map (labels_at store) series
 abbrev pub AreNamed : Reached → List Names → AllSeries → List ℕ → Type 0
 AreNamed None labels store series = ⊤
 AreNamed (Some r) labels store series = labels ≡ names_of store series
-
--- how many samples of all series were read at most, and how many times were looked at
-abbrev pub reads_of : Reached → AllSeries → List ℕ → ℕ
-reads_of reached store series = sum_by (λ s. read_of reached (samples_at store s)) series
-
-abbrev pub searches_of : Reached → List ℕ → ℕ
-searches_of reached series = probes_of reached * length series
 
 -- ---- one instant
 

@@ -1,5 +1,6 @@
-ghost use Rattle.op_select.specs.Newest.{AreThere, entry_shown, entry_under, marks_of, names_of, reads_of, searches_of, shown as value_shown, told as value_told};
+ghost use Rattle.op_select.specs.Newest.{entry_shown, entry_under, marks_of, names_of, shown as value_shown, told as value_told};
 ghost use Rattle.promql_meaning.specs.Selecting.{fresh_sample};
+ghost use Rattle.series_marks.specs.Reaches.{AreThere, reads_of, searches_of};
 ghost use Rattle.series_marks.specs.Reads.{AreRising, IsNoEarlier, edge_of};
 ghost use Rattle.std.specs.List.{filter_map};
 ghost use Rattle.std.specs.Option.{option_to_list};

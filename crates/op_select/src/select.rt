@@ -1,6 +1,7 @@
-ghost use Rattle.op_select.specs.Newest.{AreNamed, AreOnce, AreThere, Follow, IsReached, IsSoon, marks_of, names_of, reach, reach_all, reads_of, searches_of, selected, window_edge};
+ghost use Rattle.op_select.specs.Newest.{AreNamed, AreOnce, marks_of, names_of, selected};
 ghost use Rattle.promql_meaning.specs.Selecting.{lookback};
-ghost use Rattle.series_marks.specs.Reads.{AreRising, blank, edge_of};
+ghost use Rattle.series_marks.specs.Reaches.{AreThere, Follow, IsReached, IsSoon, reach, reach_all, reads_of, searches_of, window_edge};
+ghost use Rattle.series_marks.specs.Reads.{AreRising, blank};
 ghost use Rattle.step_batch.specs.Lent.{IsLater, stages};
 ghost use Rattle.step_batch.specs.LentWindows.{TimesRise};
 ghost use Rattle.ticks.specs.Walks.{IsTime, moment_at};
@@ -12,7 +13,7 @@ ghost use Rattle.std.specs.Prelude.{◌≡◌, ◌+◌, ◌-ℤ◌, ◌<ℤ◌, 
 use crate::rows::put_rows;
 use holders::Items;
 use sample_store::Store;
-use series_marks::Mark;
+use series_marks::{Mark, edge_since};
 use std::alloc::{AllocError, Global};
 use std::sync::ledger::Ledger;
 use step_batch::{Batch, StepBuffer};
@@ -44,19 +45,9 @@ fn moment_of(moment: &WalkMoment, t: Ms) -> Ms
 /// The last time before the window of a moment.
 fn edge_of_window(m: Ms, closed: bool) -> Ms
     requires { IsTime (m.0 -ℤ lookback) }
-    ensures { result ≡ record { 0 = window_edge closed m.0 } }
+    ensures { result ≡ record { 0 = window_edge closed lookback m.0 } }
 {
     last_before(Ms(m.0 - LOOKBACK), closed)
-}
-
-/// The edge of the first moment's window.
-fn edge_since(reached: Option<(Ms, Ms)>, edge: Ms) -> Ms
-    ensures { result ≡ edge_of reached edge }
-{
-    match reached {
-        None => edge,
-        Some(r) => r.0,
-    }
 }
 
 /// Names the labels of the series by their places in the list.
@@ -157,20 +148,20 @@ impl Select {
         requires rises { AreRising store.now }
         requires marks { self.old.marks ≡ marks_of self.old.reached store.now self.old.series }
         requires labels { self.old.buffer.labels ≡ names_of store.now self.old.series }
-        requires reached { IsReached self.old.moment.closed self.old.reached }
-        requires soon { IsSoon self.old.reached self.old.moment t }
+        requires reached { IsReached self.old.moment.closed lookback self.old.reached }
+        requires soon { IsSoon lookback self.old.reached self.old.moment t }
         requires later { IsLater self.old.buffer t }
         ensures series { self.new.series ≡ self.old.series }
         ensures moment { self.new.moment ≡ self.old.moment }
         ensures stamped { self.new.stamped ≡ self.old.stamped }
-        ensures reached { OnOk result (self.new.reached ≡ reach self.old.reached self.old.moment t) }
-        ensures edge { OnOk result (IsReached self.old.moment.closed self.new.reached) }
+        ensures reached { OnOk result (self.new.reached ≡ reach lookback self.old.reached self.old.moment t) }
+        ensures edge { OnOk result (IsReached self.old.moment.closed lookback self.new.reached) }
         ensures marks { OnOk result (self.new.marks ≡ marks_of self.new.reached store.now self.old.series) }
         ensures labels { OnOk result (self.new.buffer.labels ≡ self.old.buffer.labels) }
         ensures later { OnOk result ((u : _) → t.0 <ℤ u.0 → IsLater self.new.buffer u) }
         ensures lent { OnOk result (stages self.new.buffer ≡ stages self.old.buffer ++ selected store.now self.old.series self.old.moment self.old.stamped t ∷ []) }
-        ensures fetched { work.new.fetched + reads_of self.old.reached store.now self.old.series ≤ work.old.fetched + reads_of (reach self.old.reached self.old.moment t) store.now self.old.series }
-        ensures probed { work.new.probed + searches_of self.old.reached self.old.series ≤ work.old.probed + searches_of (reach self.old.reached self.old.moment t) self.old.series }
+        ensures fetched { work.new.fetched + reads_of self.old.reached store.now self.old.series ≤ work.old.fetched + reads_of (reach lookback self.old.reached self.old.moment t) store.now self.old.series }
+        ensures probed { work.new.probed + searches_of self.old.reached self.old.series ≤ work.old.probed + searches_of (reach lookback self.old.reached self.old.moment t) self.old.series }
         ensures tested { work.new.tested ≡ work.old.tested }
     {
         let m = moment_of(&self.moment, t);
@@ -205,19 +196,19 @@ impl Select {
         requires once { AreOnce self.old.series }
         requires marks { self.old.marks ≡ marks_of self.old.reached store.now self.old.series }
         requires labels { AreNamed self.old.reached self.old.buffer.labels store.now self.old.series }
-        requires reached { IsReached self.old.moment.closed self.old.reached }
-        requires follow { Follow self.old.reached self.old.moment at.now }
+        requires reached { IsReached self.old.moment.closed lookback self.old.reached }
+        requires follow { Follow lookback self.old.reached self.old.moment at.now }
         requires instants { TimesRise at.now }
         ensures series { self.new.series ≡ self.old.series }
         ensures moment { self.new.moment ≡ self.old.moment }
         ensures stamped { self.new.stamped ≡ self.old.stamped }
-        ensures reached { OnOk result (self.new.reached ≡ reach_all self.old.reached self.old.moment at.now) }
+        ensures reached { OnOk result (self.new.reached ≡ reach_all lookback self.old.reached self.old.moment at.now) }
         ensures marks { OnOk result (self.new.marks ≡ marks_of self.new.reached store.now self.old.series) }
         ensures labels { OnOk result (self.new.buffer.labels ≡ names_of store.now self.old.series) }
-        ensures edge { OnOk result (IsReached self.old.moment.closed self.new.reached) }
+        ensures edge { OnOk result (IsReached self.old.moment.closed lookback self.new.reached) }
         ensures lent { OnOk result (stages self.new.buffer ≡ map (selected store.now self.old.series self.old.moment self.old.stamped) at.now) }
-        ensures fetched { work.new.fetched + reads_of self.old.reached store.now self.old.series ≤ work.old.fetched + reads_of (reach_all self.old.reached self.old.moment at.now) store.now self.old.series }
-        ensures probed { work.new.probed + searches_of self.old.reached self.old.series ≤ work.old.probed + searches_of (reach_all self.old.reached self.old.moment at.now) self.old.series }
+        ensures fetched { work.new.fetched + reads_of self.old.reached store.now self.old.series ≤ work.old.fetched + reads_of (reach_all lookback self.old.reached self.old.moment at.now) store.now self.old.series }
+        ensures probed { work.new.probed + searches_of self.old.reached self.old.series ≤ work.old.probed + searches_of (reach_all lookback self.old.reached self.old.moment at.now) self.old.series }
         ensures tested { work.new.tested ≡ work.old.tested }
     {
         let _ = store.series();

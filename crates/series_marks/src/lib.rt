@@ -8,4 +8,4 @@ mod renew;
 
 pub use advance::{resumed, stands_at};
 pub use mark::Mark;
-pub use renew::{place_behind, renewed};
+pub use renew::{edge_since, place_behind, renewed};

@@ -61,6 +61,16 @@ fn go_on<W: Ledger>(
     advance(store, s, mark, m, work)
 }
 
+/// The edge of the first moment's window. It takes no memory.
+pub fn edge_since(reached: Option<(Ms, Ms)>, edge: Ms) -> Ms
+    ensures { result ≡ edge_of reached edge }
+{
+    match reached {
+        None => edge,
+        Some(r) => r.0,
+    }
+}
+
 /// A series' mark at a moment, from the mark at an earlier one, or from none by one search. Each sample is fetched once. It takes
 /// no memory.
 pub fn renewed<W: Ledger>(

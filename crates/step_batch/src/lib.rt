@@ -12,6 +12,7 @@ mod windows;
 
 pub use batch::Batch;
 pub use buffer::StepBuffer;
+pub use slices::Slices;
 pub use steps::Slot;
 pub use window_buffer::WindowBuffer;
 pub use windows::Windows;

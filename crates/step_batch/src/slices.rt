@@ -7,9 +7,10 @@ use std::marker::Model;
 use ticks::Ms;
 use xfrac::XFrac;
 
-/// The samples of a window: later ones are put behind, and earlier ones are let go. Contracts see those that are left.
+/// The samples of a window in two columns, their times in milliseconds and their values: later ones are put behind, and earlier
+/// ones are let go. Contracts see those that are left.
 #[derive(Drop)]
-pub(crate) struct Slices {
+pub struct Slices {
     times: Vec<Ms>,
     values: Vec<XFrac>,
     start: usize,
@@ -26,7 +27,19 @@ impl Model for Slices {
 }
 
 impl Slices {
-    pub(crate) fn of(alloc: Global, times: &[Ms], values: &[XFrac]) -> Result<Slices, AllocError>
+    /// No samples. It takes no memory.
+    pub fn new(alloc: Global) -> Slices
+        ensures { result ≡ record { times = []; values = [] } }
+    {
+        Slices {
+            times: Vec::new(alloc),
+            values: Vec::new(alloc),
+            start: 0,
+        }
+    }
+
+    /// These samples, which are copied. The only error is want of memory.
+    pub fn of(alloc: Global, times: &[Ms], values: &[XFrac]) -> Result<Slices, AllocError>
         requires { length times.now ≡ length values.now }
         ensures { IfOk result (λ s. s ≡ record { times = times.now; values = values.now }) }
     {
@@ -39,19 +52,22 @@ impl Slices {
         })
     }
 
-    pub(crate) fn times(&self) -> &[Ms]
+    /// The times of the samples. It takes no memory.
+    pub fn times(&self) -> &[Ms]
         ensures { result.now ≡ self.now.times }
     {
         self.times.as_slice().split_at(self.start).1
     }
 
-    pub(crate) fn values(&self) -> &[XFrac]
+    /// The values of the samples, as many as their times. It takes no memory.
+    pub fn values(&self) -> &[XFrac]
         ensures { result.now ≡ self.now.values }
     {
         self.values.as_slice().split_at(self.start).1
     }
 
-    pub(crate) fn has_some(&self) -> bool
+    /// Whether a sample is left. It takes no memory.
+    pub fn has_some(&self) -> bool
         ensures { result ≡ has_some self.now }
     {
         match self.times() {
@@ -61,7 +77,7 @@ impl Slices {
     }
 
     /// Puts a sample behind the others. The only error is want of memory; then nothing is changed.
-    pub(crate) fn push(&mut self, at: Ms, value: XFrac) -> Result<(), AllocError>
+    pub fn push(&mut self, at: Ms, value: XFrac) -> Result<(), AllocError>
         ensures ok { OnOk result (self.new ≡ column_more self.old at value) }
         ensures err { OnErr result (self.new ≡ self.old) }
     {
@@ -71,7 +87,7 @@ impl Slices {
 
     /// Lets the samples in front go that are no later than an edge. It takes no memory, and all such calls together move
     /// each sample once on the average.
-    pub(crate) fn forget(&mut self, edge: Ms)
+    pub fn forget(&mut self, edge: Ms)
         ensures { self.new ≡ columns_behind edge.0 self.old }
     {
         self.start = first_behind(self.times.as_slice(), self.start, edge);

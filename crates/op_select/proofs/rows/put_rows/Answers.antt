@@ -8,7 +8,7 @@ use Rattle.series_marks.specs.declared.mark.Mark.{Mark}
 use Rattle.step_batch.specs.Lent.{no_marks, step_of}
 use Rattle.xfrac.specs.declared.value.XFrac.{XFrac}
 use Rattle.op_select.specs.Newest.{entry_shown, entry_under, shown}
-use Rattle.op_select.proofs.Counted.{probes_few, probes_left, probes_more, reads_more, reads_so_far}
+use Rattle.series_marks.specs.Spent.{probes_few, probes_left, probes_more, reads_more, reads_so_far}
 use Rattle.op_select.proofs.More.{entries_more, marks_more}
 use Rattle.op_select.proofs.Naming.{name_there, names_length}
 use Rattle.op_select.proofs.rows.put_rows.Goals as goal
@@ -44,7 +44,7 @@ loop-i-preserved g c =
     record {
       marks = c.replace.ensures.now ∙ ap (λ ms. slice_set ms i c.renewed-mark.result) c.loop-i.invariant.marks ∙ ap (λ k. slice_set (map F (take i xs) ++ map G (drop i xs)) i k) is
           ∙ marks_more F G xs i c.loop-i-test.true;
-      fetched = reads_more store c.args.reached c.args.edge c.args.m xs i c.renewed-mark.new.work.fetched c.loop-i.work.fetched c.args.work.now.fetched c.loop-i-test.true c.loop-i.invariant.fetched c.renewed-mark.ensures.read;
+      fetched = reads_more store c.args.reached c.args.edge c.args.m xs i c.renewed-mark.new.work.fetched c.loop-i.work.fetched c.args.work.now.fetched c.loop-i-test.true c.loop-i.invariant.fetched (let e = c.renewed-mark.ensures.read in omega arith);
       labels = c.in_ok-put_shown.ensures.labels ∙ c.loop-i.invariant.labels;
       free = c.in_ok-put_shown.ensures.free;
       later = λ u h. c.in_ok-put_shown.ensures.later u (c.loop-i.invariant.later u h);
@@ -65,7 +65,7 @@ returns-in_err-put_shown-clause-fetched g c =
     let store = c.args.store.now in
     let i = c.loop-i.i in
     reads_so_far store c.args.reached c.args.edge c.args.m xs (i + 1) c.renewed-mark.new.work.fetched c.args.work.now.fetched c.requires.soon
-    (reads_more store c.args.reached c.args.edge c.args.m xs i c.renewed-mark.new.work.fetched c.loop-i.work.fetched c.args.work.now.fetched c.loop-i-test.true c.loop-i.invariant.fetched c.renewed-mark.ensures.read)
+    (reads_more store c.args.reached c.args.edge c.args.m xs i c.renewed-mark.new.work.fetched c.loop-i.work.fetched c.args.work.now.fetched c.loop-i-test.true c.loop-i.invariant.fetched (let e = c.renewed-mark.ensures.read in omega arith))
 
 pub returns-in_err-put_shown-clause-probed : goal.returns-in_err-put_shown-clause-probed
 returns-in_err-put_shown-clause-probed g c =

@@ -5,7 +5,8 @@ use Rattle.series_marks.specs.Reads.{edge_of, probes_of}
 use Rattle.step_batch.specs.Lent.{IsFreeFrom, IsLater, no_marks, stages, step_of}
 use Rattle.step_table.specs.Timed.{StepAt}
 use Rattle.ticks.specs.declared.moment.Ms.{Ms}
-use Rattle.op_select.specs.Newest.{entry_shown, marks_of, reads_of}
+use Rattle.series_marks.specs.Reaches.{reads_of}
+use Rattle.op_select.specs.Newest.{entry_shown, marks_of}
 use Rattle.op_select.proofs.rows.put_rows.Given as goal
 
 abbrev pub invariant-loop-i : goal.invariant-loop-i

@@ -4,7 +4,7 @@ use Rattle.series_marks.specs.Reads.{Sample, stands_at}
 use Rattle.sample_store.specs.Samples.{samples_at}
 use Rattle.series_marks.proofs.Stores.{one_more}
 use Rattle.series_marks.specs.Walked.{last_there}
-use Rattle.series_marks.proofs.Walks.{after_past, last_goes, after_goes, after_there, rises_next, drop_next, drop_within}
+use Rattle.series_marks.specs.Passing.{after_past, last_goes, after_goes, after_there, rises_next, drop_next, drop_within}
 use Rattle.series_marks.proofs.advance.read_on.Goals as goal
 
 pub returns-then-time-m-clause-coming : goal.returns-then-time-m-clause-coming

@@ -5,7 +5,7 @@ use Rattle.sample_store.specs.Samples.{Samples}
 use Rattle.series_marks.specs.declared.mark.Mark.{Mark}
 use Rattle.series_marks.specs.Reads.{Rises, coming, last_of, mark_at}
 use Rattle.series_marks.specs.Walked.{rises_after}
-use Rattle.series_marks.proofs.Marks.{place_read, place_first, read_first, is_mark}
+use Rattle.series_marks.specs.Marked.{place_read, place_first, read_first, is_mark}
 use Rattle.series_marks.proofs.renew.begin.Goals as goal
 
 pub advance-requires-clause-rises : goal.advance-requires-clause-rises

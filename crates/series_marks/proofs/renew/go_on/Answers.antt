@@ -5,7 +5,7 @@ use Rattle.sample_store.specs.Samples.{Samples}
 use Rattle.series_marks.specs.declared.mark.Mark.{Mark}
 use Rattle.series_marks.specs.Reads.{Rises, Spares, coming, mark_at, last_of}
 use Rattle.series_marks.specs.Walked.{after_after}
-use Rattle.series_marks.proofs.Marks.{rises_at, spares_mark, last_after, is_mark, coming_mark, place_read, read_more}
+use Rattle.series_marks.specs.Marked.{rises_at, spares_mark, last_after, is_mark, coming_mark, place_read, read_more}
 use Rattle.series_marks.proofs.renew.go_on.Goals as goal
 
 pub advance-requires-clause-rises : goal.advance-requires-clause-rises

@@ -1,6 +1,8 @@
 use Rattle.std.proofs.Common.{◌≡◌, ◌+◌, ◌++◌, ◌≤◌, drop, map}
 use Rattle.step_batch.specs.Lent.{stages}
-use Rattle.op_select.specs.Newest.{Follow, InstantsFrom, IsReached, marks_of, names_of, reach_all, reads_of, searches_of, selected}
+use Rattle.promql_meaning.specs.Selecting.{lookback}
+use Rattle.series_marks.specs.Reaches.{Follow, IsReached, reach_all, reads_of, searches_of}
+use Rattle.op_select.specs.Newest.{InstantsFrom, marks_of, names_of, selected}
 use Rattle.op_select.proofs.select.Select.feed.Given as goal
 
 abbrev pub invariant-loop-t : goal.invariant-loop-t
@@ -8,11 +10,11 @@ invariant-loop-t g l = record {
   series : l.self.series ≡ l.fn.self.series;
   moment : l.self.moment ≡ l.fn.self.moment;
   stamped : l.self.stamped ≡ l.fn.self.stamped;
-  reached : reach_all l.self.reached l.fn.self.moment (drop l.t-index l.at) ≡ reach_all l.fn.self.reached l.fn.self.moment l.at;
+  reached : reach_all lookback l.self.reached l.fn.self.moment (drop l.t-index l.at) ≡ reach_all lookback l.fn.self.reached l.fn.self.moment l.at;
   marks : l.self.marks ≡ marks_of l.self.reached l.store l.fn.self.series;
   labels : l.self.buffer.labels ≡ names_of l.store l.fn.self.series;
-  edge : IsReached l.fn.self.moment.closed l.self.reached;
-  follow : Follow l.self.reached l.fn.self.moment (drop l.t-index l.at);
+  edge : IsReached l.fn.self.moment.closed lookback l.self.reached;
+  follow : Follow lookback l.self.reached l.fn.self.moment (drop l.t-index l.at);
   instants : InstantsFrom l.self.buffer (drop l.t-index l.at);
   lent : stages l.self.buffer ++ map (selected l.store l.fn.self.series l.fn.self.moment l.fn.self.stamped) (drop l.t-index l.at) ≡ map (selected l.store l.fn.self.series l.fn.self.moment l.fn.self.stamped) l.at;
   fetched : l.work.fetched + reads_of l.fn.self.reached l.store l.fn.self.series ≤ l.fn.work.fetched + reads_of l.self.reached l.store l.fn.self.series;
