@@ -1,7 +1,5 @@
 -- Rows that are put at the places of their labels, one by one.
-use Rattle.std.proofs.Common.{◌≡◌, ◌∙◌, ◌+◌, ◌<◌, ◌≤◌, ℕ, zero, suc, arith, false, List, [], ◌∷◌, ◌++◌, length, get_or, slice_get, take, drop, map, refl, sym, ap, subst, Some}
-use Rattle.std.specs.Prelude.{◌==◌, fold}
-use Rattle.std.specs.Cmp.{IsTotalOrder}
+use Rattle.std.proofs.Common.{◌≡◌, ◌∙◌, ◌+◌, ◌<◌, ℕ, zero, suc, arith, false, List, [], ◌∷◌, ◌++◌, length, get_or, slice_get, take, drop, map, refl, sym, ap, subst, Some}
 use Rattle.std.specs.List.{AllByRecursion}
 use Rattle.std.specs.List.Sorted.{IsStrictlySortedBy}
 use Rattle.std.specs.Map.{keys_of}
@@ -42,10 +40,17 @@ at_kept labels now [] (q ∷ places) k a = absurd a
 at_kept labels now (m ∷ names) [] k a = absurd a
 at_kept labels now (m ∷ names) (q ∷ places) k a = (k q m a.0, at_kept labels now names places k a.1)
 
-take_more : (rows : List Row) (i : ℕ) (d : Row) → i < length rows → take (i + 1) rows ≡ take i rows ++ get_or rows i d ∷ []
+pub take_more : {A : Type 0} (rows : List A) (i : ℕ) (d : A) → i < length rows → take (i + 1) rows ≡ take i rows ++ get_or rows i d ∷ []
 take_more [] i d h = absurd (omega arith)
 take_more (r ∷ rows) zero d h = refl
 take_more (r ∷ rows) (suc i) d h = let e : suc i + 1 ≡ suc (i + 1) = omega arith in rw e (ap (λ rs. r ∷ rs) (take_more rows i d (omega arith)))
+
+-- the place of what is left of one more labels
+pub named_more : (f : Names → Names) (labels now all : List Names) (places : List ℕ) (i p : ℕ) (d : Names) → i < length all → ((j : ℕ) (n : Names) → slice_get labels j ≡ Some n → slice_get now j ≡ Some n)
+    → AreAt labels (map f (take i all)) places → slice_get now p ≡ Some (f (get_or all i d)) → AreAt now (map f (take (i + 1) all)) (places ++ p ∷ [])
+named_more f labels now all places i p d l k a h =
+    let e : map f (take (i + 1) all) ≡ map f (take i all) ++ f (get_or all i d) ∷ [] = ap (map f) (take_more all i d l) ∙ map-append f (take i all) (get_or all i d ∷ []) in
+    subst (λ (z : List Names). AreAt now z (places ++ p ∷ [])) (sym e) (at_more now (map f (take i all)) places p (f (get_or all i d)) (at_kept labels now (map f (take i all)) places k a) h)
 
 -- the places of one more row
 pub at_next : (labels now : List Names) (rows : List Row) (places : List ℕ) (i p : ℕ) (d : Row) → i < length rows → ((j : ℕ) (n : Names) → slice_get labels j ≡ Some n → slice_get now j ≡ Some n)
@@ -163,3 +168,10 @@ stages_whole law old new front at rows marks t o e =
     let sorted : in_order (map entry_in rows) ≡ map entry_in rows = law (map entry_in rows) (subst (IsStrictlySortedBy labels_cmp) (sym (keys_are rows)) t) in
     e ∙ ap (on_last (stage_with_marks marks)) o ∙ on_last_one (stage_with_marks marks) front (record { at = at; step = step_of (map entry_in rows) no_marks })
     ∙ ap (λ (rs : List Row). front ++ record { at = at; step = record { table = record { rows = rs }; marks = marks } } ∷ []) (ap (map row_of) sorted ∙ rows_back rows)
+
+-- one more row in the last step
+pub stages_row : (was now front : List StepAt) (at : Ms) (es : List Entry) (marks : Marks) (names : Names) (value : XFrac) → now ≡ on_last (stage_with_row names value) was
+    → was ≡ front ++ record { at = at; step = step_of es marks } ∷ [] → now ≡ front ++ record { at = at; step = step_of (es ++ (names, value) ∷ []) marks } ∷ []
+stages_row was now front at es marks names value put o =
+    put ∙ ap (on_last (stage_with_row names value)) o ∙ on_last_one (stage_with_row names value) front (record { at = at; step = step_of es marks })
+    ∙ ap (λ (s : StepAt). front ++ s ∷ []) (stage_more at es marks names value)

@@ -1,7 +1,7 @@
 ghost use Rattle.step_batch.specs.Lent.{IsLater, entry_in, has_slot, last_slots, no_marks, stages, step_of};
 ghost use Rattle.step_put.specs.Puts.{AreAt, names_in};
 ghost use Rattle.step_table.specs.WellFormed.{IsTable};
-ghost use Rattle.std.specs.Prelude.{◌≡◌, ◌<◌, ◌<ℤ◌, ◌++◌, ◌∷◌, [], false, length, map, IfOk, OnOk};
+ghost use Rattle.std.specs.Prelude.{◌≡◌, ◌<◌, ◌<ℤ◌, ◌++◌, ◌∷◌, [], Some, false, length, map, slice_get, IfOk, OnOk};
 
 use label_set::Items;
 use std::alloc::{AllocError, Global};
@@ -19,6 +19,7 @@ pub fn put_step(
 ) -> Result<(), AllocError>
     requires later { IsLater buffer.old at }
     requires table { IsTable step.now.table.rows }
+    ensures kept { (j : _) (names : _) → slice_get buffer.old.labels j ≡ Some names → slice_get buffer.new.labels j ≡ Some names }
     ensures later { OnOk result ((u : _) → at.0 <ℤ u.0 → IsLater buffer.new u) }
     ensures lent { OnOk result (stages buffer.new ≡ stages buffer.old ++ record { at = at; step = step.now } ∷ []) }
 {
@@ -37,6 +38,7 @@ fn places_of(
     buffer: &mut StepBuffer,
     rows: &[Row],
 ) -> Result<Items<usize>, AllocError>
+    ensures kept { (j : _) (names : _) → slice_get buffer.old.labels j ≡ Some names → slice_get buffer.new.labels j ≡ Some names }
     ensures places { IfOk result (λ places. AreAt buffer.new.labels (names_in rows.now) places) }
     ensures steps { buffer.new.steps ≡ buffer.old.steps }
     ensures stages { OnOk result (stages buffer.new ≡ stages buffer.old) }
@@ -55,6 +57,7 @@ fn put_rows(buffer: &mut StepBuffer, rows: &[Row], places: &[usize]) -> Result<(
     requires none { (q : _) → has_slot q (last_slots buffer.old.steps) ≡ false }
     requires places { AreAt buffer.old.labels (names_in rows.now) places.now }
     requires table { IsTable rows.now }
+    ensures labels { buffer.new.labels ≡ buffer.old.labels }
     ensures begun { OnOk result (0 < length buffer.new.steps) }
     ensures later { OnOk result ((u : _) → IsLater buffer.old u → IsLater buffer.new u) }
     ensures lent { OnOk result ((front : _) (at : _) → stages buffer.old ≡ front ++ record { at = at; step = step_of [] no_marks } ∷ []

@@ -1,4 +1,4 @@
-use Rattle.std.proofs.Common.{◌≡◌, ◌∙◌, ◌+◌, ◌<◌, ℕ, List, Some, slice_get, slice_index_or, length, drop, refl, sym, ap, subst, arith}
+use Rattle.std.proofs.Common.{◌∙◌, ◌+◌, ◌<◌, List, slice_get, slice_index_or, length, drop, refl, sym, ap, subst, arith}
 use Rattle.step_batch.specs.Lent.{Lent, stages, with_slot}
 use Rattle.step_table.specs.Groups.{Names}
 use Rattle.step_table.specs.declared.step.Row.{Row}

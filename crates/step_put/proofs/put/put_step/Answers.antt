@@ -1,4 +1,4 @@
-use Rattle.std.proofs.Common.{◌≡◌, ◌∙◌, ◌∷◌, ◌++◌, [], List, sym, ap, subst}
+use Rattle.std.proofs.Common.{◌∙◌, ◌∷◌, ◌++◌, [], List, sym, ap, subst}
 use Rattle.step_batch.specs.Lent.{no_marks, stages, step_of}
 use Rattle.step_table.specs.Timed.{StepAt}
 use Rattle.step_table.specs.WellFormed.{IsTable}
