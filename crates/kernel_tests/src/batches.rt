@@ -1,0 +1,94 @@
+//! Steps as texts: an instant, rows and marks, parted by a blank; steps are parted by ` | `.
+use crate::written::{mark, row};
+use label_set::Items;
+use std::alloc::Global;
+use std::test::Fail;
+use step_batch::{Batch, StepBuffer};
+use step_table::{Marks, Row, Step, Table};
+use ticks::Ms;
+
+/// The rows of a word, parted by semicolons, in their order; `-` has none.
+fn rows(alloc: Global, word: &str) -> Result<Items<Row>, Fail> {
+    let mut rows = Items::new(alloc);
+    for text in word.split(';') {
+        if text != "-" {
+            rows.push(row(alloc, text)?)?;
+        }
+    }
+    Ok(rows)
+}
+
+/// The marks of a word, each behind `!`.
+fn marks(alloc: Global, word: &str) -> Result<Marks, Fail> {
+    let mut fatal = Items::new(alloc);
+    for text in word.split('!') {
+        if text != "" {
+            fatal.push(mark(alloc, text)?)?;
+        }
+    }
+    Ok(Marks {
+        fatal,
+        notes: Items::new(alloc),
+    })
+}
+
+/// An instant and a step.
+pub fn step(alloc: Global, text: &str) -> Result<(Ms, Step), Fail> {
+    let (at, rest) = text.split_once(' ').ok_or("a step without rows")?;
+    let (row_words, mark_words) = rest.split_once('!').unwrap_or((rest, ""));
+    Ok((
+        Ms(at.parse::<i64>()?),
+        Step {
+            table: Table {
+                rows: rows(alloc, row_words)?,
+            },
+            marks: marks(alloc, mark_words)?,
+        },
+    ))
+}
+
+/// Puts a step into a buffer, its rows in turn, which have labels of their own each.
+pub fn put(buffer: &mut StepBuffer, at: Ms, step: &Step) -> Result<(), Fail> {
+    for row in step.table.rows.as_slice() {
+        buffer.place(&row.labels)?;
+    }
+    if !buffer.is_later(at) {
+        return Err("instants that do not rise")?;
+    }
+    buffer.begin(at)?;
+    for row in step.table.rows.as_slice() {
+        let place = buffer.place(&row.labels)?;
+        if !buffer.is_free(place) {
+            return Err("labels that stand twice")?;
+        }
+        buffer.put(place, row.value)?;
+    }
+    if buffer.lend().len() > 0 {
+        buffer.unite(&step.marks)?;
+    }
+    Ok(())
+}
+
+fn value_at(batch: &Batch<'_>, i: usize, row: &Row) -> bool {
+    for slot in batch.slots(i) {
+        let labels = batch.labels();
+        if slot.place < labels.len() && labels[slot.place].is_same(&row.labels) {
+            return slot.value == row.value;
+        }
+    }
+    false
+}
+
+/// Whether a lent step is this one.
+pub fn is_lent(batch: &Batch<'_>, i: usize, at: Ms, step: &Step) -> bool {
+    if i >= batch.len() || batch.at(i).0 != at.0 || !batch.marks(i).is_same(&step.marks) {
+        return false;
+    }
+    let rows = step.table.rows.as_slice();
+    for row in rows {
+        if !value_at(batch, i, row) {
+            return false;
+        }
+    }
+    batch.slots(i).len() == rows.len()
+}

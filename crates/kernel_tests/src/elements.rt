@@ -1,0 +1,266 @@
+use crate::batches::{is_lent, put, step};
+use func_table::{CalendarPart, Element};
+use label_set::Items;
+use op_element::{ElementRows, ElementRule, is_scalar};
+use std::alloc::Global;
+use std::test::Fail;
+use step_batch::StepBuffer;
+use step_table::Step;
+use ticks::Ms;
+use xfrac::{ArithOp, CompareOp, PairOp};
+
+// Each line is a rule, steps that are fed, steps of its first and of its second scalar, `same` where it takes none, and steps that
+// are lent. An operator stands behind `v` where the scalar is on its right, and behind `s` where it is on its left.
+const LINES: &str =
+    "abs > 10 a,x=1:-7/2;b,x=2:3 | 20 a,x=1:-inf;b,x=2:nan | 30 -!O > same > same > 10 ,x=1:7/2;,x=2:3 | 20 ,x=1:inf;,x=2:nan | 30 -!O
+ceil > 10 a:-7/2 | 20 a:7/2 | 30 a:inf > same > same > 10 :-3 | 20 :4 | 30 :inf
+floor > 10 a:-7/2 | 20 a:7/2 | 30 a:nan > same > same > 10 :-4 | 20 :3 | 30 :nan
+sgn > 10 a,x=1:-5;a,x=2:0 | 20 a,x=2:inf | 30 a,x=1:nan > same > same > 10 ,x=1:-1;,x=2:0 | 20 ,x=2:1 | 30 ,x=1:nan
+minus > 0 a:1 | 600000 b:2 | 1200000 a:3;b:3 > same > same > 0 :-1 | 600000 :-2 | 1200000 -!S
+minus > 10 a,x=1:1;a,x=2:2;b,x=1:3;b,x=2:4 | 20 a,x=2:5;b,x=1:6 | 30 b,x=2:7;c,x=3:8 > same > same > 10 -!S,x=1!S,x=2 | 20 ,x=1:-6;,x=2:-5 | 30 ,x=2:-7;,x=3:-8
+minus > 10 a,x=1:1;a,x=2:2;b,x=1:3 | 20 a,x=1:4 | 30 b,x=1:5;a,x=2:6 > same > same > 10 ,x=2:-2!S,x=1 | 20 ,x=1:-4 | 30 ,x=1:-5;,x=2:-6
+minus > 10 a,x=1:1 | 20 a,x=2:2 | 30 a,x=1:3;a,x=2:4 > same > same > 10 ,x=1:-1 | 20 ,x=2:-2 | 30 ,x=1:-3;,x=2:-4
+hour > 10 a,x=1:18001;b,x=2:inf | 20 b,x=2:-1 | 30 a,x=1:86400 > same > same > 10 ,x=1:5!C | 20 ,x=2:23 | 30 ,x=1:0
+round > 10 a,x=1:7/2;a,x=2:-7/2 | 20 a,x=1:12 | 30 a,x=1:5/2 > 10 :1 | 20 :5 | 30 :nan > same > 10 ,x=1:4;,x=2:-3 | 20 ,x=1:10 | 30 ,x=1:nan
+round > 10 a,x=1:big;a,x=2:1 | 20 a,x=1:3 | 30 a,x=1:3 > 10 :1/10 | 20 :0 | 30 -!O > same > 10 ,x=2:1!O | 20 ,x=1:nan | 30 -!O
+clamp > 10 a,x=1:1;a,x=2:3;a,x=3:5 | 20 a,x=1:nan;a,x=2:-inf;a,x=3:inf | 30 a,x=1:1 > 10 :2 | 20 :2 | 30 :4 > 10 :4 | 20 :4 | 30 :2 > 10 ,x=1:2;,x=2:3;,x=3:4 | 20 ,x=1:nan;,x=2:2;,x=3:4 | 30 -
+clamp > 10 a:1 | 20 a:1!I | 30 a:1 > 10 :nan | 20 -!O | 30 :2 > 10 :4 | 20 :4 | 30 -!C > 10 :nan | 20 -!O!I | 30 -!C
+clamp_min > 10 a:1 | 20 a:3 | 30 a:-inf > 10 :2 | 20 :2 | 30 :2 > same > 10 :2 | 20 :3 | 30 :2
+clamp_max > 10 a:1 | 20 a:3 | 30 a:inf > 10 :2 | 20 :2 | 30 :inf > same > 10 :1 | 20 :2 | 30 :inf
+v+ > 10 a:7 | 20 a:7 | 30 a:inf > 10 :2 | 20 -!O | 30 :-inf > same > 10 :9 | 20 -!O | 30 :nan
+s+ > 10 a:1/2 | 20 a:1/3 | 30 a:big > 10 :1/3 | 20 :-1/3 | 30 :big > same > 10 :5/6 | 20 :0 | 30 -!O
+v- > 10 a:7 | 20 a:2 | 30 a:nan > 10 :2 | 20 :7 | 30 :1 > same > 10 :5 | 20 :-5 | 30 :nan
+s- > 10 a:7 | 20 a:2 | 30 a:inf > 10 :2 | 20 :7 | 30 :1 > same > 10 :-5 | 20 :5 | 30 :-inf
+v* > 10 a,x=1:big;a,x=2:3 | 20 a,x=1:1/2 | 30 a,x=1:inf > 10 :10 | 20 :2 | 30 :0 > same > 10 ,x=2:30!O | 20 ,x=1:1 | 30 ,x=1:nan
+s* > 10 a,x=1:big;a,x=2:3 | 20 a,x=1:1/2 | 30 a,x=1:inf > 10 :10 | 20 :2 | 30 :-3 > same > 10 ,x=2:30!O | 20 ,x=1:1 | 30 ,x=1:-inf
+v/ > 10 a:7 | 20 a:7 | 30 a:0 > 10 :2 | 20 :0 | 30 :0 > same > 10 :7/2 | 20 :inf | 30 :nan
+s/ > 10 a:7 | 20 a:0 | 30 a:inf > 10 :2 | 20 :-2 | 30 :5 > same > 10 :2/7 | 20 :-inf | 30 :0
+v% > 10 a:-1 | 20 a:7 | 30 a:7 > 10 :3 | 20 :inf | 30 :0 > same > 10 :-1 | 20 :7 | 30 :nan
+s% > 10 a:4 | 20 a:-3 | 30 a:inf > 10 :7 | 20 :7 | 30 :-5 > same > 10 :3 | 20 :1 | 30 :-5
+v^ > 10 a:2 | 20 a,x=1:4;a,x=2:inf;a,x=3:nan | 30 a:big > 10 :3 | 20 :1/2 | 30 :2 > same > 10 :8 | 20 ,x=2:inf;,x=3:nan!I | 30 -!O
+s^ > 10 a:2 | 20 a,x=1:1/2;a,x=2:-1 | 30 a:0 > 10 :3 | 20 :4 | 30 :nan > same > 10 :9 | 20 ,x=2:1/4!I | 30 :1
+v== > 10 a:5;b:6 | 20 a:5;b:5 | 30 a:nan > 10 :5 | 20 :5 | 30 :nan > same > 10 a:5 | 20 a:5;b:5 | 30 -
+v!= > 10 a:5;b:6 | 20 a:5;b:5 | 30 a:nan > 10 :5 | 20 :5 | 30 :nan > same > 10 b:6 | 20 - | 30 a:nan
+v> > 10 a,x=1:7;b:3;b,x=1:5 | 20 a,x=1:inf | 30 a,x=1:7!I > 10 :5 | 20 :5 | 30 -!O > same > 10 a,x=1:7 | 20 a,x=1:inf | 30 -!O!I
+s> > 10 a,x=1:7;b:3;b,x=1:5 | 20 a,x=1:inf | 30 a,x=1:-inf > 10 :5 | 20 :5 | 30 :nan > same > 10 b:3 | 20 - | 30 -
+v< > 10 a:7;b:3 | 20 a:5 | 30 a:-inf > 10 :5 | 20 :5 | 30 :5 > same > 10 b:3 | 20 - | 30 a:-inf
+s< > 10 a:7;b:3 | 20 a:5 | 30 a:6 > 10 :5 | 20 :5 | 30 :5 > same > 10 a:7 | 20 - | 30 a:6
+v>= > 10 a:7;b:3 | 20 a:5 | 30 b:4 > 10 :5 | 20 :5 | 30 :5 > same > 10 a:7 | 20 a:5 | 30 -
+s<= > 10 a:7;b:3 | 20 a:5 | 30 b:4 > 10 :5 | 20 :5 | 30 :5 > same > 10 a:7 | 20 a:5 | 30 -
+v>bool > 10 a,x=1:7;b,x=2:3 | 20 a,x=1:5 | 30 a,x=1:nan > 10 :5 | 20 :5 | 30 :5 > same > 10 ,x=1:1;,x=2:0 | 20 ,x=1:0 | 30 ,x=1:0
+s>bool > 10 a,x=1:7;b,x=2:3 | 20 a,x=1:5 | 30 a:1;b:2 > 10 :5 | 20 :5 | 30 :5 > same > 10 ,x=1:0;,x=2:1 | 20 ,x=1:0 | 30 -!S
+s!=bool > 10 a:5 | 20 a:6 | 30 a:nan > 10 :5 | 20 :5 | 30 -!I > same > 10 :0 | 20 :1 | 30 -!I";
+
+fn function(word: &str) -> Option<Element> {
+    match word {
+        "abs" => Some(Element::Abs),
+        "ceil" => Some(Element::Ceil),
+        "floor" => Some(Element::Floor),
+        "round" => Some(Element::Round),
+        "sgn" => Some(Element::Sgn),
+        "minus" => Some(Element::Neg),
+        "clamp" => Some(Element::Clamp),
+        "clamp_min" => Some(Element::ClampMin),
+        "clamp_max" => Some(Element::ClampMax),
+        "hour" => Some(Element::Calendar(CalendarPart::Hour)),
+        _ => None,
+    }
+}
+
+fn arithmetic(word: &str) -> Option<ArithOp> {
+    match word {
+        "+" => Some(ArithOp::Add),
+        "-" => Some(ArithOp::Sub),
+        "*" => Some(ArithOp::Mul),
+        "/" => Some(ArithOp::Div),
+        "%" => Some(ArithOp::Rem),
+        "^" => Some(ArithOp::Pow),
+        _ => None,
+    }
+}
+
+fn comparison(word: &str) -> Option<CompareOp> {
+    match word {
+        "==" => Some(CompareOp::Eq),
+        "!=" => Some(CompareOp::Ne),
+        "<" => Some(CompareOp::Lt),
+        "<=" => Some(CompareOp::Le),
+        ">" => Some(CompareOp::Gt),
+        ">=" => Some(CompareOp::Ge),
+        _ => None,
+    }
+}
+
+fn operator(word: &str) -> Result<PairOp, Fail> {
+    if let Some(op) = arithmetic(word) {
+        return Ok(PairOp::Arith(op));
+    }
+    if let Some(op) = comparison(word) {
+        return Ok(PairOp::Filter(op));
+    }
+    let flag = word.strip_suffix("bool").ok_or("no such rule")?;
+    Ok(PairOp::Flag(comparison(flag).ok_or("no such comparison")?))
+}
+
+fn rule(word: &str) -> Result<ElementRule, Fail> {
+    if let Some(f) = function(word) {
+        return Ok(ElementRule::Apply(f));
+    }
+    let scalar_left = word.starts_with('s');
+    let op = operator(word.trim_start_matches('s').trim_start_matches('v'))?;
+    Ok(ElementRule::WithScalar { op, scalar_left })
+}
+
+/// Up to so many of the first steps of a text, and the rest of it.
+fn front<'a>(
+    alloc: Global,
+    size: usize,
+    text: &'a str,
+) -> Result<(Items<(Ms, Step)>, &'a str), Fail> {
+    let mut steps = Items::new(alloc);
+    let mut rest = text;
+    for _ in 0..size {
+        if rest != "" {
+            let (one, more) = rest.split_once(" | ").unwrap_or((rest, ""));
+            steps.push(step(alloc, one)?)?;
+            rest = more;
+        }
+    }
+    Ok((steps, rest))
+}
+
+fn buffer_of(alloc: Global, steps: &Items<(Ms, Step)>) -> Result<StepBuffer, Fail> {
+    let mut buffer = StepBuffer::new(alloc);
+    for (at, one) in steps.as_slice() {
+        put(&mut buffer, *at, one)?;
+    }
+    Ok(buffer)
+}
+
+fn has_same_steps(a: &StepBuffer, b: &StepBuffer) -> bool {
+    a.lend().len() == b.lend().len()
+}
+
+/// Feeds steps with their scalars, and answers whether what is lent are the wanted ones.
+fn is_made(
+    kernel: &mut ElementRows,
+    rows: &StepBuffer,
+    first: &StepBuffer,
+    second: &StepBuffer,
+    wanted: &Items<(Ms, Step)>,
+) -> Result<bool, Fail> {
+    if !has_same_steps(rows, first) || !has_same_steps(rows, second) {
+        return Err("steps without scalars")?;
+    }
+    if !is_scalar(&first.lend()) || !is_scalar(&second.lend()) {
+        return Err("scalars of several rows")?;
+    }
+    kernel.feed(&rows.lend(), &first.lend(), &second.lend())?;
+    let lent = kernel.lend();
+    let mut i = 0;
+    for (at, one) in wanted.as_slice() {
+        if !is_lent(&lent, i, *at, one) {
+            return Ok(false);
+        }
+        i += 1;
+    }
+    Ok(lent.len() == i)
+}
+
+/// Steps without rows at the instants of others.
+fn blank(alloc: Global, steps: &Items<(Ms, Step)>) -> Result<StepBuffer, Fail> {
+    let mut buffer = StepBuffer::new(alloc);
+    for (at, _) in steps.as_slice() {
+        if !buffer.is_later(*at) {
+            return Err("instants that do not rise")?;
+        }
+        buffer.begin(*at)?;
+    }
+    Ok(buffer)
+}
+
+/// The steps of a scalar, and the rest of the text; where none is taken they have no rows.
+fn scalar<'a>(
+    alloc: Global,
+    size: usize,
+    text: &'a str,
+    rows: &Items<(Ms, Step)>,
+) -> Result<(StepBuffer, &'a str), Fail> {
+    if text == "same" {
+        return Ok((blank(alloc, rows)?, text));
+    }
+    let (steps, rest) = front(alloc, size, text)?;
+    Ok((buffer_of(alloc, &steps)?, rest))
+}
+
+/// What is left of the texts of a line.
+#[derive(Clone, Copy)]
+struct Texts<'a> {
+    rows: &'a str,
+    first: &'a str,
+    second: &'a str,
+    wanted: &'a str,
+}
+
+/// Feeds so many steps, and answers whether what is lent are the wanted ones.
+fn is_fed(
+    alloc: Global,
+    kernel: &mut ElementRows,
+    size: usize,
+    texts: &mut Texts<'_>,
+) -> Result<bool, Fail> {
+    let (rows, more) = front(alloc, size, texts.rows)?;
+    texts.rows = more;
+    let (first, more) = scalar(alloc, size, texts.first, &rows)?;
+    texts.first = more;
+    let (second, more) = scalar(alloc, size, texts.second, &rows)?;
+    texts.second = more;
+    let (wanted, more) = front(alloc, size, texts.wanted)?;
+    texts.wanted = more;
+    is_made(kernel, &buffer_of(alloc, &rows)?, &first, &second, &wanted)
+}
+
+fn parted(line: &str) -> Result<(&str, Texts<'_>), Fail> {
+    let mut words = line.split(" > ");
+    let rule = words.next().ok_or("no rule")?;
+    let texts = Texts {
+        rows: words.next().ok_or("no steps")?,
+        first: words.next().ok_or("no first scalar")?,
+        second: words.next().ok_or("no second scalar")?,
+        wanted: words.next().ok_or("no lent steps")?,
+    };
+    Ok((rule, texts))
+}
+
+fn holds(alloc: Global, size: usize, line: &str) -> Result<bool, Fail> {
+    let (word, mut left) = parted(line)?;
+    let mut kernel = ElementRows::new(alloc, rule(word)?)?;
+    for _ in 0..3 {
+        if left.rows != "" && !is_fed(alloc, &mut kernel, size, &mut left)? {
+            return Ok(false);
+        }
+    }
+    Ok(left.rows == "" && left.wanted == "")
+}
+
+/// The first line that doesn't hold in batches of so many steps.
+fn line_that_differs(alloc: Global, size: usize) -> Result<&'static str, Fail> {
+    for line in LINES.split('\n') {
+        if !holds(alloc, size, line)? {
+            return Ok(line);
+        }
+    }
+    Ok("none")
+}
+
+#[test]
+fn element_kernels_make_steps_in_turn(rt: HostRuntime) -> Result<(), Fail> {
+    assert_eq!(rt; line_that_differs(rt.alloc(), 1)?, "none");
+    Ok(())
+}
+
+#[test]
+fn element_kernels_make_three_steps_at_once(rt: HostRuntime) -> Result<(), Fail> {
+    assert_eq!(rt; line_that_differs(rt.alloc(), 3)?, "none");
+    Ok(())
+}
