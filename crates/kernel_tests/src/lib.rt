@@ -6,4 +6,6 @@ mod batches;
 #[cfg(test)]
 mod elements;
 #[cfg(test)]
+mod small;
+#[cfg(test)]
 mod written;
