@@ -4,8 +4,16 @@
 #[cfg(test)]
 mod batches;
 #[cfg(test)]
+mod conditions;
+#[cfg(test)]
 mod elements;
 #[cfg(test)]
+mod select;
+#[cfg(test)]
 mod small;
+#[cfg(test)]
+mod stores;
+#[cfg(test)]
+mod windows;
 #[cfg(test)]
 mod written;

@@ -1,0 +1,12 @@
+use Rattle.std.proofs.Common.{◌≡◌, take}
+use Rattle.std.specs.Prelude.{map}
+use Rattle.std.specs.List.{filter_map}
+use Rattle.op_window.specs.Rules.{note_in, outcome_in}
+use Rattle.op_window.proofs.WindowRowsMade.{row_at}
+use Rattle.op_window.proofs.made.made_of_series.Given as goal
+
+abbrev pub invariant-loop-i : goal.invariant-loop-i
+invariant-loop-i l = record {
+  outcomes : l.made.outcomes ≡ map (outcome_in l.f l.frame l.arg) (filter_map (row_at l.closed l.frame l.store) (take l.i l.series));
+  notes : l.made.notes ≡ filter_map (note_in l.f l.frame l.arg) (filter_map (row_at l.closed l.frame l.store) (take l.i l.series));
+}

@@ -1,0 +1,78 @@
+use Rattle.std.proofs.Common.{◌≡◌, ◌∙◌, ◌+◌, ◌<◌, drop, length, sym, ap, subst, arith}
+use Rattle.std.specs.Prelude.{pos, slice_index_or}
+use Rattle.series_marks.specs.Reaches.{Follow, reach, reach_all}
+use Rattle.series_marks.specs.Reads.{Reached}
+use Rattle.series_marks.specs.Walked.{all_rise}
+use Rattle.ticks.specs.declared.moment.Ms.{Ms}
+use Rattle.op_window.specs.Rules.{windowed_at, windows_of_series}
+use Rattle.op_window.proofs.Instants.{edge_same, follow_at, instants_at, reach_at, reach_same, reads_left_in, reads_next, reads_stay, searches_left_in, searches_next, searches_stay, walked_same}
+use Rattle.op_window.proofs.Stages.{series_all, series_next_at}
+use Rattle.op_window.proofs.rows.WindowRows.feed_store.Goals as goal
+
+abbrev none : Ms
+none = record { 0 = pos 0 }
+
+pub returns-in_err-scalar-clause-fetched : goal.returns-in_err-scalar-clause-fetched
+returns-in_err-scalar-clause-fetched g c =
+    let k = c.args.self.now in
+    let i = c.loop-i.invariant in
+    reads_stay k.range.0 c.args.store.now k.series k.reached c.loop-i.self.reached (reach_all k.range.0 k.reached k.moment c.args.at.now) k.moment (drop c.loop-i.i c.args.at.now) c.loop-i.work.fetched c.args.work.now.fetched i.follow i.reached i.fetched
+
+pub returns-in_err-scalar-clause-probed : goal.returns-in_err-scalar-clause-probed
+returns-in_err-scalar-clause-probed g c =
+    let k = c.args.self.now in
+    let i = c.loop-i.invariant in
+    searches_stay k.range.0 k.series k.reached c.loop-i.self.reached (reach_all k.range.0 k.reached k.moment c.args.at.now) k.moment (drop c.loop-i.i c.args.at.now) c.loop-i.work.probed c.args.work.now.probed i.reached i.probed
+
+pub step-requires-clause-rises : goal.step-requires-clause-rises
+step-requires-clause-rises g c = all_rise c.args.store.now c.series.ensures.rising
+
+pub returns-in_err-step-clause-fetched : goal.returns-in_err-step-clause-fetched
+returns-in_err-step-clause-fetched g c =
+    let k = c.args.self.now in
+    let i = c.loop-i.invariant in
+    let l = c.loop-i.self in
+    reads_left_in k.range l.range c.args.store.now k.series l.series k.reached l.reached (reach_all k.range.0 k.reached k.moment c.args.at.now) k.moment l.moment c.args.at.now c.loop-i.i none c.step.new.work.fetched c.loop-i.work.fetched c.args.work.now.fetched
+    i.range i.series i.moment c.loop-i-test.true i.follow i.reached i.fetched c.step.ensures.fetched
+
+pub returns-in_err-step-clause-probed : goal.returns-in_err-step-clause-probed
+returns-in_err-step-clause-probed g c =
+    let k = c.args.self.now in
+    let i = c.loop-i.invariant in
+    let l = c.loop-i.self in
+    searches_left_in k.range l.range k.series l.series k.reached l.reached (reach_all k.range.0 k.reached k.moment c.args.at.now) k.moment l.moment c.args.at.now c.loop-i.i none c.step.new.work.probed c.loop-i.work.probed c.args.work.now.probed
+    i.range i.series i.moment c.loop-i-test.true i.reached i.probed c.step.ensures.probed
+
+pub loop-i-preserved : goal.loop-i-preserved
+loop-i-preserved g c =
+    let k = c.args.self.now in
+    let i = c.loop-i.invariant in
+    let l = c.loop-i.self in
+    let n = c.loop-i.i in
+    let at = c.args.at.now in
+    let store = c.args.store.now in
+    let s = c.in_ok-step.ensures in
+    let more = c.loop-i-test.true in
+    let t : Ms = slice_index_or at n none in
+    let new = c.step.new.self in
+    let on : new.reached ≡ reach k.range.0 l.reached k.moment t = s.reached ∙ reach_same k.range l.range l.reached k.moment l.moment t i.range i.moment in
+    record {
+      series = s.series ∙ i.series;
+      f = s.f ∙ i.f;
+      moment = s.moment ∙ i.moment;
+      range = s.range ∙ i.range;
+      reached = ap (λ (r : Reached). reach_all k.range.0 r k.moment (drop (n + 1) at)) on ∙ reach_at k.range.0 l.reached k.moment at n none more ∙ i.reached;
+      walked = s.walked ∙ walked_same k.range l.range k.moment l.moment new.reached store k.series l.series i.range i.moment i.series;
+      edge = edge_same k.range l.range k.moment l.moment new.reached i.range i.moment s.edge;
+      follow = subst (λ (r : Reached). Follow k.range.0 r k.moment (drop (n + 1) at)) (sym on) (follow_at k.range.0 l.reached k.moment at n none more i.follow);
+      instants = instants_at l.buffer new.buffer at n none more i.instants s.later;
+      lent = series_next_at k.f l.f store k.series l.series k.moment l.moment k.range l.range at c.args.arg.now n none c.in_ok-scalar.scalar _ _ i.f i.series i.moment i.range c.requires.scalars (let h : n < length at = more in omega arith) c.in_ok-scalar.ensures i.lent s.lent;
+      fetched = reads_next store k.series l.series k.reached l.reached new.reached (reach l.range.0 l.reached l.moment t) c.step.new.work.fetched c.loop-i.work.fetched c.args.work.now.fetched i.series s.reached i.fetched c.step.ensures.fetched;
+      probed = searches_next k.series l.series k.reached l.reached new.reached (reach l.range.0 l.reached l.moment t) c.step.new.work.probed c.loop-i.work.probed c.args.work.now.probed i.series s.reached i.probed c.step.ensures.probed;
+      tested = c.step.ensures.tested ∙ i.tested;
+    }
+
+pub returns-clause-lent : goal.returns-clause-lent
+returns-clause-lent g c =
+    let k = c.args.self.now in
+    series_all k.f (windowed_at k.f (windows_of_series c.args.store.now k.series k.moment k.range)) c.args.at.now c.args.arg.now c.loop-i.i _ c.requires.scalars c.loop-i-test.false c.loop-i.invariant.lent
