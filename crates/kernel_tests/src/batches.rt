@@ -1,9 +1,9 @@
 //! Steps as texts: an instant, rows and marks, parted by a blank; steps are parted by ` | `.
 use crate::written::{mark, row};
-use label_set::Items;
+use label_set::{Items, Labels};
 use std::alloc::Global;
 use std::test::Fail;
-use step_batch::{Batch, StepBuffer};
+use step_batch::{Batch, Slot, StepBuffer};
 use step_table::{Marks, Row, Step, Table};
 use ticks::Ms;
 
@@ -69,9 +69,9 @@ pub fn put(buffer: &mut StepBuffer, at: Ms, step: &Step) -> Result<(), Fail> {
     Ok(())
 }
 
-fn value_at(batch: &Batch<'_>, i: usize, row: &Row) -> bool {
-    for slot in batch.slots(i) {
-        let labels = batch.labels();
+/// Whether slots have this row.
+fn has_row(labels: &[Labels], slots: &[Slot], row: &Row) -> bool {
+    for slot in slots {
         if slot.place < labels.len() && labels[slot.place].is_same(&row.labels) {
             return slot.value == row.value;
         }
@@ -84,11 +84,14 @@ pub fn is_lent(batch: &Batch<'_>, i: usize, at: Ms, step: &Step) -> bool {
     if i >= batch.len() || batch.at(i).0 != at.0 || !batch.marks(i).is_same(&step.marks) {
         return false;
     }
-    let rows = step.table.rows.as_slice();
+    has_rows(batch.labels(), batch.slots(i), step.table.rows.as_slice())
+}
+
+fn has_rows(labels: &[Labels], slots: &[Slot], rows: &[Row]) -> bool {
     for row in rows {
-        if !value_at(batch, i, row) {
+        if !has_row(labels, slots, row) {
             return false;
         }
     }
-    batch.slots(i).len() == rows.len()
+    slots.len() == rows.len()
 }

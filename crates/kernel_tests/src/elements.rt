@@ -111,27 +111,26 @@ fn rule(word: &str) -> Result<ElementRule, Fail> {
     Ok(ElementRule::WithScalar { op, scalar_left })
 }
 
-/// Up to so many of the first steps of a text, and the rest of it.
-fn front<'a>(
-    alloc: Global,
-    size: usize,
-    text: &'a str,
-) -> Result<(Items<(Ms, Step)>, &'a str), Fail> {
+/// The steps of a text; `same` has none.
+fn steps(alloc: Global, text: &str) -> Result<Items<(Ms, Step)>, Fail> {
     let mut steps = Items::new(alloc);
-    let mut rest = text;
-    for _ in 0..size {
-        if rest != "" {
-            let (one, more) = rest.split_once(" | ").unwrap_or((rest, ""));
-            steps.push(step(alloc, one)?)?;
-            rest = more;
-        }
+    if text == "same" {
+        return Ok(steps);
     }
-    Ok((steps, rest))
+    for one in text.split(" | ") {
+        steps.push(step(alloc, one)?)?;
+    }
+    Ok(steps)
 }
 
-fn buffer_of(alloc: Global, steps: &Items<(Ms, Step)>) -> Result<StepBuffer, Fail> {
+/// Up to so many of the first steps, and the others.
+fn front(steps: &[(Ms, Step)], size: usize) -> (&[(Ms, Step)], &[(Ms, Step)]) {
+    steps.split_at(size.min(steps.len()))
+}
+
+fn buffer_of(alloc: Global, steps: &[(Ms, Step)]) -> Result<StepBuffer, Fail> {
     let mut buffer = StepBuffer::new(alloc);
-    for (at, one) in steps.as_slice() {
+    for (at, one) in steps {
         put(&mut buffer, *at, one)?;
     }
     Ok(buffer)
@@ -147,7 +146,7 @@ fn is_made(
     rows: &StepBuffer,
     first: &StepBuffer,
     second: &StepBuffer,
-    wanted: &Items<(Ms, Step)>,
+    wanted: &[(Ms, Step)],
 ) -> Result<bool, Fail> {
     if !has_same_steps(rows, first) || !has_same_steps(rows, second) {
         return Err("steps without scalars")?;
@@ -158,7 +157,7 @@ fn is_made(
     kernel.feed(&rows.lend(), &first.lend(), &second.lend())?;
     let lent = kernel.lend();
     let mut i = 0;
-    for (at, one) in wanted.as_slice() {
+    for (at, one) in wanted {
         if !is_lent(&lent, i, *at, one) {
             return Ok(false);
         }
@@ -168,9 +167,9 @@ fn is_made(
 }
 
 /// Steps without rows at the instants of others.
-fn blank(alloc: Global, steps: &Items<(Ms, Step)>) -> Result<StepBuffer, Fail> {
+fn blank(alloc: Global, steps: &[(Ms, Step)]) -> Result<StepBuffer, Fail> {
     let mut buffer = StepBuffer::new(alloc);
-    for (at, _) in steps.as_slice() {
+    for (at, _) in steps {
         if !buffer.is_later(*at) {
             return Err("instants that do not rise")?;
         }
@@ -179,68 +178,73 @@ fn blank(alloc: Global, steps: &Items<(Ms, Step)>) -> Result<StepBuffer, Fail> {
     Ok(buffer)
 }
 
-/// The steps of a scalar, and the rest of the text; where none is taken they have no rows.
-fn scalar<'a>(
-    alloc: Global,
-    size: usize,
-    text: &'a str,
-    rows: &Items<(Ms, Step)>,
-) -> Result<(StepBuffer, &'a str), Fail> {
-    if text == "same" {
-        return Ok((blank(alloc, rows)?, text));
+/// The steps of a scalar beside those of rows; where none is taken they have no rows.
+fn scalar(alloc: Global, steps: &[(Ms, Step)], rows: &[(Ms, Step)]) -> Result<StepBuffer, Fail> {
+    if steps.is_empty() {
+        blank(alloc, rows)
+    } else {
+        buffer_of(alloc, steps)
     }
-    let (steps, rest) = front(alloc, size, text)?;
-    Ok((buffer_of(alloc, &steps)?, rest))
 }
 
-/// What is left of the texts of a line.
-#[derive(Clone, Copy)]
-struct Texts<'a> {
-    rows: &'a str,
-    first: &'a str,
-    second: &'a str,
-    wanted: &'a str,
-}
-
-/// Feeds so many steps, and answers whether what is lent are the wanted ones.
+/// Feeds steps, and answers whether what is lent are the wanted ones.
 fn is_fed(
     alloc: Global,
     kernel: &mut ElementRows,
-    size: usize,
-    texts: &mut Texts<'_>,
+    rows: &[(Ms, Step)],
+    first: &[(Ms, Step)],
+    second: &[(Ms, Step)],
+    wanted: &[(Ms, Step)],
 ) -> Result<bool, Fail> {
-    let (rows, more) = front(alloc, size, texts.rows)?;
-    texts.rows = more;
-    let (first, more) = scalar(alloc, size, texts.first, &rows)?;
-    texts.first = more;
-    let (second, more) = scalar(alloc, size, texts.second, &rows)?;
-    texts.second = more;
-    let (wanted, more) = front(alloc, size, texts.wanted)?;
-    texts.wanted = more;
-    is_made(kernel, &buffer_of(alloc, &rows)?, &first, &second, &wanted)
+    let first = scalar(alloc, first, rows)?;
+    let second = scalar(alloc, second, rows)?;
+    is_made(kernel, &buffer_of(alloc, rows)?, &first, &second, wanted)
 }
 
-fn parted(line: &str) -> Result<(&str, Texts<'_>), Fail> {
-    let mut words = line.split(" > ");
-    let rule = words.next().ok_or("no rule")?;
-    let texts = Texts {
-        rows: words.next().ok_or("no steps")?,
-        first: words.next().ok_or("no first scalar")?,
-        second: words.next().ok_or("no second scalar")?,
-        wanted: words.next().ok_or("no lent steps")?,
-    };
-    Ok((rule, texts))
+/// Feeds so many steps at once, three times.
+fn are_fed(
+    alloc: Global,
+    kernel: &mut ElementRows,
+    size: usize,
+    rows: &[(Ms, Step)],
+    first: &[(Ms, Step)],
+    second: &[(Ms, Step)],
+    wanted: &[(Ms, Step)],
+) -> Result<bool, Fail> {
+    let (mut rows, mut first, mut second, mut wanted) = (rows, first, second, wanted);
+    for _ in 0..3 {
+        let (r, more_rows) = front(rows, size);
+        let (f, more_first) = front(first, size);
+        let (s, more_second) = front(second, size);
+        let (w, more_wanted) = front(wanted, size);
+        if !is_fed(alloc, kernel, r, f, s, w)? {
+            return Ok(false);
+        }
+        rows = more_rows;
+        first = more_first;
+        second = more_second;
+        wanted = more_wanted;
+    }
+    Ok(rows.is_empty() && wanted.is_empty())
 }
 
 fn holds(alloc: Global, size: usize, line: &str) -> Result<bool, Fail> {
-    let (word, mut left) = parted(line)?;
+    let mut words = line.split(" > ");
+    let word = words.next().ok_or("no rule")?;
+    let rows = steps(alloc, words.next().ok_or("no steps")?)?;
+    let first = steps(alloc, words.next().ok_or("no first scalar")?)?;
+    let second = steps(alloc, words.next().ok_or("no second scalar")?)?;
+    let wanted = steps(alloc, words.next().ok_or("no lent steps")?)?;
     let mut kernel = ElementRows::new(alloc, rule(word)?)?;
-    for _ in 0..3 {
-        if left.rows != "" && !is_fed(alloc, &mut kernel, size, &mut left)? {
-            return Ok(false);
-        }
-    }
-    Ok(left.rows == "" && left.wanted == "")
+    are_fed(
+        alloc,
+        &mut kernel,
+        size,
+        rows.as_slice(),
+        first.as_slice(),
+        second.as_slice(),
+        wanted.as_slice(),
+    )
 }
 
 /// The first line that doesn't hold in batches of so many steps.
