@@ -95,3 +95,41 @@ fn has_rows(labels: &[Labels], slots: &[Slot], rows: &[Row]) -> bool {
     }
     slots.len() == rows.len()
 }
+
+/// The steps of a text; `same` has none.
+pub fn steps(alloc: Global, text: &str) -> Result<Items<(Ms, Step)>, Fail> {
+    let mut steps = Items::new(alloc);
+    if text == "same" {
+        return Ok(steps);
+    }
+    for one in text.split(" | ") {
+        steps.push(step(alloc, one)?)?;
+    }
+    Ok(steps)
+}
+
+/// Up to so many of the first steps, and the others.
+pub fn front(steps: &[(Ms, Step)], size: usize) -> (&[(Ms, Step)], &[(Ms, Step)]) {
+    steps.split_at(size.min(steps.len()))
+}
+
+/// The steps that a buffer lends.
+pub fn buffer_of(alloc: Global, steps: &[(Ms, Step)]) -> Result<StepBuffer, Fail> {
+    let mut buffer = StepBuffer::new(alloc);
+    for (at, one) in steps {
+        put(&mut buffer, *at, one)?;
+    }
+    Ok(buffer)
+}
+
+/// Whether the steps that are lent are these.
+pub fn are_lent(lent: &Batch<'_>, wanted: &[(Ms, Step)]) -> bool {
+    let mut i = 0;
+    for (at, one) in wanted {
+        if !is_lent(lent, i, *at, one) {
+            return false;
+        }
+        i += 1;
+    }
+    lent.len() == i
+}

@@ -1,6 +1,5 @@
-use crate::batches::{is_lent, put, step};
+use crate::batches::{are_lent, buffer_of, front, steps};
 use func_table::{CalendarPart, Element};
-use label_set::Items;
 use op_element::{ElementRows, ElementRule, is_scalar};
 use std::alloc::Global;
 use std::test::Fail;
@@ -111,31 +110,6 @@ fn rule(word: &str) -> Result<ElementRule, Fail> {
     Ok(ElementRule::WithScalar { op, scalar_left })
 }
 
-/// The steps of a text; `same` has none.
-fn steps(alloc: Global, text: &str) -> Result<Items<(Ms, Step)>, Fail> {
-    let mut steps = Items::new(alloc);
-    if text == "same" {
-        return Ok(steps);
-    }
-    for one in text.split(" | ") {
-        steps.push(step(alloc, one)?)?;
-    }
-    Ok(steps)
-}
-
-/// Up to so many of the first steps, and the others.
-fn front(steps: &[(Ms, Step)], size: usize) -> (&[(Ms, Step)], &[(Ms, Step)]) {
-    steps.split_at(size.min(steps.len()))
-}
-
-fn buffer_of(alloc: Global, steps: &[(Ms, Step)]) -> Result<StepBuffer, Fail> {
-    let mut buffer = StepBuffer::new(alloc);
-    for (at, one) in steps {
-        put(&mut buffer, *at, one)?;
-    }
-    Ok(buffer)
-}
-
 fn has_same_steps(a: &StepBuffer, b: &StepBuffer) -> bool {
     a.lend().len() == b.lend().len()
 }
@@ -155,15 +129,7 @@ fn is_made(
         return Err("scalars of several rows")?;
     }
     kernel.feed(&rows.lend(), &first.lend(), &second.lend())?;
-    let lent = kernel.lend();
-    let mut i = 0;
-    for (at, one) in wanted {
-        if !is_lent(&lent, i, *at, one) {
-            return Ok(false);
-        }
-        i += 1;
-    }
-    Ok(lent.len() == i)
+    Ok(are_lent(&kernel.lend(), wanted))
 }
 
 /// Steps without rows at the instants of others.

@@ -1,10 +1,14 @@
-use crate::batches::{is_lent, put, step};
+ghost use Rattle.std.specs.Prelude.{IsTrue};
+ghost use Rattle.step_batch.specs.LentWindows.{TimesRise};
+
+use crate::batches::{are_lent, buffer_of, front, steps};
+use crate::conditions::rise;
 use crate::written::{labels, value};
 use label_set::Items;
 use op_small::{Small, SmallRule};
 use std::alloc::Global;
 use std::test::Fail;
-use step_batch::StepBuffer;
+use step_table::Step;
 use ticks::Ms;
 
 // Each line is a rule, steps that are fed, and steps that are lent. A row is its metric's name and its labels, and a value behind
@@ -28,76 +32,80 @@ beyond > 10 - | 20 a:1 > 10 -!O | 20 -";
 
 fn rule(alloc: Global, word: &str) -> Result<SmallRule, Fail> {
     let (name, given) = word.split_once(':').unwrap_or((word, ""));
-    if name == "number" {
-        return Ok(SmallRule::Number(value(given)?));
+    match name {
+        "number" => Ok(SmallRule::Number(value(given)?)),
+        "time" => Ok(SmallRule::Time),
+        "own" => Ok(SmallRule::Stamp { own: true }),
+        "instant" => Ok(SmallRule::Stamp { own: false }),
+        "scalar" => Ok(SmallRule::Scalar),
+        "vector" => Ok(SmallRule::Vector),
+        "beyond" => Ok(SmallRule::Absent(None)),
+        "absent" => Ok(SmallRule::Absent(Some(labels(alloc, given)?))),
+        _ => Err("no such rule")?,
     }
-    if name == "time" {
-        return Ok(SmallRule::Time);
-    }
-    if name == "own" || name == "instant" {
-        return Ok(SmallRule::Stamp { own: name == "own" });
-    }
-    if name == "scalar" {
-        return Ok(SmallRule::Scalar);
-    }
-    if name == "vector" {
-        return Ok(SmallRule::Vector);
-    }
-    if name == "beyond" {
-        return Ok(SmallRule::Absent(None));
-    }
-    Ok(SmallRule::Absent(Some(labels(alloc, given)?)))
 }
 
-/// Feeds up to so many of the first steps, answers whether what is lent are as many of the wanted ones, and what is left.
-fn is_fed<'a>(
+/// The instants of steps.
+fn instants(alloc: Global, steps: &[(Ms, Step)]) -> Result<Items<Ms>, Fail> {
+    let mut at = Items::new(alloc);
+    for (t, _) in steps {
+        at.push(*t)?;
+    }
+    Ok(at)
+}
+
+/// Whether instants rise.
+#[tactic(auto, using(crate::proofs::Follows::rise_rises))]
+fn do_rise(at: &[Ms]) -> bool
+    ensures { IsTrue result → TimesRise at.now }
+{
+    rise(at)
+}
+
+/// Feeds steps, and answers whether what is lent are the wanted ones.
+fn is_fed(
+    alloc: Global,
+    kernel: &mut Small,
+    fed: &[(Ms, Step)],
+    wanted: &[(Ms, Step)],
+) -> Result<bool, Fail> {
+    let buffer = buffer_of(alloc, fed)?;
+    let at = instants(alloc, fed)?;
+    if !do_rise(at.as_slice()) {
+        return Err("instants that do not rise")?;
+    }
+    kernel.feed(at.as_slice(), &buffer.lend())?;
+    Ok(are_lent(&kernel.lend(), wanted))
+}
+
+/// Feeds so many steps at once, three times.
+fn are_fed(
     alloc: Global,
     kernel: &mut Small,
     size: usize,
-    fed: &'a str,
-    wanted: &'a str,
-) -> Result<(bool, &'a str, &'a str), Fail> {
-    let mut buffer = StepBuffer::new(alloc);
-    let mut at = Items::new(alloc);
+    fed: &[(Ms, Step)],
+    wanted: &[(Ms, Step)],
+) -> Result<bool, Fail> {
     let (mut fed, mut wanted) = (fed, wanted);
-    let mut expected = Items::new(alloc);
-    for _ in 0..size {
-        if fed != "" {
-            let (text, rest) = fed.split_once(" | ").unwrap_or((fed, ""));
-            let (t, one) = step(alloc, text)?;
-            put(&mut buffer, t, &one)?;
-            at.push(t)?;
-            fed = rest;
-            let (text, rest) = wanted.split_once(" | ").unwrap_or((wanted, ""));
-            expected.push(step(alloc, text)?)?;
-            wanted = rest;
+    for _ in 0..3 {
+        let (some, more_fed) = front(fed, size);
+        let (made, more_wanted) = front(wanted, size);
+        if !is_fed(alloc, kernel, some, made)? {
+            return Ok(false);
         }
+        fed = more_fed;
+        wanted = more_wanted;
     }
-    kernel.feed(at.as_slice(), &buffer.lend())?;
-    let lent = kernel.lend();
-    let mut i = 0;
-    for (t, one) in expected.as_slice() {
-        if !is_lent(&lent, i, *t, one) {
-            return Ok((false, fed, wanted));
-        }
-        i += 1;
-    }
-    Ok((lent.len() == i, fed, wanted))
+    Ok(fed.is_empty() && wanted.is_empty())
 }
 
 fn holds(alloc: Global, size: usize, line: &str) -> Result<bool, Fail> {
     let (word, rest) = line.split_once(" > ").ok_or("no steps")?;
-    let (mut fed, mut wanted) = rest.split_once(" > ").ok_or("no lent steps")?;
+    let (fed, wanted) = rest.split_once(" > ").ok_or("no lent steps")?;
+    let fed = steps(alloc, fed)?;
+    let wanted = steps(alloc, wanted)?;
     let mut kernel = Small::new(alloc, rule(alloc, word)?)?;
-    while fed != "" {
-        let (same, more, left) = is_fed(alloc, &mut kernel, size, fed, wanted)?;
-        if !same {
-            return Ok(false);
-        }
-        fed = more;
-        wanted = left;
-    }
-    Ok(true)
+    are_fed(alloc, &mut kernel, size, fed.as_slice(), wanted.as_slice())
 }
 
 /// The first line that doesn't hold in batches of so many steps.
