@@ -1,2 +1,1 @@
 pub mod Lents
-pub mod OneRow

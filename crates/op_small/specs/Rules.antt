@@ -1,5 +1,5 @@
 -- What a small kernel makes of the steps that it is fed.
-use Rattle.std.specs.Prelude.{ℤ, Bool, true, false, List, [], ◌∷◌, map, Option, None, Some, Result, Ok, Err}
+use Rattle.std.specs.Prelude.{ℤ, Bool, true, false, List, [], ◌∷◌, map, Option, None, Some, Result, Ok, Err, if◌then◌else◌}
 use Rattle.promql_meaning.specs.Absences.{absence_under}
 use Rattle.promql_meaning.specs.Elements.{instant_outcome, nameless, row_by_row, seconds_of, time_step}
 use Rattle.promql_meaning.specs.Givens.{barren, no_marks, scalar_step}
@@ -16,8 +16,10 @@ use Rattle.xfrac.specs.declared.value.NumFault.{NumFault}
 use Rattle.xfrac.specs.declared.value.NumFault.TheVariants.{Overflow}
 use Rattle.xfrac.specs.declared.value.XFrac.{XFrac}
 use Rattle.xfrac.specs.declared.value.XFrac.TheVariants.{NaN}
-use Rattle.op_small.specs.declared.small.SmallRule.{SmallRule}
-use Rattle.op_small.specs.declared.small.SmallRule.TheVariants.{Number, Time, Stamp, Scalar, Vector, Absent}
+use Rattle.step_put.specs.Placed.{left}
+use Rattle.step_put.specs.declared.placed.PlacedOutcome.{PlacedOutcome}
+use Rattle.op_small.specs.declared.rule.SmallRule.{SmallRule}
+use Rattle.op_small.specs.declared.rule.SmallRule.TheVariants.{Number, Time, Stamp, Scalar, Vector, Absent}
 
 -- of a row whose value is its sample's own time in seconds that value, of any other the instant, both without the name
 abbrev pub stamp : Bool → ℤ → Row → Outcome
@@ -80,3 +82,25 @@ abbrev pub absent_value : Option Names → List Slot → Result (Option XFrac) N
 absent_value (Some names) [] = Ok (Some (whole_number 1))
 absent_value None [] = Err Overflow
 absent_value under (slot ∷ slots) = Ok None
+
+-- ---- a row of each row
+
+-- whether the rows that a rule makes lose the names of those that they are made of
+abbrev pub drops_names : SmallRule → Bool
+drops_names (Stamp own) = true
+drops_names _ = false
+
+-- a row's value, or the instant in seconds
+abbrev pub value_of : Bool → ℤ → XFrac → Result (Option XFrac) NumFault
+value_of own t value = if own then Ok (Some value) else seconds_of t
+
+-- what is made of a slot
+abbrev pub each_of : Bool → ℤ → Slot → PlacedOutcome
+each_of own t slot = record { place = slot.place; value = value_of own t slot.value }
+
+-- the same of a row, which may lose its name
+abbrev pub each : Bool → Bool → ℤ → Row → Outcome
+each drops own t row = record { labels = left drops row.labels; value = value_of own t row.value }
+
+abbrev pub each_at : Bool → Bool → StepAt → StepAt
+each_at drops own s = record { at = s.at; step = row_by_row (each drops own s.at.0) s.step }

@@ -3,8 +3,9 @@
 #![tactic(auto)]
 
 mod ones;
-mod outcome;
 mod rows;
+mod rule;
 mod small;
 
-pub use small::{Small, SmallRule};
+pub use rule::SmallRule;
+pub use small::Small;

@@ -1,37 +1,41 @@
 //! Rules that make one row at most, under labels of their own.
 ghost use Rattle.op_small.specs.Rules.{absent_value as value_under, bare, names_under, rule_of, small_at, value_at as number_at, value_of_slots};
-ghost use Rattle.op_small.specs.declared.small.SmallRule.TheVariants.{Absent, Scalar};
-ghost use Rattle.std.specs.Prelude.{◌≡◌, [], Some, map, slice_get, IfOk, OnOk};
+ghost use Rattle.op_small.specs.declared.rule.SmallRule.TheVariants.{Absent, Scalar};
+ghost use Rattle.std.specs.Prelude.{◌≡◌, ◌∷◌, [], false, map, OnOk};
 ghost use Rattle.step_batch.specs.Lent.{stages};
 ghost use Rattle.step_batch.specs.LentWindows.{TimesRise};
 
-use crate::outcome::put_one;
 use label_set::Labels;
 use promql_meaning::no_marks;
 use std::alloc::{AllocError, Global};
+use std::slice;
 use step_batch::laws::lent_steps_are_tables;
-use step_batch::{Batch, Slot, StepBuffer};
+use step_batch::{Batch, Slot};
+use step_put::{OutcomeBuffer, PlacedOutcome};
 use step_rules::seconds_of;
+use step_table::laws::steps_are_well_formed;
 use ticks::Ms;
 use xfrac::{NumFault, XFrac, whole};
 
 /// Puts a number at each instant, or where there is none the instant in seconds.
 pub(crate) fn put_instants(
     alloc: Global,
-    buffer: &mut StepBuffer,
+    buffer: &mut OutcomeBuffer,
     number: &Option<XFrac>,
     at: &[Ms],
 ) -> Result<(), AllocError>
     requires rising { TimesRise at.now }
-    requires empty { buffer.old.steps ≡ [] }
-    ensures { OnOk result (stages buffer.new ≡ map (small_at (rule_of number.now)) (bare at.now)) }
+    requires drops { buffer.old.drops ≡ false }
+    ensures drops { buffer.new.drops ≡ buffer.old.drops }
+    ensures lent { OnOk result (stages buffer.new.lent ≡ map (small_at (rule_of number.now)) (bare at.now)) }
 {
+    steps_are_well_formed();
     let none = Labels::empty(alloc);
-    let place = buffer.place(&none)?;
+    buffer.begin_feed(slice::from_ref(&none))?;
     let marks = no_marks(alloc);
     for t in at {
         let value = value_at(number, *t);
-        put_one(alloc, buffer, *t, place, value, &marks)?;
+        buffer.put(*t, &marks, &[PlacedOutcome { place: 0, value }])?;
     }
     Ok(())
 }
@@ -48,19 +52,21 @@ fn value_at(number: &Option<XFrac>, t: Ms) -> Result<Option<XFrac>, NumFault>
 /// Puts of each step the value of its one row, else NaN, as a scalar.
 pub(crate) fn put_scalars(
     alloc: Global,
-    buffer: &mut StepBuffer,
+    buffer: &mut OutcomeBuffer,
     rows: &Batch<'_>,
 ) -> Result<(), AllocError>
-    requires { buffer.old.steps ≡ [] }
-    ensures { OnOk result (stages buffer.new ≡ map (small_at Scalar) (stages rows.now)) }
+    requires { buffer.old.drops ≡ false }
+    ensures drops { buffer.new.drops ≡ buffer.old.drops }
+    ensures lent { OnOk result (stages buffer.new.lent ≡ map (small_at Scalar) (stages rows.now)) }
 {
+    steps_are_well_formed();
     lent_steps_are_tables();
     let none = Labels::empty(alloc);
-    let place = buffer.place(&none)?;
+    buffer.begin_feed(slice::from_ref(&none))?;
     for i in 0..rows.len() {
         let t = rows.at(i);
-        let value = value_of_one(rows.slots(i));
-        put_one(alloc, buffer, t, place, Ok(Some(value)), rows.marks(i))?;
+        let value = Ok(Some(value_of_one(rows.slots(i))));
+        buffer.put(t, rows.marks(i), &[PlacedOutcome { place: 0, value }])?;
     }
     Ok(())
 }
@@ -77,37 +83,40 @@ fn value_of_one(slots: &[Slot]) -> XFrac
 /// Puts of each step one row 1 where it has none.
 pub(crate) fn put_absences(
     alloc: Global,
-    buffer: &mut StepBuffer,
+    buffer: &mut OutcomeBuffer,
     under: &Option<Labels>,
     rows: &Batch<'_>,
 ) -> Result<(), AllocError>
-    requires { buffer.old.steps ≡ [] }
-    ensures { OnOk result (stages buffer.new ≡ map (small_at (Absent under.now)) (stages rows.now)) }
+    requires { buffer.old.drops ≡ false }
+    ensures drops { buffer.new.drops ≡ buffer.old.drops }
+    ensures lent { OnOk result (stages buffer.new.lent ≡ map (small_at (Absent under.now)) (stages rows.now)) }
 {
+    steps_are_well_formed();
     lent_steps_are_tables();
-    let place = place_under(alloc, buffer, under)?;
+    begin_under(alloc, buffer, under)?;
     for i in 0..rows.len() {
         let t = rows.at(i);
         let value = absent_value(under, rows.slots(i));
-        put_one(alloc, buffer, t, place, value, rows.marks(i))?;
+        buffer.put(t, rows.marks(i), &[PlacedOutcome { place: 0, value }])?;
     }
     Ok(())
 }
 
-/// The place of the labels of what is absent; where there are none that of no labels.
-fn place_under(
+/// Takes all steps out; the labels of what is absent are those of the row to come.
+fn begin_under(
     alloc: Global,
-    buffer: &mut StepBuffer,
+    buffer: &mut OutcomeBuffer,
     under: &Option<Labels>,
-) -> Result<usize, AllocError>
-    ensures place { IfOk result (λ i. slice_get buffer.new.labels i ≡ Some (names_under under.now)) }
-    ensures steps { buffer.new.steps ≡ buffer.old.steps }
+) -> Result<(), AllocError>
+    ensures drops { buffer.new.drops ≡ buffer.old.drops }
+    ensures fed { OnOk result (buffer.new.fed ≡ names_under under.now ∷ []) }
+    ensures steps { buffer.new.lent.steps ≡ [] }
 {
     match under {
-        Some(labels) => buffer.place(labels),
+        Some(labels) => buffer.begin_feed(slice::from_ref(labels)),
         None => {
             let none = Labels::empty(alloc);
-            buffer.place(&none)
+            buffer.begin_feed(slice::from_ref(&none))
         }
     }
 }

@@ -1,48 +1,38 @@
-ghost use Rattle.op_small.specs.Rules.{smalls};
+ghost use Rattle.op_small.specs.Rules.{drops_names as drops, smalls};
 ghost use Rattle.std.specs.Prelude.{◌≡◌, [], IfOk, OnOk};
 ghost use Rattle.step_batch.specs.Lent.{stages};
 ghost use Rattle.step_batch.specs.LentWindows.{TimesRise};
 
 use crate::ones::{put_absences, put_instants, put_scalars};
-use crate::rows::{put_copies, put_stamps};
-use label_set::Labels;
+use crate::rows::{put_copies, put_rows};
+use crate::rule::{SmallRule, drops_names};
 use std::alloc::{AllocError, Global};
-use step_batch::{Batch, StepBuffer};
+use step_batch::Batch;
+use step_put::{OutcomeBuffer, PlacedOutcome};
 use ticks::Ms;
-use xfrac::XFrac;
-
-/// What a small kernel makes: a number, the instant in seconds, the times of samples in seconds, a scalar of a vector, a
-/// vector of a scalar, or one row where there are none.
-#[derive(Debug, Drop)]
-pub enum SmallRule {
-    Number(XFrac),
-    Time,
-    /// With `own` the values are the samples' own times in seconds; else the instant is meant.
-    Stamp { own: bool },
-    Scalar,
-    Vector,
-    /// The labels of the row; there are none where they would pass the limits of labels.
-    Absent(Option<Labels>),
-}
 
 /// A small kernel, and the steps that it made of what it was fed last.
 #[derive(Drop)]
 pub struct Small {
     alloc: Global,
     rule: SmallRule,
-    buffer: StepBuffer,
+    made: Vec<PlacedOutcome>,
+    buffer: OutcomeBuffer,
+    ghost named: { buffer.drops ≡ drops rule },
 }
 
 impl Small {
     /// A kernel that was fed nothing. The only error is want of memory.
     pub fn new(alloc: Global, rule: SmallRule) -> Result<Small, AllocError>
         ensures rule { IfOk result (λ k. k.rule ≡ rule) }
-        ensures lent { IfOk result (λ k. stages k.buffer ≡ []) }
+        ensures lent { IfOk result (λ k. stages k.buffer.lent ≡ []) }
     {
+        let buffer = OutcomeBuffer::new(alloc, drops_names(&rule));
         Ok(Small {
             alloc,
             rule,
-            buffer: StepBuffer::new(alloc),
+            made: Vec::new(alloc),
+            buffer,
         })
     }
 
@@ -51,40 +41,49 @@ impl Small {
     pub fn feed(&mut self, at: &[Ms], rows: &Batch<'_>) -> Result<(), AllocError>
         requires { TimesRise at.now }
         ensures rule { self.new.rule ≡ self.old.rule }
-        ensures lent { OnOk result (stages self.new.buffer ≡ smalls self.old.rule at.now (stages rows.now)) }
+        ensures lent { OnOk result (stages self.new.buffer.lent ≡ smalls self.old.rule at.now (stages rows.now)) }
     {
-        fill(self.alloc, &self.rule, &mut self.buffer, at, rows)?;
-        Ok(())
+        fill(
+            self.alloc,
+            &self.rule,
+            &mut self.made,
+            &mut self.buffer,
+            at,
+            rows,
+        )
     }
 
     /// Lends the steps that were made of what was fed last. It takes no memory.
     pub fn lend(&self) -> Batch<'_>
-        ensures { result ≡ self.now.buffer }
+        ensures { result ≡ self.now.buffer.lent }
     {
         self.buffer.lend()
     }
 }
 
+/// Makes the steps of a feed in the place of those of the last one.
 fn fill(
     alloc: Global,
     rule: &SmallRule,
-    buffer: &mut StepBuffer,
+    made: &mut Vec<PlacedOutcome>,
+    buffer: &mut OutcomeBuffer,
     at: &[Ms],
     rows: &Batch<'_>,
 ) -> Result<(), AllocError>
-    requires { TimesRise at.now }
-    ensures { OnOk result (stages buffer.new ≡ smalls rule.now at.now (stages rows.now)) }
+    requires rising { TimesRise at.now }
+    requires drops { buffer.old.drops ≡ drops rule.now }
+    ensures drops { buffer.new.drops ≡ buffer.old.drops }
+    ensures lent { OnOk result (stages buffer.new.lent ≡ smalls rule.now at.now (stages rows.now)) }
 {
-    buffer.begin_feed();
     match rule {
         SmallRule::Number(value) => {
             let number = Some(*value);
             put_instants(alloc, buffer, &number, at)
         }
         SmallRule::Time => put_instants(alloc, buffer, &None, at),
-        SmallRule::Stamp { own } => put_stamps(alloc, buffer, *own, rows),
+        SmallRule::Stamp { own } => put_rows(buffer, made, *own, rows),
         SmallRule::Scalar => put_scalars(alloc, buffer, rows),
-        SmallRule::Vector => put_copies(alloc, buffer, rows),
+        SmallRule::Vector => put_copies(buffer, made, rows),
         SmallRule::Absent(under) => put_absences(alloc, buffer, under, rows),
     }
 }

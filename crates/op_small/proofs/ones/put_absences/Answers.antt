@@ -1,42 +1,39 @@
-use Rattle.std.proofs.Common.{◌∙◌, ◌<◌, ◌∷◌, [], List, ap, arith, length, slice_get}
-use Rattle.std.specs.Prelude.{Option, Result}
+use Rattle.std.proofs.Common.{◌∙◌, ◌<◌, ◌∷◌, [], arith, length}
 use Rattle.step_batch.specs.Lent.{stages}
-use Rattle.step_table.specs.Groups.{Names}
 use Rattle.step_table.specs.Outcomes.{taken}
-use Rattle.xfrac.specs.declared.value.NumFault.{NumFault}
-use Rattle.xfrac.specs.declared.value.XFrac.{XFrac}
-use Rattle.op_small.specs.Rules.{names_under}
-use Rattle.op_small.specs.declared.small.SmallRule.TheVariants.{Absent}
-use Rattle.op_small.proofs.Lents.{absent_is, follow_after, follow_none, follow_told, stages_none, times_of, told_next, within}
+use Rattle.op_small.specs.Rules.{names_under, small}
+use Rattle.op_small.specs.declared.rule.SmallRule.TheVariants.{Absent}
+use Rattle.op_small.proofs.Lents.{absent_is, follow_after, follow_none, follow_told, made_one, one_rises, stages_none, times_of, told_next}
 use Rattle.op_small.proofs.ones.put_absences.Goals as goal
 
 pub loop-i-init : goal.loop-i-init
-loop-i-init c =
-    let none = c.place_under.ensures.steps ∙ c.requires in
-    record {
-      named = c.in_ok-place.ensures.place;
-      lent = stages_none c.place_under.new.buffer none;
-      follow = follow_none c.place_under.new.buffer (times_of c.args.rows.now.steps) none;
-    }
+loop-i-init c = record {
+  drops = c.begin_under.ensures.drops;
+  fed = c.in_ok-begin_under.ensures.fed;
+  lent = stages_none c.begin_under.new.buffer.lent c.begin_under.ensures.steps;
+  follow = follow_none c.begin_under.new.buffer.lent (times_of c.args.rows.now.steps) c.begin_under.ensures.steps;
+}
 
-pub put_one-requires-clause-later : goal.put_one-requires-clause-later
-put_one-requires-clause-later c =
+pub put-requires-clause-later : goal.put-requires-clause-later
+put-requires-clause-later c =
     let l : c.loop-i.i < length c.args.rows.now.steps = omega (arith, c.len-i-end.ensures.len, c.loop-i-test.true) in
-    follow_told c.loop-i.buffer c.args.rows.now.steps c.loop-i.i c.at-t.result l c.at-t.ensures c.loop-i.invariant.follow
+    follow_told c.loop-i.buffer.lent c.args.rows.now.steps c.loop-i.i c.at-t.result l c.at-t.ensures c.loop-i.invariant.follow
 
-pub put_one-requires-clause-there : goal.put_one-requires-clause-there
-put_one-requires-clause-there c = within c.loop-i.buffer.labels c.in_ok-place.place (names_under c.args.under.now) c.loop-i.invariant.named
+pub put-requires-clause-rising : goal.put-requires-clause-rising
+put-requires-clause-rising c = one_rises c.loop-i.buffer.fed (names_under c.args.under.now) c.absent_value-value.result c.loop-i.invariant.fed
 
 pub loop-i-preserved : goal.loop-i-preserved
 loop-i-preserved c =
     let l : c.loop-i.i < length c.args.rows.now.steps = omega (arith, c.len-i-end.ensures.len, c.loop-i-test.true) in
-    let labels = c.args.rows.now.labels in
-    let marks = c.marks.result.now in
+    let i = c.loop-i.invariant in
     record {
-      named = ap (λ (z : List Names). slice_get z c.in_ok-place.place) c.in_ok-put_one.ensures.labels ∙ c.loop-i.invariant.named;
-      lent = told_next (Absent c.args.under.now) labels c.args.rows.now.steps c.loop-i.i c.at-t.result c.slots.result.now marks _ (stages c.loop-i.buffer) (stages c.put_one.new.buffer)
-          l c.at-t.ensures c.slots.ensures.slots c.marks.ensures c.loop-i.invariant.lent
-          (ap (λ (v : Result (Option XFrac) NumFault). taken marks (record { labels = names_under c.args.under.now; value = v } ∷ [])) c.absent_value-value.ensures ∙ absent_is c.lent_steps_are_tables.ensures.rows labels c.slots.result.now marks c.len-i-end.ensures.lent.distinct c.slots.ensures.rising c.args.under.now)
-          (c.in_ok-put_one.ensures.lent (names_under c.args.under.now) c.loop-i.invariant.named);
-      follow = follow_after c.put_one.new.buffer c.args.rows.now.steps c.loop-i.i c.at-t.result l c.at-t.ensures c.len-i-end.ensures.lent.rising c.in_ok-put_one.ensures.later;
+      drops = c.put.ensures.drops ∙ i.drops;
+      fed = c.put.ensures.fed ∙ i.fed;
+      lent = told_next (small (Absent c.args.under.now)) c.args.rows.now.labels c.args.rows.now.steps c.loop-i.i c.at-t.result c.slots.result.now c.marks.result.now _ (stages c.loop-i.buffer.lent) (stages c.put.new.self.lent)
+          l c.at-t.ensures c.slots.ensures.slots c.marks.ensures i.lent
+          (made_one c.steps_are_well_formed.ensures.table c.loop-i.buffer.drops c.loop-i.buffer.fed (names_under c.args.under.now) c.marks.result.now c.absent_value-value.result (i.drops ∙ c.requires) i.fed
+          ∙ (λ j. taken c.marks.result.now (record { labels = names_under c.args.under.now; value = c.absent_value-value.ensures j } ∷ []))
+          ∙ absent_is c.lent_steps_are_tables.ensures.rows c.args.rows.now.labels c.slots.result.now c.marks.result.now c.len-i-end.ensures.lent.distinct c.slots.ensures.rising c.args.under.now)
+          c.in_ok-put.ensures.lent;
+      follow = follow_after c.put.new.self.lent c.args.rows.now.steps c.loop-i.i c.at-t.result l c.at-t.ensures c.len-i-end.ensures.lent.rising c.in_ok-put.ensures.later;
     }

@@ -1,0 +1,13 @@
+use Rattle.std.proofs.Common.{◌≡◌, drop, map, take}
+use Rattle.step_batch.specs.Lent.{stage_of, stages}
+use Rattle.op_small.specs.Rules.{each_at}
+use Rattle.op_small.proofs.Lents.{Follow, times_of}
+use Rattle.op_small.proofs.rows.put_rows.Given as goal
+
+abbrev pub invariant-loop-i : goal.invariant-loop-i
+invariant-loop-i l = record {
+  drops : l.buffer.drops ≡ l.fn.buffer.drops;
+  fed : l.buffer.fed ≡ l.rows.labels;
+  lent : stages l.buffer.lent ≡ map (each_at l.fn.buffer.drops l.own) (map (stage_of l.rows.labels) (take l.i l.rows.steps));
+  follow : Follow l.buffer.lent (drop l.i (times_of l.rows.steps));
+}
