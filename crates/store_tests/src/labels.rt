@@ -1,6 +1,6 @@
+use crate::rows::{field, rows_hold, text_is};
 use label_set::*;
 use std::alloc::Global;
-use std::cmp::Ordering;
 use std::test::Fail;
 
 // Labels, and how Prometheus prints them.
@@ -49,9 +49,9 @@ env=prod;job=api
 job=api";
 
 /// The labels of `name=value` pairs.
-fn labels_of(alloc: Global, pairs: Option<&str>) -> Result<Labels, LabelRefusal> {
+fn labels_of(alloc: Global, pairs: &str) -> Result<Labels, Fail> {
     let mut labels = Labels::empty(alloc);
-    for pair in pairs.unwrap_or("").split(';') {
+    for pair in pairs.split(';') {
         if let Some((name, value)) = pair.split_once('=') {
             labels.put(name, value)?;
         }
@@ -59,98 +59,58 @@ fn labels_of(alloc: Global, pairs: Option<&str>) -> Result<Labels, LabelRefusal>
     Ok(labels)
 }
 
-fn names_of(alloc: Global, words: Option<&str>) -> Result<Items<Text>, Memory> {
+fn names_of(alloc: Global, words: &str) -> Result<Items<Text>, Memory> {
     let mut names = Items::new(alloc);
-    for word in words.unwrap_or("").split(';') {
+    for word in words.split(';') {
         names.push(Text::of(alloc, word)?)?;
     }
     Ok(names)
 }
 
-fn printed(alloc: Global, pairs: Option<&str>) -> Result<Vec<u8>, LabelRefusal> {
-    let labels = labels_of(alloc, pairs)?;
+fn is_printed(alloc: Global, row: &str) -> Result<bool, Fail> {
+    let labels = labels_of(alloc, field(row, '>', 0))?;
     let mut out = Vec::new(alloc);
     labels.write(&mut out)?;
-    Ok(out)
+    Ok(out.as_slice() == field(row, '>', 1).as_bytes())
 }
 
 #[test]
 fn labels_are_printed(rt: HostRuntime) -> Result<(), Fail> {
-    for line in PRINTED.split('\n') {
-        let mut parts = line.split('>');
-        let out = printed(rt.alloc(), parts.next())?;
-        let wanted = parts.next().unwrap_or("");
-        assert_eq!(rt; out.as_slice(), wanted.as_bytes(), "{line}");
-    }
-    Ok(())
+    rows_hold(rt.alloc(), PRINTED, '\n', is_printed)
 }
 
-/// Which labels are chosen.
-#[derive(Clone, Copy)]
-enum Choice {
-    Kept,
-    Others,
-    OnThem,
-    IgnoringThem,
+/// Whether labels are those of pairs.
+fn are(labels: &Labels, alloc: Global, pairs: &str) -> Result<bool, Fail> {
+    Ok(*labels == labels_of(alloc, pairs)?)
 }
 
-fn chosen(labels: &Labels, choice: Choice, names: &Items<Text>) -> Result<Labels, Memory> {
-    match choice {
-        Choice::Kept => labels.keep(names),
-        Choice::Others => labels.without(names),
-        Choice::OnThem => labels.signature(true, names),
-        Choice::IgnoringThem => labels.signature(false, names),
-    }
+/// Whether the labels with names are those of a row, the others, and the others without the metric's name.
+fn chooses(labels: &Labels, names: &Items<Text>, alloc: Global, row: &str) -> Result<bool, Fail> {
+    let is_kept = are(&labels.keep(names)?, alloc, field(row, '>', 2))?;
+    let is_on = are(&labels.signature(true, names)?, alloc, field(row, '>', 2))?;
+    let are_others = are(&labels.without(names)?, alloc, field(row, '>', 3))?;
+    let is_ignoring = are(&labels.signature(false, names)?, alloc, field(row, '>', 4))?;
+    Ok(is_kept && is_on && are_others && is_ignoring)
 }
 
-fn chooses(
-    alloc: Global,
-    pairs: Option<&str>,
-    choice: Choice,
-    names: Option<&str>,
-    wanted: Option<&str>,
-) -> Result<bool, LabelRefusal> {
-    let names = names_of(alloc, names)?;
-    let chosen = chosen(&labels_of(alloc, pairs)?, choice, &names)?;
-    Ok(chosen == labels_of(alloc, wanted)?)
-}
-
-fn is_copied(alloc: Global, pairs: Option<&str>) -> Result<bool, LabelRefusal> {
-    let labels = labels_of(alloc, pairs)?;
-    Ok(labels.copy()?.is_same(&labels))
+fn is_chosen(alloc: Global, row: &str) -> Result<bool, Fail> {
+    let labels = labels_of(alloc, field(row, '>', 0))?;
+    let names = names_of(alloc, field(row, '>', 1))?;
+    let is_copied = labels.copy()?.is_same(&labels);
+    Ok(is_copied && chooses(&labels, &names, alloc, row)?)
 }
 
 #[test]
 fn labels_are_chosen(rt: HostRuntime) -> Result<(), Fail> {
-    let alloc = rt.alloc();
-    for line in CHOSEN.split('\n') {
-        let mut parts = line.split('>');
-        let (pairs, names, kept) = (parts.next(), parts.next(), parts.next());
-        let (others, signature) = (parts.next(), parts.next());
-        let is_kept = chooses(alloc, pairs, Choice::Kept, names, kept)?;
-        let is_on = chooses(alloc, pairs, Choice::OnThem, names, kept)?;
-        let are_others = chooses(alloc, pairs, Choice::Others, names, others)?;
-        let is_ignoring = chooses(alloc, pairs, Choice::IgnoringThem, names, signature)?;
-        let is_copied = is_copied(alloc, pairs)?;
-        assert!(rt;
-            is_kept && is_on && are_others && is_ignoring && is_copied,
-            "{line}"
-        );
-    }
-    Ok(())
+    rows_hold(rt.alloc(), CHOSEN, '\n', is_chosen)
 }
 
 fn letters(alloc: Global, word: &str) -> Result<String, Memory> {
-    let count = match word {
-        "4096" => 4096u32,
-        "4097" => 4097,
-        _ => 0,
-    };
-    let mut text = String::from_str(alloc, if count == 0 { word } else { "" })?;
-    for _ in 0..count {
-        text.push('a')?;
+    match word {
+        "4096" => "a".repeat(alloc, 4096),
+        "4097" => "a".repeat(alloc, 4097),
+        _ => String::from_str(alloc, word),
     }
-    Ok(text)
 }
 
 fn answer_of(answer: Result<(), LabelRefusal>) -> &'static str {
@@ -164,35 +124,26 @@ fn answer_of(answer: Result<(), LabelRefusal>) -> &'static str {
     }
 }
 
-fn put(labels: &mut Labels, name: &str, value: &str) -> &'static str {
-    answer_of(labels.put(name, value))
-}
-
-fn set(labels: &mut Labels, name: &str, value: &str) -> &'static str {
-    answer_of(labels.set(name, value))
-}
-
-fn is_answered(labels: &mut Labels, alloc: Global, line: &str) -> Result<bool, Memory> {
-    let mut parts = line.split('>');
-    let is_put = parts.next() == Some("put");
-    let name = letters(alloc, parts.next().unwrap_or(""))?;
-    let value = letters(alloc, parts.next().unwrap_or(""))?;
-    let answer = if is_put {
-        put(labels, name.as_str(), value.as_str())
+/// Whether a row's call on labels has its answer.
+fn is_answered(labels: &mut Labels, alloc: Global, row: &str) -> Result<bool, Fail> {
+    let name = letters(alloc, field(row, '>', 1))?;
+    let value = letters(alloc, field(row, '>', 2))?;
+    let answer = if field(row, '>', 0) == "put" {
+        labels.put(name.as_str(), value.as_str())
     } else {
-        set(labels, name.as_str(), value.as_str())
+        labels.set(name.as_str(), value.as_str())
     };
-    Ok(parts.next() == Some(answer))
+    Ok(answer_of(answer) == field(row, '>', 3))
 }
 
-/// The first line with another answer than the one that it says, or nothing.
-fn first_wrong(labels: &mut Labels, alloc: Global) -> Result<&'static str, Memory> {
-    for line in CALLS.split('\n') {
-        if !is_answered(labels, alloc, line)? {
-            return Ok(line);
+/// Makes the calls of rows on labels, and fails with the first row of another answer.
+fn call(labels: &mut Labels, alloc: Global, rows: &str) -> Result<(), Fail> {
+    for row in rows.split('\n') {
+        if !is_answered(labels, alloc, row)? {
+            return Err(Fail::new(row));
         }
     }
-    Ok("")
+    Ok(())
 }
 
 fn told(labels: &Labels, alloc: Global) -> Result<String, Memory> {
@@ -205,15 +156,12 @@ fn told(labels: &Labels, alloc: Global) -> Result<String, Memory> {
 #[test]
 fn pairs_are_refused_in_order(rt: HostRuntime) -> Result<(), Fail> {
     let mut labels = Labels::empty(rt.alloc());
-    let wrong = first_wrong(&mut labels, rt.alloc())?;
-    assert_eq!(rt; wrong, "");
-    let told = told(&labels, rt.alloc())?;
-    assert_eq!(rt; told.as_str(), "2 web  4096");
-    Ok(())
+    call(&mut labels, rt.alloc(), CALLS)?;
+    text_is(told(&labels, rt.alloc())?.as_str(), "2 web  4096")
 }
 
 /// 64 labels, of two lines each.
-fn full(alloc: Global) -> Result<Labels, LabelRefusal> {
+fn full(alloc: Global) -> Result<Labels, Fail> {
     let mut labels = Labels::empty(alloc);
     for i in 0..64u32 {
         let name = format!(in alloc; "l{i}")?;
@@ -222,16 +170,13 @@ fn full(alloc: Global) -> Result<Labels, LabelRefusal> {
     Ok(labels)
 }
 
-/// The answers to further pairs, while there are 64 labels and then one less.
-fn answers(labels: &mut Labels, alloc: Global) -> Result<String, Memory> {
-    let refused = put(labels, "a", "x");
-    let also_refused = set(labels, "a", "x");
-    let nothing_set = set(labels, "a", "");
-    let replaced = set(labels, "l9", "y");
-    let removed = set(labels, "l10", "");
-    let put = put(labels, "a", "x");
-    format!(in alloc; "{refused} {also_refused} {nothing_set} {replaced} {removed} {put}")
-}
+// Further pairs while there are 64 labels, and then one less.
+const FURTHER: &str = "put>a>x>TooMany
+set>a>x>TooMany
+set>a>>taken
+set>l9>y>taken
+set>l10>>taken
+put>a>x>taken";
 
 fn names_in(labels: &Labels, alloc: Global) -> Result<String, Memory> {
     let mut names = String::new(alloc);
@@ -245,33 +190,36 @@ fn names_in(labels: &Labels, alloc: Global) -> Result<String, Memory> {
 #[test]
 fn there_are_64_pairs_in_order(rt: HostRuntime) -> Result<(), Fail> {
     let mut labels = full(rt.alloc())?;
-    let answers = answers(&mut labels, rt.alloc())?;
-    assert_eq!(rt; answers.as_str(), "TooMany TooMany taken taken taken taken");
+    call(&mut labels, rt.alloc(), FURTHER)?;
     let names = names_in(&labels, rt.alloc())?;
-    assert!(rt; names.as_str().starts_with("a l0 l1 l11 l12 "));
-    assert!(rt; names.as_str().ends_with(" l7 l8 l9 "));
-    assert_eq!(rt; labels.get("l9"), "y");
+    let names = names.as_str();
+    assert!(rt;
+        names.starts_with("a l0 l1 l11 l12 ")
+            && names.ends_with(" l7 l8 l9 ")
+            && labels.get("l9") == "y",
+        "{names}"
+    );
     Ok(())
 }
 
-fn are_ordered(
-    alloc: Global,
-    left: &str,
-    right: &str,
-    wanted: Ordering,
-) -> Result<bool, LabelRefusal> {
-    let left = labels_of(alloc, Some(left))?;
-    let right = labels_of(alloc, Some(right))?;
-    let order = left.cmp(&right);
-    Ok(order == wanted && left.is_same(&right) == order.is_eq())
+/// Whether labels come before those that stand at the places behind theirs, behind those before, and are their own.
+fn is_in_order(alloc: Global, left: &Labels, place: usize) -> Result<bool, Fail> {
+    for (other, pairs) in RISING.split('\n').enumerate() {
+        let right = labels_of(alloc, pairs)?;
+        let order = left.cmp(&right);
+        if order != place.cmp(&other) || left.is_same(&right) != order.is_eq() {
+            return Ok(false);
+        }
+    }
+    Ok(true)
 }
 
 #[test]
 fn labels_are_ordered(rt: HostRuntime) -> Result<(), Fail> {
-    for (i, left) in RISING.split('\n').enumerate() {
-        for (j, right) in RISING.split('\n').enumerate() {
-            let is_ordered = are_ordered(rt.alloc(), left, right, i.cmp(&j))?;
-            assert!(rt; is_ordered, "{left} {right}");
+    for (place, pairs) in RISING.split('\n').enumerate() {
+        let labels = labels_of(rt.alloc(), pairs)?;
+        if !is_in_order(rt.alloc(), &labels, place)? {
+            return Err(Fail::new(pairs));
         }
     }
     Ok(())
@@ -288,15 +236,15 @@ fn rule_is_copied(alloc: Global) -> Result<bool, Memory> {
 }
 
 fn grouping_is_copied(alloc: Global) -> Result<bool, Memory> {
-    let names = names_of(alloc, Some("env;zone"))?;
+    let names = names_of(alloc, "env;zone")?;
     let without = true;
     let grouping = Grouping { without, names };
     Ok(grouping.copy()?.is_same(&grouping))
 }
 
 fn pairing_is_copied(alloc: Global) -> Result<bool, Memory> {
-    let names = names_of(alloc, Some("env;zone"))?;
-    let extra = names_of(alloc, None)?;
+    let names = names_of(alloc, "env;zone")?;
+    let extra = names_of(alloc, "")?;
     let (on, card) = (true, Card::GroupLeft);
     let pairing = Pairing {
         on,
@@ -319,7 +267,7 @@ fn rules_are_copied(rt: HostRuntime) -> Result<(), Fail> {
 fn join(alloc: Global) -> Result<Relabel, Memory> {
     let target = Text::of(alloc, "job")?;
     let separator = Text::of(alloc, "-")?;
-    let sources = names_of(alloc, None)?;
+    let sources = names_of(alloc, "")?;
     Ok(Relabel::Join {
         target,
         separator,

@@ -10,4 +10,6 @@ mod patterns;
 #[cfg(test)]
 mod places;
 #[cfg(test)]
+mod rows;
+#[cfg(test)]
 mod samples;
