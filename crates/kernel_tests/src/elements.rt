@@ -1,3 +1,5 @@
+ghost use Rattle.std.specs.Prelude.{◌≡◌, length, IsTrue};
+
 use crate::batches::{are_lent, buffer_of, front, steps};
 use func_table::{CalendarPart, Element};
 use op_element::{ElementRows, ElementRule, is_scalar};
@@ -110,7 +112,10 @@ fn rule(word: &str) -> Result<ElementRule, Fail> {
     Ok(ElementRule::WithScalar { op, scalar_left })
 }
 
-fn has_same_steps(a: &StepBuffer, b: &StepBuffer) -> bool {
+/// Whether two buffers have as many steps.
+fn has_same_steps(a: &StepBuffer, b: &StepBuffer) -> bool
+    ensures { IsTrue result → length b.now.steps ≡ length a.now.steps }
+{
     a.lend().len() == b.lend().len()
 }
 
