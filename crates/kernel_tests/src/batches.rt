@@ -124,12 +124,10 @@ pub fn buffer_of(alloc: Global, steps: &[(Ms, Step)]) -> Result<StepBuffer, Fail
 
 /// Whether the steps that are lent are these.
 pub fn are_lent(lent: &Batch<'_>, wanted: &[(Ms, Step)]) -> bool {
-    let mut i = 0;
-    for (at, one) in wanted {
-        if !is_lent(lent, i, *at, one) {
+    for i in 0..wanted.len() {
+        if !is_lent(lent, i, wanted[i].0, &wanted[i].1) {
             return false;
         }
-        i += 1;
     }
-    lent.len() == i
+    lent.len() == wanted.len()
 }
