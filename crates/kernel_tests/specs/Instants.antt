@@ -1,10 +1,18 @@
 -- Instants of rows, which rise and are near 0.
-use Rattle.std.specs.Prelude.{ℤ, pos, neg_ℤ, ◌<ℤ◌, ◌≤ℤ◌, List, [], ◌∷◌, ⊤}
+use Rattle.std.specs.Prelude.{ℤ, pos, neg_ℤ, ◌<ℤ◌, ◌≤ℤ◌, List, [], ◌∷◌, Option, Some, None, ⊤}
 use Rattle.ticks.specs.declared.moment.Ms.{Ms}
+use Rattle.ticks.specs.declared.walk.WalkMoment.{WalkMoment}
 
 pub record IsNear (t : ℤ) : Type 0 where
   pub low : neg_ℤ (pos 1000000000000000) ≤ℤ t
   pub high : t ≤ℤ pos 1000000000000000
+
+abbrev pub IsNearMoment : WalkMoment → Type 0
+IsNearMoment moment = fixed_near moment.fixed
+  where
+    fixed_near : Option Ms → Type 0
+    fixed_near None = IsNear moment.offset.0
+    fixed_near (Some t) = IsNear t.0 × IsNear moment.offset.0
 
 -- instants rise behind a time, near 0
 abbrev pub RiseFrom : ℤ → List Ms → Type 0

@@ -8,6 +8,12 @@ mod conditions;
 #[cfg(test)]
 mod elements;
 #[cfg(test)]
+mod select;
+#[cfg(test)]
 mod small;
+#[cfg(test)]
+mod stores;
+#[cfg(test)]
+mod windows;
 #[cfg(test)]
 mod written;

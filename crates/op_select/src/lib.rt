@@ -1,4 +1,4 @@
-//! The newest rows of series, with cursors that go forward.
+//! The newest rows of series, with cursors that go forward. Its rows of tests stand in `kernel_tests`.
 #![tactic(auto)]
 
 pub mod laws;
