@@ -8,6 +8,8 @@ mod conditions;
 #[cfg(test)]
 mod elements;
 #[cfg(test)]
+mod places;
+#[cfg(test)]
 mod select;
 #[cfg(test)]
 mod small;

@@ -1,20 +1,22 @@
 -- What a rule makes of a step is what it makes of its slots.
 use Rattle.std.proofs.Common.{◌≡◌, ◌∙◌, ◌+◌, ◌<◌, ◌≤◌, ℕ, zero, suc, arith, Bool, true, false, List, [], ◌∷◌, ◌++◌, length, get_or, slice_get, map, refl, sym, ap, Option, Some, None}
-use Rattle.std.specs.Prelude.{IsTrue, pos}
+use Rattle.std.specs.Prelude.{IsTrue, if◌then◌else◌, pos}
 use Rattle.std.specs.List.{IsDistinct}
 use Rattle.std.specs.List.Sorted.{IsStrictlySortedBy}
 use Rattle.func_table.specs.declared.table.Element.TheVariants.{Abs, Ceil, Floor, Round, Sgn, Neg, Clamp, ClampMin, ClampMax, Calendar}
 use Rattle.label_set.specs.LabelEquality.{labels_eq}
-use Rattle.promql_meaning.specs.Elements.{row_by_row}
+use Rattle.label_set.specs.Labels.{metric_name, without}
+use Rattle.promql_meaning.specs.Elements.{operated_with, row_by_row}
 use Rattle.promql_meaning.specs.Givens.{barren, both, by_value}
 use Rattle.promql_meaning.specs.Meaning.{zero_number}
 use Rattle.step_batch.specs.Laws.{LentRowsAreThoseOfSlots}
 use Rattle.step_batch.specs.Lent.{SlotsRise, entries_of, row_of, step_of}
 use Rattle.step_batch.specs.declared.steps.PlacedStep.{PlacedStep}
 use Rattle.step_batch.specs.declared.steps.Slot.{Slot}
-use Rattle.step_put.specs.Placed.{PlacesRise, left, made_step, outcomes_of}
+use Rattle.step_put.specs.Placed.{PlacesRise, left_of, made_step, outcomes_of}
 use Rattle.step_table.specs.Gathering.{nothing_more, settled_table}
 use Rattle.step_table.specs.Groups.{Names}
+use Rattle.step_table.specs.Operators.{drops_name}
 use Rattle.step_table.specs.Outcomes.{settled, taken}
 use Rattle.step_table.specs.Shuffles.{OutcomesIgnoreOrder, Shuffled}
 use Rattle.step_table.specs.Shuffling.{mapped_shuffled}
@@ -26,8 +28,10 @@ use Rattle.step_table.specs.declared.step.Row.{Row}
 use Rattle.step_table.specs.declared.step.Step.{Step}
 use Rattle.ticks.specs.declared.moment.Ms.{Ms}
 use Rattle.xfrac.specs.declared.value.XFrac.{XFrac}
+use Rattle.step_put.specs.declared.labels_left.Left.{Left}
+use Rattle.step_put.specs.declared.labels_left.Left.TheVariants as kind
 use Rattle.step_put.specs.declared.placed.PlacedOutcome.{PlacedOutcome}
-use Rattle.op_element.specs.Rules.{all_marks, element_at, element_step, is_nameless, reads_first, reads_second, scalar_read, scalars_read, slot_read, slots_placed, value_made}
+use Rattle.op_element.specs.Rules.{all_marks, element_at, element_step, left_by, reads_first, reads_second, scalar_read, scalars_read, slot_read, slots_placed, value_made}
 use Rattle.op_element.specs.declared.formula.ElementRule.{ElementRule}
 use Rattle.op_element.specs.declared.formula.ElementRule.TheVariants.{Apply, WithScalar}
 
@@ -37,7 +41,7 @@ Scalars = XFrac × XFrac
 -- ---- the rule by its scalars
 
 abbrev row_made : ElementRule → Scalars → Row → Outcome
-row_made rule scalars row = record { labels = left (is_nameless rule) row.labels; value = value_made rule scalars row.value }
+row_made rule scalars row = record { labels = left_of (left_by rule) row.labels; value = value_made rule scalars row.value }
 
 abbrev rows_made : ElementRule → Step → Marks → Scalars → Step
 rows_made rule step marks scalars = row_by_row (row_made rule scalars) (record { table = step.table; marks = marks })
@@ -45,6 +49,11 @@ rows_made rule step marks scalars = row_by_row (row_made rule scalars) (record {
 with_zero : (o : Option XFrac) (marks : Marks) (f : Scalars → Step) → by_value o marks (λ a. f (a, zero_number)) ≡ by_value (both o (Some zero_number)) marks f
 with_zero None marks f = refl
 with_zero (Some a) marks f = refl
+
+-- an operator that drops the name leaves the other labels
+left_unnamed : (b : Bool) (names : Names) → (if b then without (metric_name ∷ []) names else names) ≡ left_of (if b then kind.Nameless else kind.All) names
+left_unnamed true names = refl
+left_unnamed false names = refl
 
 by_scalars : (rule : ElementRule) (first second step : Step)
     → element_step rule first second step ≡ by_value (scalars_read rule first second) (all_marks rule first.marks second.marks step.marks) (rows_made rule step (all_marks rule first.marks second.marks step.marks))
@@ -58,7 +67,9 @@ by_scalars (Apply Clamp) first second step = refl
 by_scalars (Apply ClampMin) first second step = with_zero (scalar_read true first) (united step.marks first.marks) (rows_made (Apply ClampMin) step (united step.marks first.marks))
 by_scalars (Apply ClampMax) first second step = with_zero (scalar_read true first) (united step.marks first.marks) (rows_made (Apply ClampMax) step (united step.marks first.marks))
 by_scalars (Apply (Calendar part)) first second step = refl
-by_scalars (WithScalar op scalar_left) first second step = with_zero (scalar_read true first) (united step.marks first.marks) (rows_made (WithScalar op scalar_left) step (united step.marks first.marks))
+by_scalars (WithScalar op scalar_left) first second step =
+    ap (by_value (scalar_read true first) (united step.marks first.marks)) (λ i a. row_by_row (λ (row : Row). record { labels = left_unnamed (drops_name op) row.labels i; value = operated_with op scalar_left a row.value }) (record { table = step.table; marks = united step.marks first.marks }))
+    ∙ with_zero (scalar_read true first) (united step.marks first.marks) (rows_made (WithScalar op scalar_left) step (united step.marks first.marks))
 
 -- ---- slots
 
@@ -90,18 +101,18 @@ abbrev rows_at : List Names → List Slot → List Row
 rows_at labels slots = map row_of (entries_of labels slots)
 
 outcomes_are : (rule : ElementRule) (b : Scalars) (labels : List Names) (low : ℕ) (slots : List Slot) → SlotsRise low (length labels) slots
-    → outcomes_of (is_nameless rule) labels (slots_placed rule (Some b) slots) ≡ map (row_made rule b) (rows_at labels slots)
+    → outcomes_of (left_by rule) labels (slots_placed rule (Some b) slots) ≡ map (row_made rule b) (rows_at labels slots)
 outcomes_are rule b labels low [] r = refl
 outcomes_are rule b labels low (s ∷ slots) r =
     let e = get_there labels s.place [] r.1 in
-    rw e (ap (λ (z : List Outcome). record { labels = left (is_nameless rule) (get_or labels s.place []); value = value_made rule b s.value } ∷ z) (outcomes_are rule b labels (s.place + 1) slots r.2))
+    rw e (ap (λ (z : List Outcome). record { labels = left_of (left_by rule) (get_or labels s.place []); value = value_made rule b s.value } ∷ z) (outcomes_are rule b labels (s.place + 1) slots r.2))
 
 none_made : (marks : Marks) → settled (taken marks []) ≡ barren marks
 unfolding IsStrictlySortedBy
 none_made marks = settled_table (taken marks []) tt ∙ ap barren (nothing_more marks)
 
 made_of_scalars : OutcomesIgnoreOrder → (rule : ElementRule) (labels : List Names) (slots : List Slot) (step : Step) (all : Marks) → SlotsRise 0 (length labels) slots → Shuffled (rows_at labels slots) step.table.rows
-    → (o : Option Scalars) → made_step (is_nameless rule) labels all (slots_placed rule o slots) ≡ by_value o all (rows_made rule step all)
+    → (o : Option Scalars) → made_step (left_by rule) labels all (slots_placed rule o slots) ≡ by_value o all (rows_made rule step all)
 made_of_scalars order rule labels slots step all r same None = none_made all
 made_of_scalars order rule labels slots step all r same (Some b) =
     ap (λ (z : List Outcome). settled (taken all z)) (outcomes_are rule b labels 0 slots r)
@@ -109,7 +120,7 @@ made_of_scalars order rule labels slots step all r same (Some b) =
 
 -- what is made of the slots of a step is what the rule makes of it
 pub made_is : LentRowsAreThoseOfSlots → OutcomesIgnoreOrder → (rule : ElementRule) (first second : Step) (labels : List Names) (slots : List Slot) (marks : Marks) → IsDistinct labels_eq labels → SlotsRise 0 (length labels) slots
-    → made_step (is_nameless rule) labels (all_marks rule first.marks second.marks marks) (slots_placed rule (scalars_read rule first second) slots) ≡ element_step rule first second (step_of (entries_of labels slots) marks)
+    → made_step (left_by rule) labels (all_marks rule first.marks second.marks marks) (slots_placed rule (scalars_read rule first second) slots) ≡ element_step rule first second (step_of (entries_of labels slots) marks)
 made_is law order rule first second labels slots marks d r =
     let step : Step = step_of (entries_of labels slots) marks in
     let placed : PlacedStep = record { at = record { 0 = pos 0 }; slots = slots; marks = marks } in
@@ -118,15 +129,15 @@ made_is law order rule first second labels slots marks d r =
 
 -- the step that is put, by what is known of each of its parts
 pub one_made : LentRowsAreThoseOfSlots → OutcomesIgnoreOrder → (rule : ElementRule) (first_labels second_labels labels : List Names) (ones others slots : List Slot) (first_marks second_marks own_marks : Marks) (t : Ms) (f g s : StepAt)
-    → (drops : Bool) (fed : List Names) (marks : Marks) (placed : List PlacedOutcome) (scalars : Option Scalars) (old new : List StepAt)
+    → (left : Left) (fed : List Names) (marks : Marks) (placed : List PlacedOutcome) (scalars : Option Scalars) (old new : List StepAt)
     → IsDistinct labels_eq labels → SlotsRise 0 (length labels) slots → SlotsRise 0 (length first_labels) ones → (IsTrue (reads_first rule) → length ones ≤ 1) → SlotsRise 0 (length second_labels) others → (IsTrue (reads_second rule) → length others ≤ 1)
     → f.step ≡ step_of (entries_of first_labels ones) first_marks → g.step ≡ step_of (entries_of second_labels others) second_marks → s ≡ record { at = t; step = step_of (entries_of labels slots) own_marks }
-    → drops ≡ is_nameless rule → fed ≡ labels → marks ≡ all_marks rule first_marks second_marks own_marks → scalars ≡ both (slot_read (reads_first rule) ones) (slot_read (reads_second rule) others) → placed ≡ slots_placed rule scalars slots
-    → new ≡ old ++ record { at = t; step = made_step drops fed marks placed } ∷ [] → new ≡ old ++ element_at rule f g s ∷ []
-one_made law order rule first_labels second_labels labels ones others slots first_marks second_marks own_marks t f g s drops fed marks placed scalars old new d r r1 f1 r2 f2 ef eg es ed el em ec ep n =
+    → left ≡ left_by rule → fed ≡ labels → marks ≡ all_marks rule first_marks second_marks own_marks → scalars ≡ both (slot_read (reads_first rule) ones) (slot_read (reads_second rule) others) → placed ≡ slots_placed rule scalars slots
+    → new ≡ old ++ record { at = t; step = made_step left fed marks placed } ∷ [] → new ≡ old ++ element_at rule f g s ∷ []
+one_made law order rule first_labels second_labels labels ones others slots first_marks second_marks own_marks t f g s left fed marks placed scalars old new d r r1 f1 r2 f2 ef eg es ed el em ec ep n =
     let A : Step = step_of (entries_of first_labels ones) first_marks in
     let B : Step = step_of (entries_of second_labels others) second_marks in
     let all : placed ≡ slots_placed rule (scalars_read rule A B) slots = ep ∙ ap (λ (o : Option Scalars). slots_placed rule o slots) (ec ∙ scalars_are rule first_labels second_labels ones others first_marks second_marks r1 f1 r2 f2) in
-    let whole : made_step drops fed marks placed ≡ made_step (is_nameless rule) labels (all_marks rule first_marks second_marks own_marks) (slots_placed rule (scalars_read rule A B) slots) = λ j. made_step (ed j) (el j) (em j) (all j) in
+    let whole : made_step left fed marks placed ≡ made_step (left_by rule) labels (all_marks rule first_marks second_marks own_marks) (slots_placed rule (scalars_read rule A B) slots) = λ j. made_step (ed j) (el j) (em j) (all j) in
     let there : element_at rule f g s ≡ record { at = t; step = element_step rule A B (step_of (entries_of labels slots) own_marks) } = λ j. record { at = (es j).at; step = element_step rule (ef j) (eg j) (es j).step } in
     n ∙ ap (λ (z : Step). old ++ record { at = t; step = z } ∷ []) (whole ∙ made_is law order rule A B labels slots own_marks d r) ∙ ap (λ (z : StepAt). old ++ z ∷ []) (sym there)

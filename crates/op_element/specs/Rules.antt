@@ -9,6 +9,8 @@ use Rattle.promql_meaning.specs.Meaning.{applied_to, zero_number}
 use Rattle.step_batch.specs.Lent.{Lent}
 use Rattle.step_batch.specs.declared.steps.PlacedStep.{PlacedStep}
 use Rattle.step_batch.specs.declared.steps.Slot.{Slot}
+use Rattle.step_put.specs.declared.labels_left.Left.{Left}
+use Rattle.step_put.specs.declared.labels_left.Left.TheVariants as kind
 use Rattle.step_put.specs.declared.placed.PlacedOutcome.{PlacedOutcome}
 use Rattle.step_table.specs.Operators.{drops_name}
 use Rattle.step_table.specs.Timed.{StepAt}
@@ -78,10 +80,10 @@ all_marks rule first second marks = marks_read (reads_second rule) (marks_read (
 
 -- ---- rows
 
--- whether a rule drops the metric's name
-abbrev pub is_nameless : ElementRule → Bool
-is_nameless (Apply f) = true
-is_nameless (WithScalar op scalar_left) = drops_name op
+-- what a rule leaves of the labels of rows
+abbrev pub left_by : ElementRule → Left
+left_by (Apply f) = kind.Nameless
+left_by (WithScalar op scalar_left) = if drops_name op then kind.Nameless else kind.All
 
 -- what a rule makes of a value and two scalars
 abbrev pub value_made : ElementRule → XFrac × XFrac → XFrac → Result (Option XFrac) NumFault

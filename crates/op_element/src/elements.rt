@@ -1,9 +1,9 @@
-ghost use Rattle.op_element.specs.Rules.{IsScalar, element_at, elements, is_nameless as loses_name, reads_first as takes_first, reads_second as takes_second};
+ghost use Rattle.op_element.specs.Rules.{IsScalar, element_at, elements, left_by as left_by_rule, reads_first as takes_first, reads_second as takes_second};
 ghost use Rattle.std.specs.Option.{option_map};
 ghost use Rattle.std.specs.Prelude.{◌≡◌, ◌<◌, ◌<ℤ◌, ◌++◌, ◌∷◌, [], Some, length, slice_get, IfOk, IsTrue, OnOk};
 ghost use Rattle.step_batch.specs.Lent.{IsLater, stages};
 
-use crate::formula::{ElementRule, all_marks, fill, is_nameless, scalars};
+use crate::formula::{ElementRule, all_marks, fill, left_by, scalars};
 use std::alloc::{AllocError, Global};
 use std::marker::Model;
 use step_batch::Batch;
@@ -21,14 +21,14 @@ pub struct ElementRows {
 }
 
 impl Model for ElementRows {
-    ghost use Rattle.op_element.specs.Rules.{Elements, is_nameless};
+    ghost use Rattle.op_element.specs.Rules.{Elements, left_by};
     ghost use Rattle.std.specs.Prelude.{◌≡◌};
 
     ghost Value = { Elements };
 
     ghost view = { λ k. record { rule = k.rule; lent = k.rows.lent } };
 
-    ghost invariant = { λ k. k.rows.drops ≡ is_nameless k.rule };
+    ghost invariant = { λ k. k.rows.left ≡ left_by k.rule };
 }
 
 impl ElementRows {
@@ -40,7 +40,7 @@ impl ElementRows {
         Ok(ElementRows {
             rule,
             placed: Vec::new(alloc),
-            rows: OutcomeBuffer::new(alloc, is_nameless(rule)),
+            rows: OutcomeBuffer::new(alloc, left_by(rule)),
         })
     }
 
@@ -104,10 +104,10 @@ fn put_all(
     requires seconds { length second.now.steps ≡ length rows.now.steps }
     requires first_scalar { IsTrue (takes_first rule) → IsScalar first.now }
     requires second_scalar { IsTrue (takes_second rule) → IsScalar second.now }
-    requires drops { made.old.drops ≡ loses_name rule }
+    requires left { made.old.left ≡ left_by_rule rule }
     requires fed { made.old.fed ≡ rows.now.labels }
     requires empty { made.old.lent.steps ≡ [] }
-    ensures drops { made.new.drops ≡ made.old.drops }
+    ensures left { made.new.left ≡ made.old.left }
     ensures lent { OnOk result (stages made.new.lent ≡ elements rule (stages first.now) (stages second.now) (stages rows.now)) }
 {
     for i in 0..rows.len() {
@@ -131,10 +131,10 @@ fn put_one(
     requires seconds { i < length second.now.steps }
     requires first_scalar { IsTrue (takes_first rule) → IsScalar first.now }
     requires second_scalar { IsTrue (takes_second rule) → IsScalar second.now }
-    requires drops { made.old.drops ≡ loses_name rule }
+    requires left { made.old.left ≡ left_by_rule rule }
     requires fed { made.old.fed ≡ rows.now.labels }
     requires later { (t : _) → option_map (λ s. s.at) (slice_get rows.now.steps i) ≡ Some t → IsLater made.old.lent t }
-    ensures drops { made.new.drops ≡ made.old.drops }
+    ensures left { made.new.left ≡ made.old.left }
     ensures fed { made.new.fed ≡ made.old.fed }
     ensures later { OnOk result ((t u : _) → option_map (λ s. s.at) (slice_get rows.now.steps i) ≡ Some t → t.0 <ℤ u.0 → IsLater made.new.lent u) }
     ensures lent { OnOk result ((f g s : _) → slice_get (stages first.now) i ≡ Some f → slice_get (stages second.now) i ≡ Some g → slice_get (stages rows.now) i ≡ Some s

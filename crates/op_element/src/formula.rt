@@ -1,4 +1,4 @@
-ghost use Rattle.op_element.specs.Rules.{is_nameless as loses_name, reads_first as takes_first, reads_second as takes_second, slot_read, value_made as made_of, all_marks as marks_of_all, marks_read as marks_with, slots_placed};
+ghost use Rattle.op_element.specs.Rules.{left_by as left_by_rule, reads_first as takes_first, reads_second as takes_second, slot_read, value_made as made_of, all_marks as marks_of_all, marks_read as marks_with, slots_placed};
 ghost use Rattle.promql_meaning.specs.Givens.{both};
 ghost use Rattle.promql_meaning.specs.Meaning.{zero_number};
 ghost use Rattle.std.specs.Prelude.{◌≡◌, [], Some, IfOk, OnOk};
@@ -6,7 +6,7 @@ ghost use Rattle.std.specs.Prelude.{◌≡◌, [], Some, IfOk, OnOk};
 use func_table::Element;
 use std::alloc::AllocError;
 use step_batch::Slot;
-use step_put::PlacedOutcome;
+use step_put::{Left, PlacedOutcome};
 use step_rules::operated_with;
 use step_table::{Marks, drops_name};
 use value_fn::element;
@@ -23,13 +23,14 @@ pub enum ElementRule {
     WithScalar { op: PairOp, scalar_left: bool },
 }
 
-/// Whether a rule drops the metric's name.
-pub(crate) fn is_nameless(rule: ElementRule) -> bool
-    ensures { result ≡ loses_name rule }
+/// What a rule leaves of the labels of rows.
+pub(crate) fn left_by(rule: ElementRule) -> Left
+    ensures { result ≡ left_by_rule rule }
 {
     match rule {
-        ElementRule::Apply(_) => true,
-        ElementRule::WithScalar { op, .. } => drops_name(op),
+        ElementRule::Apply(_) => Left::Nameless,
+        ElementRule::WithScalar { op, .. } if drops_name(op) => Left::Nameless,
+        ElementRule::WithScalar { .. } => Left::All,
     }
 }
 

@@ -1,5 +1,5 @@
 -- Steps that are made of lent ones, and the loops over them.
-use Rattle.std.proofs.Common.{◌≡◌, ◌∙◌, ◌+◌, ◌<◌, ℕ, zero, suc, arith, Bool, true, false, List, [], ◌∷◌, ◌++◌, length, get_or, slice_get, take, drop, map, refl, sym, ap, subst, Option, Some, None}
+use Rattle.std.proofs.Common.{◌≡◌, ◌∙◌, ◌+◌, ◌<◌, ℕ, zero, suc, arith, Bool, true, List, [], ◌∷◌, ◌++◌, length, get_or, slice_get, take, drop, map, refl, sym, ap, subst, Option, Some, None}
 use Rattle.std.specs.Prelude.{ℤ, pos, ◌<ℤ◌, Result, Ok, unwrap_or, ⊤}
 use Rattle.std.specs.List.{IsDistinct, cons_option, filter_map, list_any}
 use Rattle.std.specs.List.Sorted.{IsStrictlySortedBy}
@@ -33,7 +33,9 @@ use Rattle.step_batch.specs.Lent.{InstantsRise, IsLater, LaterThanLast, Lent, Sl
 use Rattle.step_batch.specs.LentWindows.{TimesRise}
 use Rattle.step_batch.specs.declared.steps.PlacedStep.{PlacedStep}
 use Rattle.step_batch.specs.declared.steps.Slot.{Slot}
-use Rattle.step_put.specs.Placed.{PlacesRise, left, made_step, outcomes_of}
+use Rattle.step_put.specs.Placed.{PlacesRise, left_of, made_step, outcomes_of}
+use Rattle.step_put.specs.declared.labels_left.Left.{Left}
+use Rattle.step_put.specs.declared.labels_left.Left.TheVariants as kind
 use Rattle.step_put.specs.declared.placed.PlacedOutcome.{PlacedOutcome}
 use Rattle.op_small.specs.Rules.{absent_value, each, each_at, each_of, names_under, rule_of, small, small_at, value_at, value_of, value_of_slots}
 use Rattle.op_small.specs.declared.rule.SmallRule.TheVariants.{Vector}
@@ -89,10 +91,10 @@ module _ (law : LentRowsAreThoseOfSlots) (labels : List Names) (slots : List Slo
 -- ---- one row
 
 -- what is made of the only labels that were fed, where no names are lost
-pub made_one : TakenIsTable → (drops : Bool) (fed : List Names) (names : Names) (marks : Marks) (value : Result (Option XFrac) NumFault) → drops ≡ false → fed ≡ names ∷ []
-    → made_step drops fed marks (record { place = 0; value = value } ∷ []) ≡ taken marks (record { labels = names; value = value } ∷ [])
+pub made_one : TakenIsTable → (left : Left) (fed : List Names) (names : Names) (marks : Marks) (value : Result (Option XFrac) NumFault) → left ≡ kind.All → fed ≡ names ∷ []
+    → made_step left fed marks (record { place = 0; value = value } ∷ []) ≡ taken marks (record { labels = names; value = value } ∷ [])
 unfolding IsStrictlySortedBy
-made_one law drops fed names marks value d f =
+made_one law left fed names marks value d f =
     (λ j. made_step (d j) (f j) marks (record { place = 0; value = value } ∷ []))
     ∙ settled_table (taken marks (record { labels = names; value = value } ∷ [])) (law marks (record { labels = names; value = value } ∷ []) (tt, tt))
 
@@ -125,42 +127,42 @@ each_rises : (own : Bool) (t : ℤ) (low high : ℕ) (slots : List Slot) → Slo
 each_rises own t low high [] r = tt
 each_rises own t low high (s ∷ slots) r = (r.0, r.1, each_rises own t (s.place + 1) high slots r.2)
 
-outcomes_are : (drops own : Bool) (t : ℤ) (labels : List Names) (slots : List Slot) → outcomes_of drops labels (map (each_of own t) slots) ≡ map (each drops own t) (rows_at labels slots)
-outcomes_are drops own t labels [] = refl
-outcomes_are drops own t labels (s ∷ slots) = one (slice_get labels s.place) (outcomes_of drops labels (map (each_of own t) slots)) (entries_of labels slots) (outcomes_are drops own t labels slots)
+outcomes_are : (left : Left) (own : Bool) (t : ℤ) (labels : List Names) (slots : List Slot) → outcomes_of left labels (map (each_of own t) slots) ≡ map (each left own t) (rows_at labels slots)
+outcomes_are left own t labels [] = refl
+outcomes_are left own t labels (s ∷ slots) = one (slice_get labels s.place) (outcomes_of left labels (map (each_of own t) slots)) (entries_of labels slots) (outcomes_are left own t labels slots)
   where
-    one : (o : Option Names) (outs : List Outcome) (entries : List (Names × XFrac)) → outs ≡ map (each drops own t) (map row_of entries)
-        → cons_option (option_map (λ (names : Names). record { labels = left drops names; value = value_of own t s.value }) o) outs
-        ≡ map (each drops own t) (map row_of (cons_option (option_map (λ (names : Names). (names, s.value)) o) entries))
+    one : (o : Option Names) (outs : List Outcome) (entries : List (Names × XFrac)) → outs ≡ map (each left own t) (map row_of entries)
+        → cons_option (option_map (λ (names : Names). record { labels = left_of left names; value = value_of own t s.value }) o) outs
+        ≡ map (each left own t) (map row_of (cons_option (option_map (λ (names : Names). (names, s.value)) o) entries))
     one None outs entries e = e
-    one (Some names) outs entries e = ap (λ (os : List Outcome). record { labels = left drops names; value = value_of own t s.value } ∷ os) e
+    one (Some names) outs entries e = ap (λ (os : List Outcome). record { labels = left_of left names; value = value_of own t s.value } ∷ os) e
 
-pub made_each : LentRowsAreThoseOfSlots → OutcomesIgnoreOrder → (drops own : Bool) (t : ℤ) (labels : List Names) (slots : List Slot) (marks : Marks) → IsDistinct labels_eq labels → SlotsRise 0 (length labels) slots
-    → made_step drops labels marks (map (each_of own t) slots) ≡ row_by_row (each drops own t) (step_of (entries_of labels slots) marks)
-made_each law o drops own t labels slots marks d r =
-    ap (λ (os : List Outcome). settled (taken marks os)) (outcomes_are drops own t labels slots) ∙ row_by_row_same law labels slots marks d r o (each drops own t)
+pub made_each : LentRowsAreThoseOfSlots → OutcomesIgnoreOrder → (left : Left) (own : Bool) (t : ℤ) (labels : List Names) (slots : List Slot) (marks : Marks) → IsDistinct labels_eq labels → SlotsRise 0 (length labels) slots
+    → made_step left labels marks (map (each_of own t) slots) ≡ row_by_row (each left own t) (step_of (entries_of labels slots) marks)
+made_each law o left own t labels slots marks d r =
+    ap (λ (os : List Outcome). settled (taken marks os)) (outcomes_are left own t labels slots) ∙ row_by_row_same law labels slots marks d r o (each left own t)
 
 pub each_fits : (own : Bool) (t : ℤ) (fed labels : List Names) (slots : List Slot) (placed : List PlacedOutcome) → fed ≡ labels → placed ≡ map (each_of own t) slots → SlotsRise 0 (length labels) slots → PlacesRise 0 (length fed) placed
 each_fits own t fed labels slots placed f p r =
     subst (λ (z : List Names). PlacesRise 0 (length z) placed) (sym f) (subst (PlacesRise 0 (length labels)) (sym p) (each_rises own t 0 (length labels) slots r))
 
 -- a table whose rows stay is itself
-kept_rows : (t : ℤ) (rows : List Row) → filter_map outcomes.row_of (map (each false true t) rows) ≡ rows
+kept_rows : (t : ℤ) (rows : List Row) → filter_map outcomes.row_of (map (each kind.All true t) rows) ≡ rows
 kept_rows t [] = refl
 kept_rows t (row ∷ rows) = ap (λ (rs : List Row). row ∷ rs) (kept_rows t rows)
 
-no_faults : (t : ℤ) (rows : List Row) → filter_map mark_of (map (each false true t) rows) ≡ []
+no_faults : (t : ℤ) (rows : List Row) → filter_map mark_of (map (each kind.All true t) rows) ≡ []
 no_faults t [] = refl
 no_faults t (row ∷ rows) = no_faults t rows
 
-copy_is : LentRowsAreTables → (labels : List Names) (s : PlacedStep) → row_by_row (each false true s.at.0) (stage_of labels s).step ≡ (stage_of labels s).step
+copy_is : LentRowsAreTables → (labels : List Names) (s : PlacedStep) → row_by_row (each kind.All true s.at.0) (stage_of labels s).step ≡ (stage_of labels s).step
 copy_is law labels s =
     let step : Step = (stage_of labels s).step in
-    let same : taken step.marks (map (each false true s.at.0) step.table.rows) ≡ step =
+    let same : taken step.marks (map (each kind.All true s.at.0) step.table.rows) ≡ step =
     (λ j. record { table = record { rows = kept_rows s.at.0 step.table.rows j }; marks = (ap (λ (ms : List Mark). with_fatal step.marks ms) (no_faults s.at.0 step.table.rows) ∙ nothing_more step.marks) j }) in
     ap settled same ∙ settled_table step (law labels s)
 
-pub copies_are : LentRowsAreTables → (labels : List Names) (steps : List PlacedStep) → map (each_at false true) (map (stage_of labels) steps) ≡ map (small_at Vector) (map (stage_of labels) steps)
+pub copies_are : LentRowsAreTables → (labels : List Names) (steps : List PlacedStep) → map (each_at kind.All true) (map (stage_of labels) steps) ≡ map (small_at Vector) (map (stage_of labels) steps)
 copies_are law labels [] = refl
 copies_are law labels (s ∷ steps) = λ j. record { at = s.at; step = copy_is law labels s j } ∷ copies_are law labels steps j
 

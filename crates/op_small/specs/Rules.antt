@@ -16,7 +16,10 @@ use Rattle.xfrac.specs.declared.value.NumFault.{NumFault}
 use Rattle.xfrac.specs.declared.value.NumFault.TheVariants.{Overflow}
 use Rattle.xfrac.specs.declared.value.XFrac.{XFrac}
 use Rattle.xfrac.specs.declared.value.XFrac.TheVariants.{NaN}
-use Rattle.step_put.specs.Placed.{left}
+use Rattle.step_batch.specs.Lent.{Lent}
+use Rattle.step_put.specs.Placed.{left_of}
+use Rattle.step_put.specs.declared.labels_left.Left.{Left}
+use Rattle.step_put.specs.declared.labels_left.Left.TheVariants as kind
 use Rattle.step_put.specs.declared.placed.PlacedOutcome.{PlacedOutcome}
 use Rattle.op_small.specs.declared.rule.SmallRule.{SmallRule}
 use Rattle.op_small.specs.declared.rule.SmallRule.TheVariants.{Number, Time, Stamp, Scalar, Vector, Absent}
@@ -85,10 +88,10 @@ absent_value under (slot ∷ slots) = Ok None
 
 -- ---- a row of each row
 
--- whether the rows that a rule makes lose the names of those that they are made of
-abbrev pub drops_names : SmallRule → Bool
-drops_names (Stamp own) = true
-drops_names _ = false
+-- what a rule leaves of the labels of the rows that it reads
+abbrev pub left_by : SmallRule → Left
+left_by (Stamp own) = kind.Nameless
+left_by _ = kind.All
 
 -- a row's value, or the instant in seconds
 abbrev pub value_of : Bool → ℤ → XFrac → Result (Option XFrac) NumFault
@@ -98,9 +101,16 @@ value_of own t value = if own then Ok (Some value) else seconds_of t
 abbrev pub each_of : Bool → ℤ → Slot → PlacedOutcome
 each_of own t slot = record { place = slot.place; value = value_of own t slot.value }
 
--- the same of a row, which may lose its name
-abbrev pub each : Bool → Bool → ℤ → Row → Outcome
-each drops own t row = record { labels = left drops row.labels; value = value_of own t row.value }
+-- the same of a row, under what is left of its labels
+abbrev pub each : Left → Bool → ℤ → Row → Outcome
+each left own t row = record { labels = left_of left row.labels; value = value_of own t row.value }
 
-abbrev pub each_at : Bool → Bool → StepAt → StepAt
-each_at drops own s = record { at = s.at; step = row_by_row (each drops own s.at.0) s.step }
+abbrev pub each_at : Left → Bool → StepAt → StepAt
+each_at left own s = record { at = s.at; step = row_by_row (each left own s.at.0) s.step }
+
+-- ---- a kernel
+
+-- a rule, and what is lent
+pub record Smalls : Type 0 where
+  pub rule : SmallRule
+  pub lent : Lent

@@ -1,9 +1,10 @@
 //! Rules that make one row at most, under labels of their own.
 ghost use Rattle.op_small.specs.Rules.{absent_value as value_under, bare, names_under, rule_of, small_at, value_at as number_at, value_of_slots};
 ghost use Rattle.op_small.specs.declared.rule.SmallRule.TheVariants.{Absent, Scalar};
-ghost use Rattle.std.specs.Prelude.{◌≡◌, ◌∷◌, [], false, map, OnOk};
+ghost use Rattle.std.specs.Prelude.{◌≡◌, ◌∷◌, [], map, OnOk};
 ghost use Rattle.step_batch.specs.Lent.{stages};
 ghost use Rattle.step_batch.specs.LentWindows.{TimesRise};
+ghost use Rattle.step_put.specs.declared.labels_left.Left.TheVariants.{All as all_labels};
 
 use label_set::Labels;
 use promql_meaning::no_marks;
@@ -25,8 +26,8 @@ pub(crate) fn put_instants(
     at: &[Ms],
 ) -> Result<(), AllocError>
     requires rising { TimesRise at.now }
-    requires drops { buffer.old.drops ≡ false }
-    ensures drops { buffer.new.drops ≡ buffer.old.drops }
+    requires left { buffer.old.left ≡ all_labels }
+    ensures left { buffer.new.left ≡ buffer.old.left }
     ensures lent { OnOk result (stages buffer.new.lent ≡ map (small_at (rule_of number.now)) (bare at.now)) }
 {
     steps_are_well_formed();
@@ -55,8 +56,8 @@ pub(crate) fn put_scalars(
     buffer: &mut OutcomeBuffer,
     rows: &Batch<'_>,
 ) -> Result<(), AllocError>
-    requires { buffer.old.drops ≡ false }
-    ensures drops { buffer.new.drops ≡ buffer.old.drops }
+    requires { buffer.old.left ≡ all_labels }
+    ensures left { buffer.new.left ≡ buffer.old.left }
     ensures lent { OnOk result (stages buffer.new.lent ≡ map (small_at Scalar) (stages rows.now)) }
 {
     steps_are_well_formed();
@@ -87,8 +88,8 @@ pub(crate) fn put_absences(
     under: &Option<Labels>,
     rows: &Batch<'_>,
 ) -> Result<(), AllocError>
-    requires { buffer.old.drops ≡ false }
-    ensures drops { buffer.new.drops ≡ buffer.old.drops }
+    requires { buffer.old.left ≡ all_labels }
+    ensures left { buffer.new.left ≡ buffer.old.left }
     ensures lent { OnOk result (stages buffer.new.lent ≡ map (small_at (Absent under.now)) (stages rows.now)) }
 {
     steps_are_well_formed();
@@ -108,7 +109,7 @@ fn begin_under(
     buffer: &mut OutcomeBuffer,
     under: &Option<Labels>,
 ) -> Result<(), AllocError>
-    ensures drops { buffer.new.drops ≡ buffer.old.drops }
+    ensures left { buffer.new.left ≡ buffer.old.left }
     ensures fed { OnOk result (buffer.new.fed ≡ names_under under.now ∷ []) }
     ensures steps { buffer.new.lent.steps ≡ [] }
 {

@@ -1,8 +1,9 @@
 //! Rules that make a row of each row.
 ghost use Rattle.op_small.specs.Rules.{each_at, each_of, small_at, value_of};
 ghost use Rattle.op_small.specs.declared.rule.SmallRule.TheVariants.{Vector};
-ghost use Rattle.std.specs.Prelude.{◌≡◌, false, map, OnOk};
+ghost use Rattle.std.specs.Prelude.{◌≡◌, map, OnOk};
 ghost use Rattle.step_batch.specs.Lent.{stages};
+ghost use Rattle.step_put.specs.declared.labels_left.Left.TheVariants.{All as all_labels};
 
 use std::alloc::AllocError;
 use step_batch::laws::lent_steps_are_tables;
@@ -20,8 +21,8 @@ pub(crate) fn put_rows(
     own: bool,
     rows: &Batch<'_>,
 ) -> Result<(), AllocError>
-    ensures drops { buffer.new.drops ≡ buffer.old.drops }
-    ensures lent { OnOk result (stages buffer.new.lent ≡ map (each_at buffer.old.drops own) (stages rows.now)) }
+    ensures left { buffer.new.left ≡ buffer.old.left }
+    ensures lent { OnOk result (stages buffer.new.lent ≡ map (each_at buffer.old.left own) (stages rows.now)) }
 {
     lent_steps_are_tables();
     rows_ignore_order();
@@ -40,8 +41,8 @@ pub(crate) fn put_copies(
     made: &mut Vec<PlacedOutcome>,
     rows: &Batch<'_>,
 ) -> Result<(), AllocError>
-    requires { buffer.old.drops ≡ false }
-    ensures drops { buffer.new.drops ≡ buffer.old.drops }
+    requires { buffer.old.left ≡ all_labels }
+    ensures left { buffer.new.left ≡ buffer.old.left }
     ensures lent { OnOk result (stages buffer.new.lent ≡ map (small_at Vector) (stages rows.now)) }
 {
     lent_steps_are_tables();

@@ -1,7 +1,8 @@
-ghost use Rattle.op_small.specs.Rules.{drops_names as drops};
+ghost use Rattle.op_small.specs.Rules.{left_by as left_by_rule};
 ghost use Rattle.std.specs.Prelude.{◌≡◌};
 
 use label_set::Labels;
+use step_put::Left;
 use xfrac::XFrac;
 
 /// What a small kernel makes of each step.
@@ -22,16 +23,16 @@ pub enum SmallRule {
     Absent(Option<Labels>),
 }
 
-/// Whether the rows that a rule makes lose the names of those that they are made of.
-pub(crate) fn drops_names(rule: &SmallRule) -> bool
-    ensures { result ≡ drops rule.now }
+/// What a rule leaves of the labels of the rows that it reads.
+pub(crate) fn left_by(rule: &SmallRule) -> Left
+    ensures { result ≡ left_by_rule rule.now }
 {
     match rule {
-        SmallRule::Stamp { .. } => true,
+        SmallRule::Stamp { .. } => Left::Nameless,
         SmallRule::Number(_)
         | SmallRule::Time
         | SmallRule::Scalar
         | SmallRule::Vector
-        | SmallRule::Absent(_) => false,
+        | SmallRule::Absent(_) => Left::All,
     }
 }

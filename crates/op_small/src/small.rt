@@ -1,12 +1,13 @@
-ghost use Rattle.op_small.specs.Rules.{drops_names as drops, smalls};
+ghost use Rattle.op_small.specs.Rules.{left_by as left_by_rule, smalls};
 ghost use Rattle.std.specs.Prelude.{◌≡◌, [], IfOk, OnOk};
 ghost use Rattle.step_batch.specs.Lent.{stages};
 ghost use Rattle.step_batch.specs.LentWindows.{TimesRise};
 
 use crate::ones::{put_absences, put_instants, put_scalars};
 use crate::rows::{put_copies, put_rows};
-use crate::rule::{SmallRule, drops_names};
+use crate::rule::{SmallRule, left_by};
 use std::alloc::{AllocError, Global};
+use std::marker::Model;
 use step_batch::Batch;
 use step_put::{OutcomeBuffer, PlacedOutcome};
 use ticks::Ms;
@@ -18,16 +19,26 @@ pub struct Small {
     rule: SmallRule,
     made: Vec<PlacedOutcome>,
     buffer: OutcomeBuffer,
-    ghost named: { buffer.drops ≡ drops rule },
+}
+
+impl Model for Small {
+    ghost use Rattle.op_small.specs.Rules.{Smalls, left_by};
+    ghost use Rattle.std.specs.Prelude.{◌≡◌};
+
+    ghost Value = { Smalls };
+
+    ghost view = { λ k. record { rule = k.rule; lent = k.buffer.lent } };
+
+    ghost invariant = { λ k. k.buffer.left ≡ left_by k.rule };
 }
 
 impl Small {
     /// A kernel that was fed nothing. The only error is want of memory.
     pub fn new(alloc: Global, rule: SmallRule) -> Result<Small, AllocError>
         ensures rule { IfOk result (λ k. k.rule ≡ rule) }
-        ensures lent { IfOk result (λ k. stages k.buffer.lent ≡ []) }
+        ensures lent { IfOk result (λ k. stages k.lent ≡ []) }
     {
-        let buffer = OutcomeBuffer::new(alloc, drops_names(&rule));
+        let buffer = OutcomeBuffer::new(alloc, left_by(&rule));
         Ok(Small {
             alloc,
             rule,
@@ -41,7 +52,7 @@ impl Small {
     pub fn feed(&mut self, at: &[Ms], rows: &Batch<'_>) -> Result<(), AllocError>
         requires { TimesRise at.now }
         ensures rule { self.new.rule ≡ self.old.rule }
-        ensures lent { OnOk result (stages self.new.buffer.lent ≡ smalls self.old.rule at.now (stages rows.now)) }
+        ensures lent { OnOk result (stages self.new.lent ≡ smalls self.old.rule at.now (stages rows.now)) }
     {
         fill(
             self.alloc,
@@ -55,7 +66,7 @@ impl Small {
 
     /// Lends the steps that were made of what was fed last. It takes no memory.
     pub fn lend(&self) -> Batch<'_>
-        ensures { result ≡ self.now.buffer.lent }
+        ensures { result ≡ self.now.lent }
     {
         self.buffer.lend()
     }
@@ -71,8 +82,8 @@ fn fill(
     rows: &Batch<'_>,
 ) -> Result<(), AllocError>
     requires rising { TimesRise at.now }
-    requires drops { buffer.old.drops ≡ drops rule.now }
-    ensures drops { buffer.new.drops ≡ buffer.old.drops }
+    requires left { buffer.old.left ≡ left_by_rule rule.now }
+    ensures left { buffer.new.left ≡ buffer.old.left }
     ensures lent { OnOk result (stages buffer.new.lent ≡ smalls rule.now at.now (stages rows.now)) }
 {
     match rule {

@@ -4,6 +4,7 @@ use Rattle.std.specs.Prelude.{◌&&◌, IsTrue, Result, Ok, Err, nat_lt, pos, sl
 use Rattle.std.specs.BTreeSet.{insert_key}
 use Rattle.std.specs.List.{IsDistinct, cons_option, filter_map}
 use Rattle.std.specs.Option.{option_map, option_to_list}
+use Rattle.std.proofs.lemmas.List.Kept.{AllPairs-from_increasing}
 use Rattle.label_set.specs.LabelEquality.{labels_eq}
 use Rattle.step_batch.specs.Laws.{LentRowsAreTables, LentRowsAreThoseOfSlots}
 use Rattle.step_batch.specs.Lent.{SlotsRise, entries_of, entry_of, no_marks, on_last, stage_with_marks, step_of}
@@ -11,30 +12,32 @@ use Rattle.step_batch.specs.Lent as lent
 use Rattle.step_batch.specs.declared.steps.PlacedStep.{PlacedStep}
 use Rattle.step_batch.specs.declared.steps.Slot.{Slot}
 use Rattle.step_table.specs.Gathering.{settled_table}
-use Rattle.step_table.specs.Groups.{Names}
-use Rattle.step_table.specs.Laws.{SettledIsWellFormed}
-use Rattle.step_table.specs.WellFormed.{IsTable}
-use Rattle.std.specs.List.Sorted.{IsStrictlySortedBy}
+use Rattle.step_table.specs.Groups.{Names, lone_items, shared_names}
+use Rattle.std.specs.List.Sorted.{IsNonDecreasingBy, IsPermutation, IsStrictlyIncreasing}
 use Rattle.step_table.specs.KeySets.{set_more}
 use Rattle.step_table.specs.Orders.{mark_cmp}
-use Rattle.step_table.specs.Outcomes.{fault_mark, mark_of, mark_of_value, row_of, settled, taken}
+use Rattle.step_table.specs.Outcomes.{fault_mark, keyed, mark_of, mark_of_value, row_of, settled, taken}
 use Rattle.step_table.specs.Shuffles.{SettledIgnoresOrder, Shuffled}
+use Rattle.step_table.specs.Shuffling.{chosen_shuffled, from_permutation, mapped_shuffled}
 use Rattle.step_table.specs.Timed.{StepAt}
 use Rattle.step_table.specs.Unions.{set_of, united, with_fatal}
 use Rattle.step_table.specs.declared.marks.Mark.{Mark}
-use Rattle.step_table.specs.declared.marks.Mark.TheVariants.{Overflow, Irrational, OutOfCalendar}
+use Rattle.step_table.specs.declared.marks.Mark.TheVariants.{Overflow, Irrational, SameLabelset, OutOfCalendar}
 use Rattle.step_table.specs.declared.marks.Marks.{Marks}
-use Rattle.step_table.specs.declared.outcomes.Outcome.{Outcome}
 use Rattle.step_table.specs.declared.step.Row.{Row}
 use Rattle.step_table.specs.declared.step.Step.{Step}
 use Rattle.xfrac.specs.declared.value.NumFault.{NumFault}
 use Rattle.xfrac.specs.declared.value.NumFault.TheVariants as fault
 use Rattle.xfrac.specs.declared.value.XFrac.{XFrac}
-use Rattle.step_put.specs.Placed.{PlacesRise, do_rise, has_value, is_behind, left, made_step, marks_made, marks_of_faults, noted, one_if, outcome_of, outcomes_of, slot_at, slot_made, slots_made, with_fault}
+use Rattle.step_put.specs.Placed.{PlacesRise, do_rise, has_value, is_behind, left_of, made_step, marks_made, marks_of_faults, noted, one_if, outcomes_of, slot_at, slot_made, slots_made, with_fault}
 use Rattle.step_put.specs.Puts.{AreAt}
 use Rattle.ticks.specs.declared.moment.Ms.{Ms}
-use Rattle.step_put.proofs.Putting.{on_last_one}
+use Rattle.step_put.specs.Clashes.{lone_slots, marks_at, shared_places}
+use Rattle.step_put.proofs.Sharing.{lone_rows, rows_in, shared_marks_are}
+use Rattle.step_put.proofs.Lone.{AllBelow, DoNotFall, all_below, fall_not, lone_rises}
+use Rattle.step_put.proofs.Putting.{on_last_one, within}
 use Rattle.step_put.specs.declared.faults.Faults.{Faults}
+use Rattle.step_put.specs.declared.labels_left.Left.{Left}
 use Rattle.step_put.specs.declared.placed.PlacedOutcome.{PlacedOutcome}
 
 -- ---- faults
@@ -110,20 +113,11 @@ entries_more labels places placed i r l is =
     ∙ chosen_append (entry_of labels) (slots_made places (take i placed)) (option_to_list (slot_made places (get_or placed i r)))
     ∙ ap (λ (p : PlacedOutcome). entries_of labels (slots_made places (take i placed)) ++ entries_of labels (option_to_list (slot_made places p))) (sym is)
 
-some_option : {A B : Type 0} (f : A → B) (o : Option A) (b : B) → option_map f o ≡ Some b → (x : A) × (o ≡ Some x) × (f x ≡ b)
-some_option f None b e = absurd (cc)
-some_option f (Some x) b e = (x, refl, cc)
-
-pub outcomes_more : (drops : Bool) (fed : List Names) (placed : List PlacedOutcome) (i : ℕ) (r : PlacedOutcome) (labels : Names) (done now : List Outcome) → i < length placed → r ≡ get_or placed i r
-    → option_map (left drops) (slice_get fed r.place) ≡ Some labels → done ≡ outcomes_of drops fed (take i placed)
-    → now ≡ done ++ record { labels = labels; value = r.value } ∷ [] → now ≡ outcomes_of drops fed (take (i + 1) placed)
-outcomes_more drops fed placed i r labels done now l is h was e =
-    let there = some_option (left drops) (slice_get fed r.place) labels h in
-    e ∙ ap (λ (z : List Outcome). z ++ record { labels = labels; value = r.value } ∷ []) was
-    ∙ ap (λ (z : Names). outcomes_of drops fed (take i placed) ++ record { labels = z; value = r.value } ∷ []) (sym there.2)
-    ∙ ap (λ (o : Option Names). outcomes_of drops fed (take i placed) ++ option_to_list (option_map (λ (n : Names). record { labels = left drops n; value = r.value }) o)) (sym there.1)
-    ∙ ap (λ (p : PlacedOutcome). outcomes_of drops fed (take i placed) ++ option_to_list (outcome_of drops fed p)) is
-    ∙ sym (chosen_more (outcome_of drops fed) placed i r l)
+pub slots_more : (places : List ℕ) (placed : List PlacedOutcome) (i own : ℕ) (r : PlacedOutcome) (done now : List Slot) → i < length placed → r ≡ get_or placed i r → own ≡ slice_index_or places r.place 0 → done ≡ slots_made places (take i placed)
+    → now ≡ done ++ option_to_list (slot_at own r.value) → now ≡ slots_made places (take (i + 1) placed)
+slots_more places placed i own r done now l is o d n =
+    n ∙ ap (λ (z : List Slot). z ++ option_to_list (slot_at own r.value)) d ∙ ap (λ (m : ℕ). slots_made places (take i placed) ++ option_to_list (slot_at m r.value)) o
+    ∙ ap (λ (p : PlacedOutcome). slots_made places (take i placed) ++ option_to_list (slot_made places p)) is ∙ sym (chosen_more (slot_made places) placed i r l)
 
 -- ---- places
 
@@ -178,22 +172,11 @@ pub slot_alone : (low high : ℕ) (o : Option Slot) (slots : List Slot) → Slot
 slot_alone low high None slots r = tt
 slot_alone low high (Some s) slots r = (r.0, r.1, tt)
 
-left_there : (drops : Bool) (labels fed : List Names) (places : List ℕ) (i : ℕ) → AreAt labels (map (left drops) fed) places → i < length fed → slice_get labels (slice_index_or places i 0) ≡ Some (left drops (get_or fed i []))
-left_there drops labels [] places i a l = absurd (omega arith)
-left_there drops labels (f ∷ fed) [] i a l = absurd a
-left_there drops labels (f ∷ fed) (p ∷ places) zero a l = a.0
-left_there drops labels (f ∷ fed) (p ∷ places) (suc i) a l = left_there drops labels fed places i a.1 (omega arith)
-
-pub there_within : (labels : List Names) (i : ℕ) (names : Names) → slice_get labels i ≡ Some names → i < length labels
-there_within [] i n h = absurd (cc)
-there_within (l ∷ labels) zero n h = omega arith
-there_within (l ∷ labels) (suc i) n h = let k = there_within labels i n h in omega arith
-
-pub places_count : (drops : Bool) (labels fed : List Names) (places : List ℕ) → AreAt labels (map (left drops) fed) places → length places ≡ length fed
-places_count drops labels [] [] a = refl
-places_count drops labels [] (p ∷ places) a = absurd a
-places_count drops labels (f ∷ fed) [] a = absurd a
-places_count drops labels (f ∷ fed) (p ∷ places) a = ap suc (places_count drops labels fed places a.1)
+left_there : (left : Left) (labels fed : List Names) (places : List ℕ) (i : ℕ) → AreAt labels (map (left_of left) fed) places → i < length fed → slice_get labels (slice_index_or places i 0) ≡ Some (left_of left (get_or fed i []))
+left_there left labels [] places i a l = absurd (omega arith)
+left_there left labels (f ∷ fed) [] i a l = absurd a
+left_there left labels (f ∷ fed) (p ∷ places) zero a l = a.0
+left_there left labels (f ∷ fed) (p ∷ places) (suc i) a l = left_there left labels fed places i a.1 (omega arith)
 
 -- ---- the step
 
@@ -205,12 +188,31 @@ parts false c e = absurd (cc)
 behind_is : (m n : ℕ) → nat_lt m n ≡ true → m + 1 ≤ n
 behind_is m n h = grind (arith, h)
 
-module _ (drops : Bool) (labels fed : List Names) (places : List ℕ) (a : AreAt labels (map (left drops) fed) places) where
+is_lower : (m n : ℕ) → m < n → nat_lt m n ≡ true
+is_lower m n h = grind (arith, h)
+
+-- where the own places of all that is fed rise, those of each step do
+module _ (places : List ℕ) (inc : IsStrictlyIncreasing places) where
+  rise_over : (start : ℕ) (last : Option ℕ) (placed : List PlacedOutcome) → PlacesRise start (length places) placed → ((n : ℕ) → start ≤ n → n < length places → is_behind last (slice_index_or places n 0) ≡ true) → IsTrue (do_rise last (slots_made places placed))
+  rise_over start last [] r f = refl
+  rise_over start last (p ∷ placed) r f =
+      one (slice_index_or places p.place 0) p.value (f p.place r.0 r.1) (rise_over (p.place + 1) last placed r.2 (λ n a b. let l = r.0 in f n (omega arith) b))
+      (rise_over (p.place + 1) (Some (slice_index_or places p.place 0)) placed r.2 (λ n a b. is_lower (slice_index_or places p.place 0) (slice_index_or places n 0) (AllPairs-from_increasing places inc p.place n 0 (omega arith) b)))
+    where
+      one : (own : ℕ) (v : Result (Option XFrac) NumFault) → is_behind last own ≡ true → IsTrue (do_rise last (slots_made places placed)) → IsTrue (do_rise (Some own) (slots_made places placed)) → IsTrue (do_rise last (cons_option (slot_at own v) (slots_made places placed)))
+      one own (Ok (Some v)) b e g = rw b g
+      one own (Ok None) b e g = e
+      one own (Err x) b e g = e
+
+  pub all_rising : (placed : List PlacedOutcome) → PlacesRise 0 (length places) placed → IsTrue (do_rise None (slots_made places placed))
+  all_rising placed r = rise_over 0 None placed r (λ n a b. refl)
+
+module _ (left : Left) (labels fed : List Names) (places : List ℕ) (a : AreAt labels (map (left_of left) fed) places) where
   -- the slots from a place on, where a value comes and where none does
   slots_rise : (start low : ℕ) (last : Option ℕ) (placed : List PlacedOutcome) → PlacesRise start (length fed) placed → ((n : ℕ) → IsTrue (is_behind last n) → low ≤ n) → IsTrue (do_rise last (slots_made places placed)) → SlotsRise low (length labels) (slots_made places placed)
   slots_rise start low last [] r w t = tt
   slots_rise start low last (p ∷ placed) r w t =
-      one (slice_index_or places p.place 0) p.value (there_within labels (slice_index_or places p.place 0) (left drops (get_or fed p.place [])) (left_there drops labels fed places p.place a r.1))
+      one (slice_index_or places p.place 0) p.value (within labels (slice_index_or places p.place 0) (left_of left (get_or fed p.place [])) (left_there left labels fed places p.place a r.1))
       (λ e. slots_rise (p.place + 1) (slice_index_or places p.place 0 + 1) (Some (slice_index_or places p.place 0)) placed r.2 (λ n h. behind_is (slice_index_or places p.place 0) n h) e) (λ e. slots_rise (p.place + 1) low last placed r.2 w e) t
     where
       one : (own : ℕ) (v : Result (Option XFrac) NumFault) → own < length labels → (IsTrue (do_rise (Some own) (slots_made places placed)) → SlotsRise (own + 1) (length labels) (slots_made places placed))
@@ -223,18 +225,18 @@ module _ (drops : Bool) (labels fed : List Names) (places : List ℕ) (a : AreAt
   pub all_rise : (placed : List PlacedOutcome) → PlacesRise 0 (length fed) placed → IsTrue (do_rise None (slots_made places placed)) → SlotsRise 0 (length labels) (slots_made places placed)
   all_rise placed r t = slots_rise 0 0 None placed r (λ n h. omega arith) t
 
-  rows_taken : (low : ℕ) (placed : List PlacedOutcome) → PlacesRise low (length fed) placed → filter_map row_of (outcomes_of drops fed placed) ≡ map lent.row_of (entries_of labels (slots_made places placed))
+  rows_taken : (low : ℕ) (placed : List PlacedOutcome) → PlacesRise low (length fed) placed → filter_map row_of (outcomes_of left fed placed) ≡ map lent.row_of (entries_of labels (slots_made places placed))
   rows_taken low [] r = refl
   rows_taken low (p ∷ placed) r =
-      one (slice_index_or places p.place 0) p.value (get_or fed p.place []) (get_there fed p.place [] r.1) (left_there drops labels fed places p.place a r.1) (rows_taken (p.place + 1) placed r.2)
+      one (slice_index_or places p.place 0) p.value (get_or fed p.place []) (get_there fed p.place [] r.1) (left_there left labels fed places p.place a r.1) (rows_taken (p.place + 1) placed r.2)
     where
-      one : (own : ℕ) (v : Result (Option XFrac) NumFault) (names : Names) → slice_get fed p.place ≡ Some names → slice_get labels own ≡ Some (left drops names) → filter_map row_of (outcomes_of drops fed placed) ≡ map lent.row_of (entries_of labels (slots_made places placed))
-          → filter_map row_of (cons_option (option_map (λ (n : Names). record { labels = left drops n; value = v }) (slice_get fed p.place)) (outcomes_of drops fed placed)) ≡ map lent.row_of (entries_of labels (cons_option (slot_at own v) (slots_made places placed)))
-      one own (Ok (Some v)) names h k e = rw (h, k) (ap (λ (z : List Row). record { labels = left drops names; value = v } ∷ z) e)
+      one : (own : ℕ) (v : Result (Option XFrac) NumFault) (names : Names) → slice_get fed p.place ≡ Some names → slice_get labels own ≡ Some (left_of left names) → filter_map row_of (outcomes_of left fed placed) ≡ map lent.row_of (entries_of labels (slots_made places placed))
+          → filter_map row_of (cons_option (option_map (λ (n : Names). record { labels = left_of left n; value = v }) (slice_get fed p.place)) (outcomes_of left fed placed)) ≡ map lent.row_of (entries_of labels (cons_option (slot_at own v) (slots_made places placed)))
+      one own (Ok (Some v)) names h k e = rw (h, k) (ap (λ (z : List Row). record { labels = left_of left names; value = v } ∷ z) e)
       one own (Ok None) names h k e = rw h e
       one own (Err x) names h k e = rw h e
 
-  marks_taken : (low : ℕ) (placed : List PlacedOutcome) → PlacesRise low (length fed) placed → filter_map mark_of (outcomes_of drops fed placed) ≡ marks_made placed
+  marks_taken : (low : ℕ) (placed : List PlacedOutcome) → PlacesRise low (length fed) placed → filter_map mark_of (outcomes_of left fed placed) ≡ marks_made placed
   marks_taken low [] r = refl
   marks_taken low (p ∷ placed) r =
       let here = get_there fed p.place [] r.1 in
@@ -242,16 +244,70 @@ module _ (drops : Bool) (labels fed : List Names) (places : List ℕ) (a : AreAt
 
   -- where the values go to rising places, they are what is made
   pub made_apart : LentRowsAreThoseOfSlots → LentRowsAreTables → SettledIgnoresOrder → IsDistinct labels_eq labels → (marks : Marks) (placed : List PlacedOutcome) → PlacesRise 0 (length fed) placed → IsTrue (do_rise None (slots_made places placed))
-      → made_step drops fed marks placed ≡ step_of (entries_of labels (slots_made places placed)) (with_fatal marks (marks_made placed))
+      → made_step left fed marks placed ≡ step_of (entries_of labels (slots_made places placed)) (with_fatal marks (marks_made placed))
   made_apart law tables order d marks placed r t =
       let whole : Step = step_of (entries_of labels (slots_made places placed)) (with_fatal marks (marks_made placed)) in
       let s : PlacedStep = record { at = record { 0 = pos 0 }; slots = slots_made places placed; marks = with_fatal marks (marks_made placed) } in
       let same : Shuffled (map lent.row_of (entries_of labels (slots_made places placed))) whole.table.rows = law (record { labels = labels; steps = [] }) s (record { distinct = d; placed = tt; rising = tt }) (all_rise placed r t) in
-      order (taken marks (outcomes_of drops fed placed)) whole
+      order (taken marks (outcomes_of left fed placed)) whole
       (record { rows = subst (λ (z : List Row). Shuffled z whole.table.rows) (sym (rows_taken 0 placed r)) same; marks = ap (with_fatal marks) (marks_taken 0 placed r) })
       ∙ settled_table whole (tables labels s)
 
+  -- the slots of what is made are at places of labels
+  pub all_placed : (low : ℕ) (placed : List PlacedOutcome) → PlacesRise low (length fed) placed → AllBelow (length labels) (slots_made places placed)
+  all_placed low [] r = tt
+  all_placed low (p ∷ placed) r =
+      one (slice_index_or places p.place 0) p.value (within labels (slice_index_or places p.place 0) (left_of left (get_or fed p.place [])) (left_there left labels fed places p.place a r.1)) (all_placed (p.place + 1) placed r.2)
+    where
+      one : (own : ℕ) (v : Result (Option XFrac) NumFault) → own < length labels → AllBelow (length labels) (slots_made places placed) → AllBelow (length labels) (cons_option (slot_at own v) (slots_made places placed))
+      one own (Ok (Some v)) l e = (l, e)
+      one own (Ok None) l e = e
+      one own (Err x) l e = e
+
+  -- sorted by place they are so too, and those that have a place of their own rise
+  pub sorted_below : (placed : List PlacedOutcome) (slots : List Slot) → PlacesRise 0 (length fed) placed → IsPermutation (slots_made places placed) slots → AllBelow (length labels) slots
+  sorted_below placed slots r perm = all_below (length labels) (slots_made places placed) slots (from_permutation (slots_made places placed) slots perm) (all_placed 0 placed r)
+
+  pub sorted_rise : (placed : List PlacedOutcome) (slots : List Slot) → PlacesRise 0 (length fed) placed → IsPermutation (slots_made places placed) slots → IsNonDecreasingBy (λ (s : Slot). s.place) slots → SlotsRise 0 (length labels) (lone_slots None slots)
+  sorted_rise placed slots r perm w = lone_rises (length labels) slots (fall_not 0 slots (λ d l. omega arith) w) (sorted_below placed slots r perm)
+
+  -- where rows may share labels, those are made that have a place of their own
+  pub made_clashing : LentRowsAreThoseOfSlots → LentRowsAreTables → SettledIgnoresOrder → IsDistinct labels_eq labels → (marks : Marks) (placed : List PlacedOutcome) (slots : List Slot) → PlacesRise 0 (length fed) placed
+      → IsPermutation (slots_made places placed) slots → IsNonDecreasingBy (λ (s : Slot). s.place) slots
+      → made_step left fed marks placed ≡ step_of (entries_of labels (lone_slots None slots)) (with_fatal (with_fatal marks (marks_made placed)) (marks_at labels (shared_places None slots)))
+  made_clashing law tables order d marks placed slots r perm sorts =
+      let w : DoNotFall 0 slots = fall_not 0 slots (λ d l. omega arith) sorts in
+      let all : Marks = with_fatal marks (marks_made placed) in
+      let sorted : Step = record { table = record { rows = rows_in labels slots }; marks = all } in
+      let lone : Step = record { table = record { rows = rows_in labels (lone_slots None slots) }; marks = all } in
+      let whole : Step = step_of (entries_of labels (lone_slots None slots)) all in
+      let shuffled : Shuffled (slots_made places placed) slots = from_permutation (slots_made places placed) slots perm in
+      let rise : SlotsRise 0 (length labels) (lone_slots None slots) = sorted_rise placed slots r perm sorts in
+      let s : PlacedStep = record { at = record { 0 = pos 0 }; slots = lone_slots None slots; marks = all } in
+      let same : Shuffled (rows_in labels (lone_slots None slots)) whole.table.rows = law (record { labels = labels; steps = [] }) s (record { distinct = d; placed = tt; rising = tt }) rise in
+      let rows : Shuffled (rows_in labels (slots_made places placed)) (rows_in labels slots) =
+      mapped_shuffled lent.row_of (entries_of labels (slots_made places placed)) (entries_of labels slots) (chosen_shuffled (entry_of labels) (slots_made places placed) slots shuffled) in
+      let taken_is : settled (taken marks (outcomes_of left fed placed)) ≡ settled sorted =
+      order (taken marks (outcomes_of left fed placed)) sorted (record { rows = subst (λ (z : List Row). Shuffled z (rows_in labels slots)) (sym (rows_taken 0 placed r)) rows; marks = ap (with_fatal marks) (marks_taken 0 placed r) }) in
+      let apart : settled lone ≡ whole = order lone whole (record { rows = same; marks = refl }) ∙ settled_table whole (tables labels s) in
+      let left_rows : lone_items (keyed (rows_in labels slots)) ≡ whole.table.rows = lone_rows labels d slots w ∙ ap (λ (z : Step). z.table.rows) apart in
+      let left_marks : with_fatal all (map SameLabelset (shared_names (keyed (rows_in labels slots)))) ≡ with_fatal all (marks_at labels (shared_places None slots)) =
+      ap (λ (fs : List Mark). united all (record { fatal = fs; notes = [] })) (shared_marks_are labels d slots w) in
+      taken_is ∙ (λ i. record { table = record { rows = left_rows i }; marks = left_marks i })
+
 -- ---- the last step
+
+pub entries_behind : (labels : List Names) (done : List Slot) (s : Slot) (names : Names) → slice_get labels s.place ≡ Some names → entries_of labels (done ++ s ∷ []) ≡ entries_of labels done ++ (names, s.value) ∷ []
+entries_behind labels done s names h =
+    chosen_append (entry_of labels) done (s ∷ []) ∙ ap (λ (o : Option Names). entries_of labels done ++ cons_option (option_map (λ (n : Names). (n, s.value)) o) []) h
+
+pub mark_behind : (labels : List Names) (places : List ℕ) (place : ℕ) (names : Names) → place < length labels → names ≡ get_or labels place names → marks_at labels (place ∷ places) ≡ SameLabelset names ∷ marks_at labels places
+mark_behind labels places place names l e =
+    ap (λ (o : Option Names). cons_option (option_map SameLabelset o) (marks_at labels places)) (get_there labels place names l) ∙ ap (λ (n : Names). SameLabelset n ∷ marks_at labels places) (sym e)
+
+-- more marks of a step without rows
+pub unite_more : (front was now : List StepAt) (at : Ms) (marks more : Marks) → was ≡ front ++ record { at = at; step = step_of [] marks } ∷ [] → now ≡ on_last (stage_with_marks more) was → now ≡ front ++ record { at = at; step = step_of [] (united marks more) } ∷ []
+unite_more front was now at marks more w n = n ∙ ap (on_last (stage_with_marks more)) w ∙ on_last_one (stage_with_marks more) front (record { at = at; step = step_of [] marks })
 
 -- the marks of a step that was begun
 pub unite_first : (front began now : List StepAt) (at : Ms) (marks : Marks) → began ≡ front ++ record { at = at; step = step_of [] no_marks } ∷ [] → now ≡ on_last (stage_with_marks marks) began
@@ -264,8 +320,3 @@ pub unite_faults : (front put now : List StepAt) (at : Ms) (marks more : Marks) 
 unite_faults front put now at marks more es fs ms p n m f =
     n ∙ ap (on_last (stage_with_marks more)) p ∙ on_last_one (stage_with_marks more) front (record { at = at; step = step_of es marks })
     ∙ ap (λ (z : Marks). front ++ record { at = at; step = step_of es (united marks z) } ∷ []) (m ∙ ap (λ (z : List Mark). record { fatal = z; notes = [] }) f)
-
--- rows that share their labels with no other are a table
-pub settled_is_table : SettledIsWellFormed → (step : Step) → IsTable (settled step).table.rows
-unfolding IsStrictlySortedBy
-settled_is_table law step = (law (record { table = step.table; marks = no_marks }) (record { fatal = tt; notes = tt })).rows

@@ -45,13 +45,6 @@ take_more [] i d h = absurd (omega arith)
 take_more (r ∷ rows) zero d h = refl
 take_more (r ∷ rows) (suc i) d h = let e : suc i + 1 ≡ suc (i + 1) = omega arith in rw e (ap (λ rs. r ∷ rs) (take_more rows i d (omega arith)))
 
--- the place of what is left of one more labels
-pub named_more : (f : Names → Names) (labels now all : List Names) (places : List ℕ) (i p : ℕ) (d : Names) → i < length all → ((j : ℕ) (n : Names) → slice_get labels j ≡ Some n → slice_get now j ≡ Some n)
-    → AreAt labels (map f (take i all)) places → slice_get now p ≡ Some (f (get_or all i d)) → AreAt now (map f (take (i + 1) all)) (places ++ p ∷ [])
-named_more f labels now all places i p d l k a h =
-    let e : map f (take (i + 1) all) ≡ map f (take i all) ++ f (get_or all i d) ∷ [] = ap (map f) (take_more all i d l) ∙ map-append f (take i all) (get_or all i d ∷ []) in
-    subst (λ (z : List Names). AreAt now z (places ++ p ∷ [])) (sym e) (at_more now (map f (take i all)) places p (f (get_or all i d)) (at_kept labels now (map f (take i all)) places k a) h)
-
 -- the places of one more row
 pub at_next : (labels now : List Names) (rows : List Row) (places : List ℕ) (i p : ℕ) (d : Row) → i < length rows → ((j : ℕ) (n : Names) → slice_get labels j ≡ Some n → slice_get now j ≡ Some n)
     → AreAt labels (names_in (take i rows)) places → slice_get now p ≡ Some (get_or rows i d).labels → AreAt now (names_in (take (i + 1) rows)) (places ++ p ∷ [])

@@ -1,8 +1,8 @@
 -- What is made of rows that are fed: values, nothing or faults, by the places of the labels that were fed.
-use Rattle.std.specs.Prelude.{◌≤◌, ◌<◌, ◌+◌, ◌&&◌, ℕ, Bool, true, false, List, [], ◌∷◌, ◌++◌, nat_lt, Option, None, Some, Result, Ok, Err, slice_get, slice_index_or, if◌then◌else◌, ⊤}
+use Rattle.std.specs.Prelude.{◌≤◌, ◌<◌, ◌+◌, ◌&&◌, ℕ, Bool, true, false, List, [], ◌∷◌, ◌++◌, map, nat_lt, Option, None, Some, Result, Ok, Err, slice_get, slice_index_or, if◌then◌else◌, ⊤}
 use Rattle.std.specs.List.{filter_map}
 use Rattle.std.specs.Option.{option_map}
-use Rattle.label_set.specs.Labels.{metric_name, without}
+use Rattle.label_set.specs.Labels.{metric_name, signature, without}
 use Rattle.step_batch.specs.Lent.{Lent}
 use Rattle.step_batch.specs.declared.steps.Slot.{Slot}
 use Rattle.step_table.specs.Groups.{Names}
@@ -15,29 +15,44 @@ use Rattle.step_table.specs.declared.step.Step.{Step}
 use Rattle.xfrac.specs.declared.value.NumFault.{NumFault}
 use Rattle.xfrac.specs.declared.value.NumFault.TheVariants as fault
 use Rattle.xfrac.specs.declared.value.XFrac.{XFrac}
+use Rattle.step_put.specs.Puts.{AreAt}
+use Rattle.step_put.specs.declared.labels_left.Left.{Left}
+use Rattle.step_put.specs.declared.labels_left.Left.TheVariants as kind
 use Rattle.step_put.specs.declared.placed.PlacedOutcome.{PlacedOutcome}
 use Rattle.step_put.specs.declared.faults.Faults.{Faults}
 
--- whether rows lose their metric's name, the labels that were fed, and what is lent
+-- what is left of labels
+abbrev pub left_of : Left → Names → Names
+left_of kind.All names = names
+left_of kind.Nameless names = without (metric_name ∷ []) names
+left_of (kind.Signature on listed) names = signature on listed names
+
+-- what is left of labels, the labels that were fed, and the place of what is left of each
+pub record Naming : Type 0 where
+  pub left : Left
+  pub fed : List Names
+  pub places : List ℕ
+
+-- what is left of each labels that were fed stands at its place among those that are lent
+abbrev pub IsPlaced : Lent → Naming → Type 0
+IsPlaced lent n = AreAt lent.labels (map (left_of n.left) n.fed) n.places
+
+-- what is left of labels, the labels that were fed, and what is lent
 pub record Made : Type 0 where
-  pub drops : Bool
+  pub left : Left
   pub fed : List Names
   pub lent : Lent
 
--- the labels that are left of labels
-abbrev pub left : Bool → Names → Names
-left drops names = if drops then without (metric_name ∷ []) names else names
-
 -- what is made of a row, under the labels that are left
-abbrev pub outcome_of : Bool → List Names → PlacedOutcome → Option Outcome
-outcome_of drops fed p = option_map (λ (names : Names). record { labels = left drops names; value = p.value }) (slice_get fed p.place)
+abbrev pub outcome_of : Left → List Names → PlacedOutcome → Option Outcome
+outcome_of left fed p = option_map (λ (names : Names). record { labels = left_of left names; value = p.value }) (slice_get fed p.place)
 
-abbrev pub outcomes_of : Bool → List Names → List PlacedOutcome → List Outcome
-outcomes_of drops fed placed = filter_map (outcome_of drops fed) placed
+abbrev pub outcomes_of : Left → List Names → List PlacedOutcome → List Outcome
+outcomes_of left fed placed = filter_map (outcome_of left fed) placed
 
 -- the step of what is made: a row with a fault is left out with its mark, and then rows that share labels with their mark
-abbrev pub made_step : Bool → List Names → Marks → List PlacedOutcome → Step
-made_step drops fed marks placed = settled (taken marks (outcomes_of drops fed placed))
+abbrev pub made_step : Left → List Names → Marks → List PlacedOutcome → Step
+made_step left fed marks placed = settled (taken marks (outcomes_of left fed placed))
 
 -- the places rise, from one on and below another
 abbrev pub PlacesRise : ℕ → ℕ → List PlacedOutcome → Type 0

@@ -2,13 +2,17 @@
 //! Its rows of tests stand in `kernel_tests`.
 #![tactic(auto)]
 
+mod clashing;
 mod faults;
+mod labels_left;
 mod outcome_buffer;
+mod own_places;
 mod placed;
 mod put;
 mod rising;
-mod shared;
 
+pub use labels_left::Left;
 pub use outcome_buffer::OutcomeBuffer;
+pub use own_places::Placing;
 pub use placed::PlacedOutcome;
 pub use put::put_step;

@@ -1,15 +1,15 @@
 ghost use Rattle.std.specs.List.{cons_option};
+ghost use Rattle.std.specs.List.Sorted.{IsStrictlyIncreasing};
 ghost use Rattle.std.specs.Option.{option_to_list};
-ghost use Rattle.std.specs.Prelude.{◌≡◌, ◌<◌, ◌<ℤ◌, ◌+◌, ◌++◌, ◌∷◌, [], ℕ, None, length, map, slice_index_or, IfOk, IsTrue, OnOk};
+ghost use Rattle.std.specs.Prelude.{◌≡◌, ◌<◌, ◌<ℤ◌, ◌+◌, ◌++◌, ◌∷◌, [], ℕ, None, length, slice_index_or, IfOk, IsTrue, OnOk};
 ghost use Rattle.step_batch.specs.Lent.{IsFreeFrom, IsLater, SlotsRise, entries_of, stages, step_of};
-ghost use Rattle.step_put.specs.Placed.{PlacesRise, do_rise as slots_do_rise, has_value as is_value, is_behind as place_is_behind, left, made_step, marks_made, marks_of_faults, noted, slot_at, slots_made};
-ghost use Rattle.step_put.specs.Puts.{AreAt};
+ghost use Rattle.step_put.specs.Placed.{IsPlaced, PlacesRise, do_rise as slots_do_rise, has_value as is_value, is_behind as place_is_behind, made_step, marks_made, marks_of_faults, noted, slot_at, slots_made};
 ghost use Rattle.step_table.specs.Orders.{mark_cmp};
 ghost use Rattle.step_table.specs.Unions.{set_of};
 
 use crate::faults::Faults;
+use crate::own_places::Placing;
 use crate::placed::PlacedOutcome;
-use label_set::Labels;
 use std::alloc::{AllocError, Global};
 use step_batch::StepBuffer;
 use step_batch::laws::{free_places_are_free, lent_steps_are_tables};
@@ -27,7 +27,7 @@ fn is_behind(last: Option<usize>, place: usize) -> bool
     }
 }
 
-fn place_at(places: &[usize], place: usize) -> usize
+pub(crate) fn place_at(places: &[usize], place: usize) -> usize
     requires { place < length places.now }
     ensures { result ≡ slice_index_or places.now place 0 }
 {
@@ -44,7 +44,7 @@ fn has_value(value: &Result<Option<XFrac>, NumFault>) -> bool
 }
 
 /// Whether the values go to rising places.
-pub(crate) fn do_rise(places: &[usize], placed: &[PlacedOutcome]) -> bool
+fn do_rise(places: &[usize], placed: &[PlacedOutcome]) -> bool
     requires { PlacesRise 0 (length places.now) placed.now }
     ensures { result ≡ slots_do_rise None (slots_made places.now placed.now) }
 {
@@ -62,31 +62,41 @@ pub(crate) fn do_rise(places: &[usize], placed: &[PlacedOutcome]) -> bool
     true
 }
 
+/// Whether the values go to rising places, of what is fed at places that rise all if `rises` is true.
+pub(crate) fn is_apart(rises: bool, places: &[usize], placed: &[PlacedOutcome]) -> bool
+    requires increasing { IsTrue rises → IsStrictlyIncreasing places.now }
+    requires within { PlacesRise 0 (length places.now) placed.now }
+    ensures { IsTrue result → IsTrue (slots_do_rise None (slots_made places.now placed.now)) }
+{
+    if rises {
+        return true;
+    }
+    do_rise(places, placed)
+}
+
 /// Puts the step of what is made, whose values go to rising places.
 pub(crate) fn put_rising(
     alloc: Global,
-    drops: bool,
     buffer: &mut StepBuffer,
-    fed: &[Labels],
-    places: &[usize],
+    placing: &Placing,
     at: Ms,
     marks: &Marks,
     placed: &[PlacedOutcome],
 ) -> Result<(), AllocError>
-    requires named { AreAt buffer.old.labels (map (left drops) fed.now) places.now }
+    requires named { IsPlaced buffer.old placing.now }
     requires later { IsLater buffer.old at }
-    requires within { PlacesRise 0 (length fed.now) placed.now }
-    requires rising { IsTrue (slots_do_rise None (slots_made places.now placed.now)) }
+    requires within { PlacesRise 0 (length placing.now.fed) placed.now }
+    requires rising { IsTrue (slots_do_rise None (slots_made placing.now.places placed.now)) }
     ensures labels { buffer.new.labels ≡ buffer.old.labels }
     ensures later { OnOk result ((u : _) → at.0 <ℤ u.0 → IsLater buffer.new u) }
-    ensures lent { OnOk result (stages buffer.new ≡ stages buffer.old ++ record { at = at; step = made_step drops fed.now marks.now placed.now } ∷ []) }
+    ensures lent { OnOk result (stages buffer.new ≡ stages buffer.old ++ record { at = at; step = made_step placing.now.left placing.now.fed marks.now placed.now } ∷ []) }
 {
     lent_steps_are_tables();
     rows_ignore_order();
     let _ = buffer.lend().labels();
     buffer.begin(at)?;
     buffer.unite(marks)?;
-    let faults = put_values(buffer, places, placed)?;
+    let faults = put_values(buffer, placing.places(), placed)?;
     let more = faults.marks(alloc)?;
     buffer.unite(&more)?;
     Ok(())

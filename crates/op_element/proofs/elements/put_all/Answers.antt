@@ -6,7 +6,7 @@ use Rattle.op_element.proofs.elements.put_all.Goals as goal
 
 pub loop-i-init : goal.loop-i-init
 loop-i-init c = record {
-  drops = refl;
+  left = refl;
   fed = refl;
   follow = follow_none c.args.made.now.lent c.args.rows.now.steps c.requires.empty;
   lent = ap (λ ss. map (stage_of c.args.made.now.lent.labels) ss) c.requires.empty;
@@ -28,7 +28,7 @@ loop-i-preserved c =
     let first_count = count_of (stage_of first.labels) first.steps in
     let second_count = count_of (stage_of second.labels) second.steps in
     record {
-      drops = c.put_one.ensures.drops ∙ i.drops;
+      left = c.put_one.ensures.left ∙ i.left;
       fed = c.put_one.ensures.fed ∙ i.fed;
       follow = follow_next c.put_one.new.made.lent rows.steps n t.0 t.1 c.len-i-end.ensures.lent.rising (λ u h. c.in_ok-put_one.ensures.later t.0 u t.1 h);
       lent = lent_more c.args.rule (stages first) (stages second) (stages rows) (stages c.loop-i.made.lent) (stages c.put_one.new.made.lent) n

@@ -6,7 +6,7 @@ use Rattle.op_small.proofs.ones.put_instants.Given as goal
 
 abbrev pub invariant-loop-t : goal.invariant-loop-t
 invariant-loop-t l = record {
-  drops : l.buffer.drops ≡ l.fn.buffer.drops;
+  left : l.buffer.left ≡ l.fn.buffer.left;
   fed : l.buffer.fed ≡ [] ∷ [];
   lent : stages l.buffer.lent ≡ map (small_at (rule_of l.number)) (bare (take l.t-index l.at));
   follow : Follow l.buffer.lent (drop l.t-index l.at);

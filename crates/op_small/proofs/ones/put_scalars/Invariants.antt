@@ -7,7 +7,7 @@ use Rattle.op_small.proofs.ones.put_scalars.Given as goal
 
 abbrev pub invariant-loop-i : goal.invariant-loop-i
 invariant-loop-i l = record {
-  drops : l.buffer.drops ≡ l.fn.buffer.drops;
+  left : l.buffer.left ≡ l.fn.buffer.left;
   fed : l.buffer.fed ≡ [] ∷ [];
   lent : stages l.buffer.lent ≡ map (small_at Scalar) (map (stage_of l.rows.labels) (take l.i l.rows.steps));
   follow : Follow l.buffer.lent (drop l.i (times_of l.rows.steps));

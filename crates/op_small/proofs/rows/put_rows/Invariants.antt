@@ -6,8 +6,8 @@ use Rattle.op_small.proofs.rows.put_rows.Given as goal
 
 abbrev pub invariant-loop-i : goal.invariant-loop-i
 invariant-loop-i l = record {
-  drops : l.buffer.drops ≡ l.fn.buffer.drops;
+  left : l.buffer.left ≡ l.fn.buffer.left;
   fed : l.buffer.fed ≡ l.rows.labels;
-  lent : stages l.buffer.lent ≡ map (each_at l.fn.buffer.drops l.own) (map (stage_of l.rows.labels) (take l.i l.rows.steps));
+  lent : stages l.buffer.lent ≡ map (each_at l.fn.buffer.left l.own) (map (stage_of l.rows.labels) (take l.i l.rows.steps));
   follow : Follow l.buffer.lent (drop l.i (times_of l.rows.steps));
 }

@@ -1,0 +1,6 @@
+use Rattle.std.proofs.Common.{◌+◌, ◌<◌, ℕ}
+use Rattle.std.specs.Prelude.{slice_index}
+use Rattle.step_put.proofs.outcome_buffer.are_rising.Given as goal
+
+abbrev pub invariant-loop-i : goal.invariant-loop-i
+invariant-loop-i l = (k : ℕ) → k + 1 < l.i → slice_index l.places k < slice_index l.places (k + 1)

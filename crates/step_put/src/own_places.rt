@@ -1,0 +1,195 @@
+ghost use Rattle.label_set.specs.Labels.{metric_name};
+ghost use Rattle.std.specs.Prelude.{◌≡◌, ◌↔◌, ◌<◌, ◌≤◌, ◌+◌, ◌++◌, ◌∷◌, ℕ, List, [], Some, drop, length, map, slice_get, take, IfOk, IsTrue, OnOk};
+ghost use Rattle.step_put.specs.Placed.{IsPlaced, left_of};
+ghost use Rattle.step_put.specs.Puts.{AreAt};
+
+use crate::labels_left::Left;
+use label_set::Labels;
+use std::alloc::{AllocError, Global};
+use std::marker::Model;
+use std::mem;
+use step_batch::StepBuffer;
+
+/// Labels that were fed, and beside each the place of what is left of them.
+#[derive(Drop)]
+pub(crate) struct Kept {
+    fed: Vec<Labels>,
+    places: Vec<usize>,
+}
+
+/// What is left of labels that are fed, and where it stands in a buffer of steps. It is made and placed once for each
+/// labels, and kept over feeds while the labels at that place of the feed stay equal. A buffer whose steps are never begun
+/// serves as a set of what is left.
+#[derive(Drop)]
+pub struct Placing {
+    alloc: Global,
+    left: Left,
+    kept: Kept,
+}
+
+impl Model for Placing {
+    ghost use Rattle.step_put.specs.Placed.{Naming};
+
+    ghost Value = { Naming };
+
+    ghost view = { λ p. record { left = p.left; fed = p.kept.fed.items; places = p.kept.places.items } };
+}
+
+impl Placing {
+    /// Nothing is fed yet. It takes no memory.
+    pub fn new(alloc: Global, left: Left) -> Placing
+        ensures { result ≡ record { left = left; fed = []; places = [] } }
+    {
+        Placing {
+            alloc,
+            left,
+            kept: nothing(alloc),
+        }
+    }
+
+    /// Forgets what was fed. It takes no memory.
+    pub fn forget(&mut self)
+        ensures { self.new ≡ record { left = self.old.left; fed = []; places = [] } }
+    {
+        self.kept = nothing(self.alloc);
+    }
+
+    /// Takes the labels that are fed. What is left of new ones goes last in the buffer that those fed before stand in, from
+    /// which nothing is taken out; so several lists of labels may stand in one buffer. The only error is want of memory; then
+    /// no labels are kept, and the next feed may begin all the same.
+    pub fn take(&mut self, buffer: &mut StepBuffer, labels: &[Labels]) -> Result<(), AllocError>
+        requires named { IsPlaced buffer.old self.old }
+        ensures named { IsPlaced buffer.new self.new }
+        ensures left { self.new.left ≡ self.old.left }
+        ensures fed { OnOk result (self.new.fed ≡ labels.now) }
+        ensures kept { (j : _) (names : _) → slice_get buffer.old.labels j ≡ Some names → slice_get buffer.new.labels j ≡ Some names }
+        ensures steps { buffer.new.steps ≡ buffer.old.steps }
+    {
+        let before = mem::replace(&mut self.kept, nothing(self.alloc));
+        let kept = cut(before, labels.len());
+        self.kept = placed(self.alloc, &self.left, buffer, kept, labels)?;
+        Ok(())
+    }
+
+    /// Takes all steps out of the buffer that the labels fed before stand in, and takes the labels that are fed. Where the
+    /// buffer has more than twice as many labels as are fed, these are taken out first and all are made anew, so that it
+    /// doesn't grow with the number of feeds. The only error is want of memory; then no labels are kept, and the next feed
+    /// may begin all the same.
+    pub fn renew(&mut self, buffer: &mut StepBuffer, labels: &[Labels]) -> Result<(), AllocError>
+        requires named { IsPlaced buffer.old self.old }
+        ensures named { IsPlaced buffer.new self.new }
+        ensures left { self.new.left ≡ self.old.left }
+        ensures fed { OnOk result (self.new.fed ≡ labels.now) }
+        ensures steps { buffer.new.steps ≡ [] }
+    {
+        if buffer.lend().labels().len() / 2 > labels.len() {
+            buffer.clear();
+            self.forget();
+        } else {
+            buffer.renew();
+        }
+        self.take(buffer, labels)
+    }
+
+    /// Beside each of the labels that were fed the place of what is left of them. It takes no memory.
+    pub fn places(&self) -> &[usize]
+        ensures { result.now ≡ self.now.places }
+    {
+        self.kept.places.as_slice()
+    }
+}
+
+fn nothing(alloc: Global) -> Kept
+    ensures fed { result.fed.items ≡ [] }
+    ensures places { result.places.items ≡ [] }
+{
+    Kept {
+        fed: Vec::new(alloc),
+        places: Vec::new(alloc),
+    }
+}
+
+/// At most the first so many.
+fn cut(kept: Kept, count: usize) -> Kept
+    ensures fed { result.fed.items ≡ take count kept.fed.items }
+    ensures places { result.places.items ≡ take count kept.places.items }
+{
+    let Kept {
+        mut fed,
+        mut places,
+    } = kept;
+    fed.truncate(count);
+    places.truncate(count);
+    Kept { fed, places }
+}
+
+/// Takes the labels that are fed in the place of those that are kept, where they differ.
+fn placed(
+    alloc: Global,
+    left: &Left,
+    buffer: &mut StepBuffer,
+    before: Kept,
+    labels: &[Labels],
+) -> Result<Kept, AllocError>
+    requires named { AreAt buffer.old.labels (map (left_of left.now) before.fed.items) before.places.items }
+    requires within { length before.fed.items ≤ length labels.now }
+    ensures fed { IfOk result (λ k. k.fed.items ≡ labels.now) }
+    ensures named { IfOk result (λ k. AreAt buffer.new.labels (map (left_of left.now) k.fed.items) k.places.items) }
+    ensures kept { (j : _) (names : _) → slice_get buffer.old.labels j ≡ Some names → slice_get buffer.new.labels j ≡ Some names }
+    ensures steps { buffer.new.steps ≡ buffer.old.steps }
+{
+    let mut kept = before;
+    for i in 0..labels.len() {
+        let names = &labels[i];
+        if has(&kept, i, names) {
+            continue;
+        }
+        let place = place_of(alloc, left, buffer, names)?;
+        kept = kept_at(kept, i, names.copy()?, place)?;
+    }
+    Ok(kept)
+}
+
+/// Whether these labels are kept at a place.
+fn has(kept: &Kept, i: usize, labels: &Labels) -> bool
+    ensures { IsTrue result → slice_get kept.now.fed.items i ≡ Some labels.now }
+{
+    let fed = kept.fed.as_slice();
+    i < fed.len() && fed[i].is_same(labels)
+}
+
+/// The place of what is left of labels.
+fn place_of(
+    alloc: Global,
+    left: &Left,
+    buffer: &mut StepBuffer,
+    labels: &Labels,
+) -> Result<usize, AllocError>
+    ensures place { IfOk result (λ i. slice_get buffer.new.labels i ≡ Some (left_of left.now labels.now)) }
+    ensures kept { (j : _) (names : _) → slice_get buffer.old.labels j ≡ Some names → slice_get buffer.new.labels j ≡ Some names }
+    ensures steps { buffer.new.steps ≡ buffer.old.steps }
+{
+    let names = left.of(alloc, labels)?;
+    buffer.place(&names)
+}
+
+/// Keeps labels at a place of the feed, in the place of those that are kept there.
+fn kept_at(kept: Kept, i: usize, labels: Labels, place: usize) -> Result<Kept, AllocError>
+    requires same { length kept.places.items ≡ length kept.fed.items }
+    requires next { i ≤ length kept.fed.items }
+    ensures fed { IfOk result (λ k. k.fed.items ≡ take i kept.fed.items ++ labels ∷ drop (i + 1) kept.fed.items) }
+    ensures places { IfOk result (λ k. k.places.items ≡ take i kept.places.items ++ place ∷ drop (i + 1) kept.places.items) }
+{
+    let Kept {
+        mut fed,
+        mut places,
+    } = kept;
+    if i < fed.len() {
+        fed[i] = labels;
+        places[i] = place;
+        return Ok(Kept { fed, places });
+    }
+    fed.push(labels)?;
+    places.push(place)?;
+    Ok(Kept { fed, places })
+}
