@@ -12,6 +12,8 @@ mod places;
 #[cfg(test)]
 mod select;
 #[cfg(test)]
+mod sets;
+#[cfg(test)]
 mod small;
 #[cfg(test)]
 mod stores;

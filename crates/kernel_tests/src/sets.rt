@@ -1,0 +1,153 @@
+ghost use Rattle.std.specs.Prelude.{◌≡◌, length, IsTrue};
+
+use crate::batches::{are_lent, buffer_of, front, steps};
+use crate::written::names;
+use func_table::SetOp;
+use label_set::{Card, Items, Pairing};
+use op_set::Combined;
+use std::alloc::Global;
+use std::test::Fail;
+use step_batch::StepBuffer;
+use step_table::Step;
+use ticks::Ms;
+
+// Each line is an operator with its modifier, steps of its left and of its right side, and steps that are lent.
+const LINES: &str =
+    "and > 10 a,x=1:1;a,x=2:2 | 20 a,x=2:3 | 30 a,x=1:4;a,x=3:5 > 10 b,x=1:9 | 20 b,x=1:9;b,x=2:8 | 30 b,x=3:7 > 10 a,x=1:1 | 20 a,x=2:3 | 30 a,x=3:5
+and > 10 a:1 | 20 a:2 | 30 a:3 > 10 - | 20 b:5 | 30 - > 10 - | 20 a:2 | 30 -
+and > 10 - | 20 a:2 | 30 - > 10 b:1 | 20 b:1 | 30 b:1 > 10 - | 20 a:2 | 30 -
+and > 10 a:1!O | 20 a:2 | 30 -!S,x=1 > 10 b:1!I | 20 -!C | 30 b:1!S,x=2 > 10 a:1!O!I | 20 -!C | 30 -!S,x=1!S,x=2
+and > 10 a:nan;b:inf | 20 a:1/2;c:-inf | 30 b:0 > 10 c:0 | 20 d:nan | 30 e:1 > 10 a:nan;b:inf | 20 a:1/2;c:-inf | 30 b:0
+and > 10 a,x=1:1;b,x=1:2 | 20 b,x=1:3 | 30 a,x=1:4 > 10 c,x=1:0;d,x=1:0 | 20 c,x=2:0 | 30 d,x=1:0 > 10 a,x=1:1;b,x=1:2 | 20 - | 30 a,x=1:4
+and;on=l > 10 a,i=1,l=p:1;a,i=2,l=q:2 | 20 a,i=1,l=p:3 | 30 a,i=2,l=q:4;a,i=3:5 > 10 b,l=p:9 | 20 b,l=q:9 | 30 b,l=q:9;c,k=1:0 > 10 a,i=1,l=p:1 | 20 - | 30 a,i=2,l=q:4;a,i=3:5
+and;on= > 10 a,x=1:1;a,x=2:2 | 20 a,x=1:3 | 30 - > 10 b,y=1:0 | 20 - | 30 b,y=1:0 > 10 a,x=1:1;a,x=2:2 | 20 - | 30 -
+and;on=__name__ > 10 x:1;y:2 | 20 x:1;y:2 | 30 y:2 > 10 y:7 | 20 x,a=1:7 | 30 z:1 > 10 y:2 | 20 x:1 | 30 -
+and;ign=j > 10 a,i=1,j=1:1;a,i=2,j=1:2 | 20 a,i=1,j=1:3 | 30 a,i=2,j=2:4 > 10 b,i=2,j=7:0 | 20 b,i=1:0 | 30 b,i=1,j=2:0 > 10 a,i=2,j=1:2 | 20 a,i=1,j=1:3 | 30 -
+unless > 10 a,x=1:1;a,x=2:2 | 20 a,x=2:3 | 30 a,x=1:4;a,x=3:5 > 10 b,x=1:9 | 20 b,x=1:9;b,x=2:8 | 30 b,x=3:7 > 10 a,x=2:2 | 20 - | 30 a,x=1:4
+unless > 10 a:1 | 20 a:2 | 30 - > 10 - | 20 b:5 | 30 b:5 > 10 a:1 | 20 - | 30 -
+unless > 10 a:1!O | 20 -!C | 30 a:2 > 10 b:1!I | 20 -!C | 30 -!D,x=1 > 10 -!O!I | 20 -!C | 30 a:2!D,x=1
+unless;on=l > 10 a,i=1,l=p:1;a,i=2,l=q:2 | 20 a,i=1,l=p:3 | 30 a,i=2,l=q:4;a,i=3:5 > 10 b,l=p:9 | 20 b,l=q:9 | 30 b,l=q:9;c,k=1:0 > 10 a,i=2,l=q:2 | 20 a,i=1,l=p:3 | 30 -
+unless;on= > 10 a,x=1:1;a,x=2:2 | 20 a,x=1:3 | 30 - > 10 b,y=1:0 | 20 - | 30 b,y=1:0 > 10 - | 20 a,x=1:3 | 30 -
+unless;ign=j > 10 a,i=1,j=1:1;a,i=2,j=1:2 | 20 a,i=1,j=1:3 | 30 a,i=2,j=2:4 > 10 b,i=2,j=7:0 | 20 b,i=1:0 | 30 b,i=1,j=2:0 > 10 a,i=1,j=1:1 | 20 - | 30 a,i=2,j=2:4
+or > 10 a,x=1:1 | 20 a,x=1:2 | 30 - > 10 b,x=1:9;b,x=2:8 | 20 b,x=2:7 | 30 b,x=1:6 > 10 a,x=1:1;b,x=2:8 | 20 a,x=1:2;b,x=2:7 | 30 b,x=1:6
+or > 10 - | 20 a:1 | 30 - > 10 b:2 | 20 - | 30 - > 10 b:2 | 20 a:1 | 30 -
+or > 10 a:1!O | 20 -!I | 30 a:2 > 10 b,x=1:2!S,a=1 | 20 b:3!O | 30 -!C > 10 a:1;b,x=1:2!O!S,a=1 | 20 b:3!O!I | 30 a:2!C
+or > 10 a,x=1:1;a,x=2:2 | 20 a,x=2:2 | 30 - > 10 a,x=3:9;a,x=1:8 | 20 a,x=3:7;a,x=1:6;a,x=2:5 | 30 a,x=2:4;a,x=1:3 > 10 a,x=1:1;a,x=2:2;a,x=3:9 | 20 a,x=2:2;a,x=3:7;a,x=1:6 | 30 a,x=2:4;a,x=1:3
+or > 10 a,x=1:1 | 20 a,x=1:1;a,x=2:2 | 30 a,x=1:3;a,x=2:4;a,x=3:5 > 10 a,x=2:9 | 20 a,x=2:8;a,x=3:7 | 30 a,x=2:1;a,x=3:1;a,x=4:6 > 10 a,x=1:1;a,x=2:9 | 20 a,x=1:1;a,x=2:2;a,x=3:7 | 30 a,x=1:3;a,x=2:4;a,x=3:5;a,x=4:6
+or > 10 a,x=1:1 | 20 a,x=1:1;a,x=4:2 | 30 a,x=1:1;a,x=4:2;a,x=3:3 > 10 b,x=2:5;b,x=3:6 | 20 b,x=2:5;b,x=3:6 | 30 b,x=2:5;b,x=3:6 > 10 a,x=1:1;b,x=2:5;b,x=3:6 | 20 a,x=1:1;a,x=4:2;b,x=2:5;b,x=3:6 | 30 a,x=1:1;a,x=4:2;a,x=3:3;b,x=2:5
+or;on=i > 10 x,i=1:1 | 20 x,i=1:1;x,i=3:3 | 30 x,i=2:5 > 10 y,i=2,j=1:2;y,i=2,j=2:3 | 20 y,i=2,j=1:2;y,i=3,j=9:4 | 30 y,i=2,j=1:2;y,i=1,j=1:7 > 10 x,i=1:1;y,i=2,j=1:2;y,i=2,j=2:3 | 20 x,i=1:1;x,i=3:3;y,i=2,j=1:2 | 30 x,i=2:5;y,i=1,j=1:7
+or;on= > 10 a:1 | 20 - | 30 a:1 > 10 b,x=1:2 | 20 b,x=1:2;c:3 | 30 - > 10 a:1 | 20 b,x=1:2;c:3 | 30 a:1
+or;on=__name__ > 10 x:1;y:2 | 20 y:2 | 30 - > 10 x,a=1:3;z:4 | 20 x,a=1:5 | 30 x,a=1:6;x:7 > 10 x:1;y:2;z:4 | 20 y:2;x,a=1:5 | 30 x,a=1:6;x:7
+or;ign=j > 10 a,i=1,j=1:1 | 20 a,i=1,j=1:1 | 30 a,i=1,j=1:1 > 10 a,i=1,j=2:2 | 20 a,i=2,j=2:2 | 30 b,i=1:2;b,j=1:3 > 10 a,i=1,j=1:1 | 20 a,i=1,j=1:1;a,i=2,j=2:2 | 30 a,i=1,j=1:1;b,j=1:3";
+
+fn operator(word: &str) -> Option<SetOp> {
+    match word {
+        "and" => Some(SetOp::And),
+        "unless" => Some(SetOp::Unless),
+        "or" => Some(SetOp::Or),
+        _ => None,
+    }
+}
+
+/// Labels behind `on=`, or behind `ign=` those that are ignored.
+fn pairing(alloc: Global, modifier: &str) -> Result<Pairing, Fail> {
+    let (kind, list) = modifier.split_once('=').unwrap_or(("ign", modifier));
+    Ok(Pairing {
+        on: kind == "on",
+        names: names(alloc, list)?,
+        card: Card::OneToOne,
+        extra: Items::new(alloc),
+    })
+}
+
+fn kernel(alloc: Global, text: &str) -> Result<Combined, Fail> {
+    let (word, modifier) = text.split_once(';').unwrap_or((text, ""));
+    let op = operator(word).ok_or("no such operator")?;
+    Ok(Combined::new(alloc, op, pairing(alloc, modifier)?)?)
+}
+
+/// Whether two buffers have as many steps.
+fn has_same_steps(a: &StepBuffer, b: &StepBuffer) -> bool
+    ensures { IsTrue result → length b.now.steps ≡ length a.now.steps }
+{
+    a.lend().len() == b.lend().len()
+}
+
+/// Feeds steps of both sides, and answers whether what is lent are the wanted ones.
+fn is_fed(
+    alloc: Global,
+    kernel: &mut Combined,
+    left: &[(Ms, Step)],
+    right: &[(Ms, Step)],
+    wanted: &[(Ms, Step)],
+) -> Result<bool, Fail> {
+    let left = buffer_of(alloc, left)?;
+    let right = buffer_of(alloc, right)?;
+    if !has_same_steps(&left, &right) {
+        return Err("a side with fewer steps")?;
+    }
+    kernel.feed(&left.lend(), &right.lend())?;
+    Ok(are_lent(&kernel.lend(), wanted))
+}
+
+/// Feeds so many steps at once, three times.
+fn are_fed(
+    alloc: Global,
+    kernel: &mut Combined,
+    size: usize,
+    left: &[(Ms, Step)],
+    right: &[(Ms, Step)],
+    wanted: &[(Ms, Step)],
+) -> Result<bool, Fail> {
+    let (mut left, mut right, mut wanted) = (left, right, wanted);
+    for _ in 0..3 {
+        let (l, more_left) = front(left, size);
+        let (r, more_right) = front(right, size);
+        let (w, more_wanted) = front(wanted, size);
+        if !is_fed(alloc, kernel, l, r, w)? {
+            return Ok(false);
+        }
+        left = more_left;
+        right = more_right;
+        wanted = more_wanted;
+    }
+    Ok(left.is_empty() && wanted.is_empty())
+}
+
+fn holds(alloc: Global, size: usize, line: &str) -> Result<bool, Fail> {
+    let mut words = line.split(" > ");
+    let mut kernel = kernel(alloc, words.next().ok_or("no operator")?)?;
+    let left = steps(alloc, words.next().ok_or("no left steps")?)?;
+    let right = steps(alloc, words.next().ok_or("no right steps")?)?;
+    let wanted = steps(alloc, words.next().ok_or("no lent steps")?)?;
+    are_fed(
+        alloc,
+        &mut kernel,
+        size,
+        left.as_slice(),
+        right.as_slice(),
+        wanted.as_slice(),
+    )
+}
+
+/// The first line that doesn't hold in batches of so many steps.
+fn line_that_differs(alloc: Global, size: usize) -> Result<&'static str, Fail> {
+    for line in LINES.split('\n') {
+        if !holds(alloc, size, line)? {
+            return Ok(line);
+        }
+    }
+    Ok("none")
+}
+
+#[test]
+fn set_kernels_make_steps_in_turn(rt: HostRuntime) -> Result<(), Fail> {
+    assert_eq!(rt; line_that_differs(rt.alloc(), 1)?, "none");
+    Ok(())
+}
+
+#[test]
+fn set_kernels_make_three_steps_at_once(rt: HostRuntime) -> Result<(), Fail> {
+    assert_eq!(rt; line_that_differs(rt.alloc(), 3)?, "none");
+    Ok(())
+}

@@ -1,0 +1,6 @@
+pub mod Choosing
+pub mod Feeding
+pub mod Keeping
+pub mod Making
+pub mod Named
+pub mod Rises
