@@ -2,6 +2,8 @@
 #![tactic(auto)]
 
 #[cfg(test)]
+mod aggregates;
+#[cfg(test)]
 mod batches;
 #[cfg(test)]
 mod conditions;

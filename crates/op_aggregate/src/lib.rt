@@ -1,0 +1,10 @@
+//! Aggregations of groups of rows, over steps that are lent. Its rows of tests stand in `kernel_tests`.
+#![tactic(auto)]
+
+mod groups;
+mod kernel;
+pub mod laws;
+mod putting;
+mod tally;
+
+pub use kernel::{Grouped, is_grouped};
