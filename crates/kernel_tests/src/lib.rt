@@ -12,6 +12,8 @@ mod elements;
 #[cfg(test)]
 mod places;
 #[cfg(test)]
+mod ranks;
+#[cfg(test)]
 mod select;
 #[cfg(test)]
 mod sets;

@@ -1,0 +1,5 @@
+pub mod Contenders
+pub mod Groups
+pub mod LabelOrders
+pub mod Quantiles
+pub mod Rules
