@@ -38,7 +38,14 @@ or > 10 a,x=1:1 | 20 a,x=1:1;a,x=4:2 | 30 a,x=1:1;a,x=4:2;a,x=3:3 > 10 b,x=2:5;b
 or;on=i > 10 x,i=1:1 | 20 x,i=1:1;x,i=3:3 | 30 x,i=2:5 > 10 y,i=2,j=1:2;y,i=2,j=2:3 | 20 y,i=2,j=1:2;y,i=3,j=9:4 | 30 y,i=2,j=1:2;y,i=1,j=1:7 > 10 x,i=1:1;y,i=2,j=1:2;y,i=2,j=2:3 | 20 x,i=1:1;x,i=3:3;y,i=2,j=1:2 | 30 x,i=2:5;y,i=1,j=1:7
 or;on= > 10 a:1 | 20 - | 30 a:1 > 10 b,x=1:2 | 20 b,x=1:2;c:3 | 30 - > 10 a:1 | 20 b,x=1:2;c:3 | 30 a:1
 or;on=__name__ > 10 x:1;y:2 | 20 y:2 | 30 - > 10 x,a=1:3;z:4 | 20 x,a=1:5 | 30 x,a=1:6;x:7 > 10 x:1;y:2;z:4 | 20 y:2;x,a=1:5 | 30 x,a=1:6;x:7
-or;ign=j > 10 a,i=1,j=1:1 | 20 a,i=1,j=1:1 | 30 a,i=1,j=1:1 > 10 a,i=1,j=2:2 | 20 a,i=2,j=2:2 | 30 b,i=1:2;b,j=1:3 > 10 a,i=1,j=1:1 | 20 a,i=1,j=1:1;a,i=2,j=2:2 | 30 a,i=1,j=1:1;b,j=1:3";
+or;ign=j > 10 a,i=1,j=1:1 | 20 a,i=1,j=1:1 | 30 a,i=1,j=1:1 > 10 a,i=1,j=2:2 | 20 a,i=2,j=2:2 | 30 b,i=1:2;b,j=1:3 > 10 a,i=1,j=1:1 | 20 a,i=1,j=1:1;a,i=2,j=2:2 | 30 a,i=1,j=1:1;b,j=1:3
+and > 10 a,x=1:1;a,x=2:2;a,x=3:3 | 20 a,x=1:1;a,x=4:5;a,x=3:3 | 30 a,x=1:1;a,x=2:2;a,x=3:3 > 10 b,x=2:0;b,x=3:0 | 20 b,x=2:0;b,x=3:0 | 30 b,x=2:0;b,x=3:0 > 10 a,x=2:2;a,x=3:3 | 20 a,x=3:3 | 30 a,x=2:2;a,x=3:3
+and > 10 a,x=1:1;a,x=2:2 | 20 a,x=1:1;a,x=2:2 | 30 a,x=1:1;a,x=2:2 > 10 b,x=1:0;b,x=3:0 | 20 b,x=2:0;b,x=3:0 | 30 b,x=2:0;b,x=1:0 > 10 a,x=1:1 | 20 a,x=2:2 | 30 a,x=1:1;a,x=2:2
+and > 10 a,x=1:1 | 20 a,x=2:2 | 30 a,x=3:3 | 40 a,x=4:4 | 50 a,x=5:5 | 60 a,x=6:6 | 70 a,x=7:7 | 80 a,x=8:8 | 90 a,x=9:9 > 10 b,x=1:0 | 20 b,x=2:0 | 30 b,x=9:0 | 40 b,x=4:0 | 50 b,x=1:0 | 60 b,x=6:0 | 70 b,x=7:0 | 80 b,x=1:0 | 90 b,x=9:0 > 10 a,x=1:1 | 20 a,x=2:2 | 30 - | 40 a,x=4:4 | 50 - | 60 a,x=6:6 | 70 a,x=7:7 | 80 - | 90 a,x=9:9
+unless > 10 a,x=1:1;a,x=2:2;a,x=3:3 | 20 a,x=1:1;a,x=2:2;a,x=3:3 | 30 a,x=1:1;a,x=2:2;a,x=3:3 | 40 a,x=1:1;a,x=2:2;a,x=3:3 | 50 a,x=1:1;a,x=2:2;a,x=3:3 | 60 a,x=1:1;a,x=2:2;a,x=3:3 | 70 a,x=1:1;a,x=2:2;a,x=3:3 | 80 a,x=1:1;a,x=2:2;a,x=3:3 | 90 a,x=1:1;a,x=2:2;a,x=3:3 > 10 b,x=1:0;b,x=2:0 | 20 b,x=1:0 | 30 b,x=2:0 | 40 b,x=3:0;b,x=2:0 | 50 b,x=3:0 | 60 b,x=2:0 | 70 b,x=3:0;b,x=1:0 | 80 b,x=3:0 | 90 b,x=1:0 > 10 a,x=3:3 | 20 a,x=2:2;a,x=3:3 | 30 a,x=1:1;a,x=3:3 | 40 a,x=1:1 | 50 a,x=1:1;a,x=2:2 | 60 a,x=1:1;a,x=3:3 | 70 a,x=2:2 | 80 a,x=1:1;a,x=2:2 | 90 a,x=2:2;a,x=3:3
+or > 10 a,x=1:1;a,x=2:2 | 20 a,x=5:3;a,x=2:4 | 30 a,x=5:5;a,x=6:6 > 10 b,x=2:7;b,x=3:8;b,x=4:9 | 20 b,x=2:7;b,x=6:8;b,x=4:9 | 30 b,x=1:7;b,x=6:8;b,x=4:9 > 10 a,x=1:1;a,x=2:2;b,x=3:8;b,x=4:9 | 20 a,x=5:3;a,x=2:4;b,x=6:8;b,x=4:9 | 30 a,x=5:5;a,x=6:6;b,x=1:7;b,x=4:9
+or > 10 a,x=1:1;a,x=2:2 | 20 a,x=2:3 | 30 a,x=1:4 | 40 a,x=5:1;a,x=2:2 | 50 a,x=2:3 | 60 a,x=5:4 | 70 a,x=5:1;a,x=6:2 | 80 a,x=6:3 | 90 a,x=5:4 > 10 b,x=2:7;b,x=3:8 | 20 b,x=3:8 | 30 b,x=2:7 | 40 b,x=2:7;b,x=1:9 | 50 b,x=1:9 | 60 b,x=2:7 | 70 b,x=5:6;b,x=1:9 | 80 b,x=5:6;b,x=1:9 | 90 b,x=5:6 > 10 a,x=1:1;a,x=2:2;b,x=3:8 | 20 a,x=2:3;b,x=3:8 | 30 a,x=1:4;b,x=2:7 | 40 a,x=5:1;a,x=2:2;b,x=1:9 | 50 a,x=2:3;b,x=1:9 | 60 a,x=5:4;b,x=2:7 | 70 a,x=5:1;a,x=6:2;b,x=1:9 | 80 a,x=6:3;b,x=5:6;b,x=1:9 | 90 a,x=5:4
+or;on=i > 10 x,i=1,j=1:1;x,i=2:2 | 20 x,i=1,j=2:3;x,i=2:2 | 30 x,i=1,j=2:3;x,i=3:2 > 10 y,i=1:5;y,i=3:6 | 20 y,i=1:5;y,i=3:6 | 30 y,i=2:5;y,i=3:6 > 10 x,i=1,j=1:1;x,i=2:2;y,i=3:6 | 20 x,i=1,j=2:3;x,i=2:2;y,i=3:6 | 30 x,i=1,j=2:3;x,i=3:2;y,i=2:5";
 
 fn operator(word: &str) -> Option<SetOp> {
     match word {
@@ -90,7 +97,7 @@ fn is_fed(
     Ok(are_lent(&kernel.lend(), wanted))
 }
 
-/// Feeds so many steps at once, three times.
+/// Feeds so many steps at once, as often as there are steps.
 fn are_fed(
     alloc: Global,
     kernel: &mut Combined,
@@ -100,7 +107,7 @@ fn are_fed(
     wanted: &[(Ms, Step)],
 ) -> Result<bool, Fail> {
     let (mut left, mut right, mut wanted) = (left, right, wanted);
-    for _ in 0..3 {
+    for _ in 0..left.len() {
         let (l, more_left) = front(left, size);
         let (r, more_right) = front(right, size);
         let (w, more_wanted) = front(wanted, size);

@@ -76,25 +76,25 @@ marked_more marked numbers slots i n d l h e a k b =
 -- ---- rows
 
 rows_more : (chosen : Chosen) (marked : List Bool) (side : Side) (slots : List Slot) (i : ℕ) (d : Slot) → i < length slots
-    → kept_rows chosen marked side (take (i + 1) slots) ≡ kept_rows chosen marked side (take i slots) ++ map (moved side.places) (cond (is_kept chosen marked side.numbers (get_or slots i d)) (get_or slots i d ∷ []) [])
+    → kept_rows chosen marked side (take (i + 1) slots) ≡ kept_rows chosen marked side (take i slots) ++ map (moved side.own.places) (cond (is_kept chosen marked side.signed.places (get_or slots i d)) (get_or slots i d ∷ []) [])
 rows_more chosen marked side slots i d l =
     ap (kept_rows chosen marked side) (take_more slots i d l)
-    ∙ ap (map (moved side.places)) (filter-append (is_kept chosen marked side.numbers) (take i slots) (get_or slots i d ∷ []))
-    ∙ map-append (moved side.places) (filter (is_kept chosen marked side.numbers) (take i slots)) (cond (is_kept chosen marked side.numbers (get_or slots i d)) (get_or slots i d ∷ []) [])
+    ∙ ap (map (moved side.own.places)) (filter-append (is_kept chosen marked side.signed.places) (take i slots) (get_or slots i d ∷ []))
+    ∙ map-append (moved side.own.places) (filter (is_kept chosen marked side.signed.places) (take i slots)) (cond (is_kept chosen marked side.signed.places (get_or slots i d)) (get_or slots i d ∷ []) [])
 
 nothing_behind : (xs : List Slot) → xs ++ [] ≡ xs
 nothing_behind [] = refl
 nothing_behind (x ∷ xs) = ap (λ r. x ∷ r) (nothing_behind xs)
 
-pub left_out : (chosen : Chosen) (marked : List Bool) (side : Side) (slots : List Slot) (i : ℕ) (d : Slot) → i < length slots → is_kept chosen marked side.numbers (get_or slots i d) ≡ false
+pub left_out : (chosen : Chosen) (marked : List Bool) (side : Side) (slots : List Slot) (i : ℕ) (d : Slot) → i < length slots → is_kept chosen marked side.signed.places (get_or slots i d) ≡ false
     → kept_rows chosen marked side (take (i + 1) slots) ≡ kept_rows chosen marked side (take i slots)
 left_out chosen marked side slots i d l h =
-    rows_more chosen marked side slots i d l ∙ ap (λ (b : Bool). kept_rows chosen marked side (take i slots) ++ map (moved side.places) (cond b (get_or slots i d ∷ []) [])) h ∙ nothing_behind (kept_rows chosen marked side (take i slots))
+    rows_more chosen marked side slots i d l ∙ ap (λ (b : Bool). kept_rows chosen marked side (take i slots) ++ map (moved side.own.places) (cond b (get_or slots i d ∷ []) [])) h ∙ nothing_behind (kept_rows chosen marked side (take i slots))
 
-pub put_in : (chosen : Chosen) (marked : List Bool) (side : Side) (slots : List Slot) (i : ℕ) (d : Slot) → i < length slots → is_kept chosen marked side.numbers (get_or slots i d) ≡ true
-    → kept_rows chosen marked side (take (i + 1) slots) ≡ kept_rows chosen marked side (take i slots) ++ moved side.places (get_or slots i d) ∷ []
+pub put_in : (chosen : Chosen) (marked : List Bool) (side : Side) (slots : List Slot) (i : ℕ) (d : Slot) → i < length slots → is_kept chosen marked side.signed.places (get_or slots i d) ≡ true
+    → kept_rows chosen marked side (take (i + 1) slots) ≡ kept_rows chosen marked side (take i slots) ++ moved side.own.places (get_or slots i d) ∷ []
 put_in chosen marked side slots i d l h =
-    rows_more chosen marked side slots i d l ∙ ap (λ (b : Bool). kept_rows chosen marked side (take i slots) ++ map (moved side.places) (cond b (get_or slots i d ∷ []) [])) h
+    rows_more chosen marked side slots i d l ∙ ap (λ (b : Bool). kept_rows chosen marked side (take i slots) ++ map (moved side.own.places) (cond b (get_or slots i d ∷ []) [])) h
 
 -- one more row behind those that are there
 pub row_in : (first was now done more : List Slot) (s t : Slot) → was ≡ first ++ done → now ≡ was ++ s ∷ [] → s ≡ t → more ≡ done ++ t ∷ [] → now ≡ first ++ more
@@ -109,19 +109,19 @@ filtered_alike high low f g [] r e = refl
 filtered_alike high low f g (s ∷ slots) r e =
     ap (λ (b : Bool). cond b (s ∷ filter f slots) (filter f slots)) (e s r.1) ∙ ap (λ (z : List Slot). cond (g s) (s ∷ z) z) (filtered_alike high (s.place + 1) f g slots r.2 e)
 
-pub kept_marked : (marked : List Bool) (side other : Side) (slots others : List Slot) → AreBelow (length marked) side.numbers → SlotsRise 0 (length side.numbers) slots → AreMarked marked other.numbers others
-    → kept_rows Marked marked side slots ≡ map (moved side.places) (filter (is_met other others side) slots)
+pub kept_marked : (marked : List Bool) (side other : Side) (slots others : List Slot) → AreBelow (length marked) side.signed.places → SlotsRise 0 (length side.signed.places) slots → AreMarked marked other.signed.places others
+    → kept_rows Marked marked side slots ≡ map (moved side.own.places) (filter (is_met other others side) slots)
 kept_marked marked side other slots others below r m =
-    ap (map (moved side.places)) (filtered_alike (length side.numbers) 0 (is_kept Marked marked side.numbers) (is_met other others side) slots r (λ s h. m (number_of side.numbers s) (below s.place h)))
+    ap (map (moved side.own.places)) (filtered_alike (length side.signed.places) 0 (is_kept Marked marked side.signed.places) (is_met other others side) slots r (λ s h. m (number_of side.signed.places s) (below s.place h)))
 
-pub kept_unmarked : (marked : List Bool) (side other : Side) (slots others : List Slot) → AreBelow (length marked) side.numbers → SlotsRise 0 (length side.numbers) slots → AreMarked marked other.numbers others
-    → kept_rows Unmarked marked side slots ≡ map (moved side.places) (filter (λ s. not (is_met other others side s)) slots)
+pub kept_unmarked : (marked : List Bool) (side other : Side) (slots others : List Slot) → AreBelow (length marked) side.signed.places → SlotsRise 0 (length side.signed.places) slots → AreMarked marked other.signed.places others
+    → kept_rows Unmarked marked side slots ≡ map (moved side.own.places) (filter (λ s. not (is_met other others side s)) slots)
 kept_unmarked marked side other slots others below r m =
-    ap (map (moved side.places)) (filtered_alike (length side.numbers) 0 (is_kept Unmarked marked side.numbers) (λ s. not (is_met other others side s)) slots r (λ s h. ap not (m (number_of side.numbers s) (below s.place h))))
+    ap (map (moved side.own.places)) (filtered_alike (length side.signed.places) 0 (is_kept Unmarked marked side.signed.places) (λ s. not (is_met other others side s)) slots r (λ s h. ap not (m (number_of side.signed.places s) (below s.place h))))
 
 all_chosen : (f : Slot → Bool) (slots : List Slot) → ((s : Slot) → f s ≡ true) → filter f slots ≡ slots
 all_chosen f [] e = refl
 all_chosen f (s ∷ slots) e = ap (λ (b : Bool). cond b (s ∷ filter f slots) (filter f slots)) (e s) ∙ ap (λ z. s ∷ z) (all_chosen f slots e)
 
-pub kept_all : (marked : List Bool) (side : Side) (slots : List Slot) → kept_rows All marked side slots ≡ map (moved side.places) slots
-kept_all marked side slots = ap (map (moved side.places)) (all_chosen (is_kept All marked side.numbers) slots (λ s. refl))
+pub kept_all : (marked : List Bool) (side : Side) (slots : List Slot) → kept_rows All marked side slots ≡ map (moved side.own.places) slots
+kept_all marked side slots = ap (map (moved side.own.places)) (all_chosen (is_kept All marked side.signed.places) slots (λ s. refl))

@@ -1,6 +1,5 @@
 pub mod Choosing
 pub mod Feeding
-pub mod Keeping
 pub mod Making
 pub mod Named
 pub mod Rises

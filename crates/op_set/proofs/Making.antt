@@ -1,6 +1,6 @@
 -- The rows that are kept are those that the operator gives.
 use Rattle.std.proofs.Common.{◌≡◌, ◌∙◌, ◌+◌, ◌<◌, ℕ, zero, suc, arith, Bool, true, false, cond, List, [], ◌∷◌, ◌++◌, length, get_or, slice_get, map, refl, sym, ap, subst, Some}
-use Rattle.std.specs.Prelude.{◌==◌, ◌||◌, filter, not, pos, IsTrue}
+use Rattle.std.specs.Prelude.{◌==◌, ◌||◌, filter, not, pos}
 use Rattle.std.specs.BTreeMap.{is_at}
 use Rattle.std.specs.List.{AllByRecursion, IsDistinct}
 use Rattle.std.specs.List.Sorted.{IsStrictlySortedBy}
@@ -39,7 +39,7 @@ use Rattle.step_table.specs.Timed.{StepAt}
 use Rattle.ticks.specs.declared.moment.Ms.{Ms}
 use Rattle.op_set.specs.Combining.{combined_at}
 use Rattle.op_set.specs.Rising.{AreApart, AreWithin}
-use Rattle.op_set.specs.Sides.{AreNamed, IsNamed, has_number, is_met, lends_right, moved, number_of, rows_kept, signature_by}
+use Rattle.op_set.specs.Sides.{AreNamed, IsNamed, has_number, is_met, lends_right, lent_labels, moved, number_of, rows_kept, signature_by}
 use Rattle.op_set.specs.declared.sides.Naming.{Naming}
 use Rattle.op_set.specs.declared.sides.Side.{Side}
 use Rattle.op_set.proofs.Named.{at_below, at_length, at_place, count_of, named_at}
@@ -237,70 +237,70 @@ not_is false h = refl
 
 module _ (p : Pairing) (signatures labels : List Names) (d : IsDistinct labels_eq signatures) where
   -- whether a row is met, by numbers and by signatures
-  met_is : (side other : Side) → AreAt signatures (map (signature_by p) side.fed) side.numbers → AreAt signatures (map (signature_by p) other.fed) other.numbers → (s : Slot) → s.place < length side.fed
-      → (low : ℕ) (others : List Slot) → SlotsRise low (length other.fed) others → is_met other others side s ≡ is_on p (rows_at other.fed others) (row_at side.fed s)
+  met_is : (side other : Side) → AreAt signatures (map (signature_by p) side.signed.fed) side.signed.places → AreAt signatures (map (signature_by p) other.signed.fed) other.signed.places → (s : Slot) → s.place < length side.signed.fed
+      → (low : ℕ) (others : List Slot) → SlotsRise low (length other.signed.fed) others → is_met other others side s ≡ is_on p (rows_at other.signed.fed others) (row_at side.signed.fed s)
   met_is side other a b s h low [] r = refl
   met_is side other a b s h low (t ∷ others) r =
-      let here = numbers_tell signatures (number_of other.numbers t) (number_of side.numbers s) (signature_by p (get_or other.fed t.place [])) (signature_by p (get_or side.fed s.place [])) d (named_at (signature_by p) signatures other.fed other.numbers t.place b r.1) (named_at (signature_by p) signatures side.fed side.numbers s.place a h) in
+      let here = numbers_tell signatures (number_of other.signed.places t) (number_of side.signed.places s) (signature_by p (get_or other.signed.fed t.place [])) (signature_by p (get_or side.signed.fed s.place [])) d (named_at (signature_by p) signatures other.signed.fed other.signed.places t.place b r.1) (named_at (signature_by p) signatures side.signed.fed side.signed.places s.place a h) in
       let rest = met_is side other a b s h (t.place + 1) others r.2 in
-      (λ j. here j || rest j) ∙ sym (ap (λ (z : List Row). is_on p z (row_at side.fed s)) (rows_here other.fed t others r.1))
+      (λ j. here j || rest j) ∙ sym (ap (λ (z : List Row). is_on p z (row_at side.signed.fed s)) (rows_here other.signed.fed t others r.1))
 
-  module _ (l r : Side) (ln : AreAt signatures (map (signature_by p) l.fed) l.numbers) (rn : AreAt signatures (map (signature_by p) r.fed) r.numbers) (lp : AreAt labels l.fed l.places) (ls rs : List Slot) (lr : SlotsRise 0 (length l.fed) ls) (rr : SlotsRise 0 (length r.fed) rs) where
-    rows_are : (op : SetOp) → (IsTrue (lends_right op) → AreAt labels r.fed r.places) → rows_at labels (rows_kept op l r ls rs) ≡ loose op p (rows_at l.fed ls) (rows_at r.fed rs)
-    rows_are And rp = some_moved labels l.fed l.places lp (is_met r rs l) (is_on p (rows_at r.fed rs)) (λ s h. met_is l r ln rn s h 0 rs rr) 0 ls lr
-    rows_are Unless rp = some_moved labels l.fed l.places lp (λ s. not (is_met r rs l s)) (λ row. not (is_on p (rows_at r.fed rs) row)) (λ s h. ap not (met_is l r ln rn s h 0 rs rr)) 0 ls lr
+  module _ (l r : Side) (ln : AreAt signatures (map (signature_by p) l.signed.fed) l.signed.places) (rn : AreAt signatures (map (signature_by p) r.signed.fed) r.signed.places) (lp : AreAt labels l.signed.fed l.own.places) (ls rs : List Slot) (lr : SlotsRise 0 (length l.signed.fed) ls) (rr : SlotsRise 0 (length r.signed.fed) rs) where
+    rows_are : (op : SetOp) → AreAt labels (lent_labels (lends_right op) r.signed.fed) r.own.places → rows_at labels (rows_kept op l r ls rs) ≡ loose op p (rows_at l.signed.fed ls) (rows_at r.signed.fed rs)
+    rows_are And rp = some_moved labels l.signed.fed l.own.places lp (is_met r rs l) (is_on p (rows_at r.signed.fed rs)) (λ s h. met_is l r ln rn s h 0 rs rr) 0 ls lr
+    rows_are Unless rp = some_moved labels l.signed.fed l.own.places lp (λ s. not (is_met r rs l s)) (λ row. not (is_on p (rows_at r.signed.fed rs) row)) (λ s h. ap not (met_is l r ln rn s h 0 rs rr)) 0 ls lr
     rows_are Or rp =
-        let more = some_moved labels r.fed r.places (rp refl) (λ s. not (is_met l ls r s)) (λ row. not (is_on p (rows_at l.fed ls) row)) (λ s h. ap not (met_is r l rn ln s h 0 ls lr)) 0 rs rr in
-        let first = all_moved labels l.fed l.places lp 0 ls lr in
-        rows_append labels (map (moved l.places) ls) (map (moved r.places) (filter (λ s. not (is_met l ls r s)) rs)) ∙ (λ j. first j ++ more j)
+        let more = some_moved labels r.signed.fed r.own.places rp (λ s. not (is_met l ls r s)) (λ row. not (is_on p (rows_at l.signed.fed ls) row)) (λ s h. ap not (met_is r l rn ln s h 0 ls lr)) 0 rs rr in
+        let first = all_moved labels l.signed.fed l.own.places lp 0 ls lr in
+        rows_append labels (map (moved l.own.places) ls) (map (moved r.own.places) (filter (λ s. not (is_met l ls r s)) rs)) ∙ (λ j. first j ++ more j)
 
     -- a right row that is not met has no left row's place
-    cross_one : AreAt labels r.fed r.places → (t : Slot) → t.place < length r.fed → (low : ℕ) (xs : List Slot) → SlotsRise low (length l.fed) xs → has_number l.numbers xs (number_of r.numbers t) ≡ false → NotAmong (map (moved l.places) xs) (moved r.places t)
+    cross_one : AreAt labels r.signed.fed r.own.places → (t : Slot) → t.place < length r.signed.fed → (low : ℕ) (xs : List Slot) → SlotsRise low (length l.signed.fed) xs → has_number l.signed.places xs (number_of r.signed.places t) ≡ false → NotAmong (map (moved l.own.places) xs) (moved r.own.places t)
     cross_one rp t h low [] x n = tt
     cross_one rp t h low (s ∷ xs) x n =
-        let both = either_false (number_of l.numbers s == number_of r.numbers t) (has_number l.numbers xs (number_of r.numbers t)) n in
+        let both = either_false (number_of l.signed.places s == number_of r.signed.places t) (has_number l.signed.places xs (number_of r.signed.places t)) n in
         (λ e. apart s x.1 both.0 e, cross_one rp t h (s.place + 1) xs x.2 both.1)
       where
-        apart : (s : Slot) → s.place < length l.fed → (number_of l.numbers s == number_of r.numbers t) ≡ false → get_or l.places s.place 0 ≡ get_or r.places t.place 0 → ⊥
+        apart : (s : Slot) → s.place < length l.signed.fed → (number_of l.signed.places s == number_of r.signed.places t) ≡ false → get_or l.own.places s.place 0 ≡ get_or r.own.places t.place 0 → ⊥
         apart s k f e =
-            let same : get_or l.fed s.place [] ≡ get_or r.fed t.place [] = unsome (get_or l.fed s.place []) (get_or r.fed t.place []) (sym (at_place labels l.fed l.places s.place lp k) ∙ ap (slice_get labels) e ∙ at_place labels r.fed r.places t.place rp h) in
-            let left = named_at (signature_by p) signatures l.fed l.numbers s.place ln k in
-            let right = named_at (signature_by p) signatures r.fed r.numbers t.place rn h in
-            let one : number_of l.numbers s ≡ number_of r.numbers t = one_place signatures (number_of l.numbers s) (number_of r.numbers t) (signature_by p (get_or r.fed t.place [])) d (left ∙ ap (λ (z : Names). Some (signature_by p z)) same) right in
-            false≢true (sym f ∙ (Decides-eqb (number_of l.numbers s) (number_of r.numbers t)).1 one)
+            let same : get_or l.signed.fed s.place [] ≡ get_or r.signed.fed t.place [] = unsome (get_or l.signed.fed s.place []) (get_or r.signed.fed t.place []) (sym (at_place labels l.signed.fed l.own.places s.place lp k) ∙ ap (slice_get labels) e ∙ at_place labels r.signed.fed r.own.places t.place rp h) in
+            let left = named_at (signature_by p) signatures l.signed.fed l.signed.places s.place ln k in
+            let right = named_at (signature_by p) signatures r.signed.fed r.signed.places t.place rn h in
+            let one : number_of l.signed.places s ≡ number_of r.signed.places t = one_place signatures (number_of l.signed.places s) (number_of r.signed.places t) (signature_by p (get_or r.signed.fed t.place [])) d (left ∙ ap (λ (z : Names). Some (signature_by p z)) same) right in
+            false≢true (sym f ∙ (Decides-eqb (number_of l.signed.places s) (number_of r.signed.places t)).1 one)
 
-    cross_all : AreAt labels r.fed r.places → (low : ℕ) (us : List Slot) → SlotsRise low (length r.fed) us → AllByRecursion (NotAmong (map (moved l.places) ls)) (map (moved r.places) (filter (λ s. not (is_met l ls r s)) us))
+    cross_all : AreAt labels r.signed.fed r.own.places → (low : ℕ) (us : List Slot) → SlotsRise low (length r.signed.fed) us → AllByRecursion (NotAmong (map (moved l.own.places) ls)) (map (moved r.own.places) (filter (λ s. not (is_met l ls r s)) us))
     cross_all rp low [] x = tt
     cross_all rp low (t ∷ us) x =
         let rest = cross_all rp (t.place + 1) us x.2 in
-        elim (not (is_met l ls r t)) as (λ c. not (is_met l ls r t) ≡ c → AllByRecursion (NotAmong (map (moved l.places) ls)) (map (moved r.places) (cond c (t ∷ filter (λ s. not (is_met l ls r s)) us) (filter (λ s. not (is_met l ls r s)) us)))) [
+        elim (not (is_met l ls r t)) as (λ c. not (is_met l ls r t) ≡ c → AllByRecursion (NotAmong (map (moved l.own.places) ls)) (map (moved r.own.places) (cond c (t ∷ filter (λ s. not (is_met l ls r s)) us) (filter (λ s. not (is_met l ls r s)) us)))) [
           | true ↦ λ h. (cross_one rp t x.1 0 ls lr (not_is (is_met l ls r t) h), rest)
           | false ↦ λ h. rest
         ] refl
 
     -- no two rows that are kept have one place
-    pub apart_is : (op : SetOp) → (IsTrue (lends_right op) → AreAt labels r.fed r.places) → IsDistinct labels_eq l.fed → IsDistinct labels_eq r.fed → AreApart (rows_kept op l r ls rs)
-    apart_is And rp ld rd = moved_apart labels l.fed l.places lp ld (is_met r rs l) 0 ls lr
-    apart_is Unless rp ld rd = moved_apart labels l.fed l.places lp ld (λ s. not (is_met r rs l s)) 0 ls lr
+    pub apart_is : (op : SetOp) → AreAt labels (lent_labels (lends_right op) r.signed.fed) r.own.places → IsDistinct labels_eq l.signed.fed → IsDistinct labels_eq r.signed.fed → AreApart (rows_kept op l r ls rs)
+    apart_is And rp ld rd = moved_apart labels l.signed.fed l.own.places lp ld (is_met r rs l) 0 ls lr
+    apart_is Unless rp ld rd = moved_apart labels l.signed.fed l.own.places lp ld (λ s. not (is_met r rs l s)) 0 ls lr
     apart_is Or rp ld rd =
-        apart_append (map (moved l.places) ls) (map (moved r.places) (filter (λ s. not (is_met l ls r s)) rs))
-        (subst (λ (z : List Slot). AreApart (map (moved l.places) z)) (all_kept ls) (moved_apart labels l.fed l.places lp ld (λ s. true) 0 ls lr))
-        (moved_apart labels r.fed r.places (rp refl) rd (λ s. not (is_met l ls r s)) 0 rs rr) (cross_all (rp refl) 0 rs rr)
+        apart_append (map (moved l.own.places) ls) (map (moved r.own.places) (filter (λ s. not (is_met l ls r s)) rs))
+        (subst (λ (z : List Slot). AreApart (map (moved l.own.places) z)) (all_kept ls) (moved_apart labels l.signed.fed l.own.places lp ld (λ s. true) 0 ls lr))
+        (moved_apart labels r.signed.fed r.own.places rp rd (λ s. not (is_met l ls r s)) 0 rs rr) (cross_all rp 0 rs rr)
 
-    pub within_is : (op : SetOp) → (IsTrue (lends_right op) → AreAt labels r.fed r.places) → AreWithin (length labels) (rows_kept op l r ls rs)
-    within_is And rp = moved_within labels l.fed l.places lp (is_met r rs l) 0 ls lr (length labels) (places_below labels l.fed l.places lp)
-    within_is Unless rp = moved_within labels l.fed l.places lp (λ s. not (is_met r rs l s)) 0 ls lr (length labels) (places_below labels l.fed l.places lp)
+    pub within_is : (op : SetOp) → AreAt labels (lent_labels (lends_right op) r.signed.fed) r.own.places → AreWithin (length labels) (rows_kept op l r ls rs)
+    within_is And rp = moved_within labels l.signed.fed l.own.places lp (is_met r rs l) 0 ls lr (length labels) (places_below labels l.signed.fed l.own.places lp)
+    within_is Unless rp = moved_within labels l.signed.fed l.own.places lp (λ s. not (is_met r rs l s)) 0 ls lr (length labels) (places_below labels l.signed.fed l.own.places lp)
     within_is Or rp =
-        all_append (λ (s : Slot). s.place < length labels) (map (moved l.places) ls) (map (moved r.places) (filter (λ s. not (is_met l ls r s)) rs))
-        (subst (λ (z : List Slot). AreWithin (length labels) (map (moved l.places) z)) (all_kept ls) (moved_within labels l.fed l.places lp (λ s. true) 0 ls lr (length labels) (places_below labels l.fed l.places lp)))
-        (moved_within labels r.fed r.places (rp refl) (λ s. not (is_met l ls r s)) 0 rs rr (length labels) (places_below labels r.fed r.places (rp refl)))
+        all_append (λ (s : Slot). s.place < length labels) (map (moved l.own.places) ls) (map (moved r.own.places) (filter (λ s. not (is_met l ls r s)) rs))
+        (subst (λ (z : List Slot). AreWithin (length labels) (map (moved l.own.places) z)) (all_kept ls) (moved_within labels l.signed.fed l.own.places lp (λ s. true) 0 ls lr (length labels) (places_below labels l.signed.fed l.own.places lp)))
+        (moved_within labels r.signed.fed r.own.places rp (λ s. not (is_met l ls r s)) 0 rs rr (length labels) (places_below labels r.signed.fed r.own.places rp))
 
     -- the step of the rows that are kept, in rising place, is what the operator makes of both steps
-    pub lent_is : Laws → (op : SetOp) → (IsTrue (lends_right op) → AreAt labels r.fed r.places) → IsDistinct labels_eq l.fed → IsDistinct labels_eq r.fed → IsDistinct labels_eq labels
+    pub lent_is : Laws → (op : SetOp) → AreAt labels (lent_labels (lends_right op) r.signed.fed) r.own.places → IsDistinct labels_eq l.signed.fed → IsDistinct labels_eq r.signed.fed → IsDistinct labels_eq labels
         → (new : List Slot) → Shuffled (rows_kept op l r ls rs) new → SlotsRise 0 (length labels) new → (lm rm : Marks)
-        → step_of (entries_of labels new) (united lm rm) ≡ combined (step_of (entries_of l.fed ls) lm) (step_of (entries_of r.fed rs) rm) op p
-    lent_is laws op rp ld rd dd new s rise lm rm = by_op laws op (step_of (entries_of l.fed ls) lm) (step_of (entries_of r.fed rs) rm) (step_of (entries_of labels new) (united lm rm)) (rows_at l.fed ls) (rows_at r.fed rs) p
-        (alike_rows laws l.fed ls lm ld lr) (alike_rows laws r.fed rs rm rd rr) refl (laws.tables l.fed (placed_step ls lm)) (laws.tables r.fed (placed_step rs rm)) (laws.tables labels (placed_step new (united lm rm)))
+        → step_of (entries_of labels new) (united lm rm) ≡ combined (step_of (entries_of l.signed.fed ls) lm) (step_of (entries_of r.signed.fed rs) rm) op p
+    lent_is laws op rp ld rd dd new s rise lm rm = by_op laws op (step_of (entries_of l.signed.fed ls) lm) (step_of (entries_of r.signed.fed rs) rm) (step_of (entries_of labels new) (united lm rm)) (rows_at l.signed.fed ls) (rows_at r.signed.fed rs) p
+        (alike_rows laws l.signed.fed ls lm ld lr) (alike_rows laws r.signed.fed rs rm rd rr) refl (laws.tables l.signed.fed (placed_step ls lm)) (laws.tables r.signed.fed (placed_step rs rm)) (laws.tables labels (placed_step new (united lm rm)))
         (subst (λ (z : List Row). Shuffled z (step_of (entries_of labels new) (united lm rm)).table.rows) (rows_are op rp)
         (joined (rows_at labels (rows_kept op l r ls rs)) (rows_at labels new) (step_of (entries_of labels new) (united lm rm)).table.rows
         (mapped_shuffled row_of (entries_of labels (rows_kept op l r ls rs)) (entries_of labels new) (chosen_shuffled (entry_of labels) (rows_kept op l r ls rs) new s))
@@ -312,14 +312,18 @@ module _ (p : Pairing) (signatures labels : List Names) (d : IsDistinct labels_e
 pub record AreFed (names : Naming) (labels : List Names) (ls rs : List Slot) : Type 0 where
   pub signatures : IsDistinct labels_eq names.signatures.labels
   pub labels_apart : IsDistinct labels_eq labels
-  pub lefts : IsDistinct labels_eq names.left.fed
-  pub rights : IsDistinct labels_eq names.right.fed
+  pub lefts : IsDistinct labels_eq names.left.signed.fed
+  pub rights : IsDistinct labels_eq names.right.signed.fed
   pub named : AreNamed names labels
-  pub left_rise : SlotsRise 0 (length names.left.fed) ls
-  pub right_rise : SlotsRise 0 (length names.right.fed) rs
+  pub left_rise : SlotsRise 0 (length names.left.signed.fed) ls
+  pub right_rise : SlotsRise 0 (length names.right.signed.fed) rs
 
-pub side_count : (p : Pairing) (lends : Bool) (signatures labels : List Names) (side : Side) → IsNamed p lends signatures labels side → length side.numbers ≡ length side.fed
-side_count p lends signatures labels side n = at_length signatures (map (signature_by p) side.fed) side.numbers n.numbers ∙ count_of (signature_by p) side.fed
+pub side_count : (p : Pairing) (lends : Bool) (signatures labels : List Names) (side : Side) → IsNamed p lends signatures labels side → length side.signed.places ≡ length side.signed.fed
+side_count p lends signatures labels side n = at_length signatures (map (signature_by p) side.signed.fed) side.signed.places n.numbers ∙ count_of (signature_by p) side.signed.fed
+
+-- where rows of the side are lent there are as many places as labels
+pub lent_count : (p : Pairing) (op : SetOp) (signatures labels : List Names) (side : Side) → IsNamed p (lends_right op) signatures labels side → op ≡ Or → length side.own.places ≡ length side.signed.fed
+lent_count p op signatures labels side n e = at_length labels (lent_labels (lends_right op) side.signed.fed) side.own.places n.places ∙ ap (λ (o : SetOp). length (lent_labels (lends_right o) side.signed.fed)) e
 
 pub rise_made : (names : Naming) (labels : List Names) (ls rs kept sorted : List Slot) → AreFed names labels ls rs → kept ≡ rows_kept names.op names.left names.right ls rs
     → ((high : ℕ) → AreWithin high kept → AreApart kept → SlotsRise 0 high sorted) → SlotsRise 0 (length labels) sorted
@@ -327,21 +331,21 @@ rise_made names labels ls rs kept sorted f e r =
     let left = f.named.left in
     let right = f.named.right in
     r (length labels)
-    (subst (AreWithin (length labels)) (sym e) (within_is names.pairing names.signatures.labels labels f.signatures names.left names.right left.numbers right.numbers (left.places refl) ls rs f.left_rise f.right_rise names.op right.places))
-    (subst AreApart (sym e) (apart_is names.pairing names.signatures.labels labels f.signatures names.left names.right left.numbers right.numbers (left.places refl) ls rs f.left_rise f.right_rise names.op right.places f.lefts f.rights))
+    (subst (AreWithin (length labels)) (sym e) (within_is names.pairing names.signatures.labels labels f.signatures names.left names.right left.numbers right.numbers left.places ls rs f.left_rise f.right_rise names.op right.places))
+    (subst AreApart (sym e) (apart_is names.pairing names.signatures.labels labels f.signatures names.left names.right left.numbers right.numbers left.places ls rs f.left_rise f.right_rise names.op right.places f.lefts f.rights))
 
 -- the step that is put, by what is known of each of its parts
 pub one_made : Laws → (names : Naming) (labels : List Names) (ls rs kept sorted : List Slot) (lm rm : Marks) (t : Ms) (a b : StepAt) (old new : List StepAt) → AreFed names labels ls rs
     → kept ≡ rows_kept names.op names.left names.right ls rs → Shuffled kept sorted → ((high : ℕ) → AreWithin high kept → AreApart kept → SlotsRise 0 high sorted)
-    → a ≡ record { at = t; step = step_of (entries_of names.left.fed ls) lm } → b.step ≡ step_of (entries_of names.right.fed rs) rm
+    → a ≡ record { at = t; step = step_of (entries_of names.left.signed.fed ls) lm } → b.step ≡ step_of (entries_of names.right.signed.fed rs) rm
     → new ≡ old ++ record { at = t; step = step_of (entries_of labels sorted) (united lm rm) } ∷ [] → new ≡ old ++ combined_at names.op names.pairing a b ∷ []
 one_made laws names labels ls rs kept sorted lm rm t a b old new f e s r ea eb n =
     let left = f.named.left in
     let right = f.named.right in
-    let L : Step = step_of (entries_of names.left.fed ls) lm in
-    let R : Step = step_of (entries_of names.right.fed rs) rm in
+    let L : Step = step_of (entries_of names.left.signed.fed ls) lm in
+    let R : Step = step_of (entries_of names.right.signed.fed rs) rm in
     let is : step_of (entries_of labels sorted) (united lm rm) ≡ combined L R names.op names.pairing =
-    lent_is names.pairing names.signatures.labels labels f.signatures names.left names.right left.numbers right.numbers (left.places refl) ls rs f.left_rise f.right_rise laws names.op right.places f.lefts f.rights f.labels_apart sorted
+    lent_is names.pairing names.signatures.labels labels f.signatures names.left names.right left.numbers right.numbers left.places ls rs f.left_rise f.right_rise laws names.op right.places f.lefts f.rights f.labels_apart sorted
     (subst (λ (z : List Slot). Shuffled z sorted) e s) (rise_made names labels ls rs kept sorted f e r) lm rm in
     let there : combined_at names.op names.pairing a b ≡ record { at = t; step = combined L R names.op names.pairing } = λ j. record { at = (ea j).at; step = combined (ea j).step (eb j) names.op names.pairing } in
     n ∙ ap (λ (z : Step). old ++ record { at = t; step = z } ∷ []) is ∙ ap (λ (z : StepAt). old ++ z ∷ []) (sym there)

@@ -1,11 +1,13 @@
--- Labels by their numbers and places.
-use Rattle.std.proofs.Common.{◌≡◌, ◌∙◌, ◌+◌, ◌<◌, ◌≤◌, ℕ, zero, suc, arith, Bool, true, false, List, [], ◌∷◌, ◌++◌, length, get_or, slice_get, take, map, refl, sym, ap, subst, Some}
+-- Labels by their places, and the names of a side.
+use Rattle.std.proofs.Common.{◌≡◌, ◌∙◌, ◌+◌, ◌<◌, ◌≤◌, ℕ, zero, suc, arith, Bool, List, [], ◌∷◌, ◌++◌, length, get_or, slice_get, take, map, refl, sym, ap, subst, Some}
 use Rattle.std.proofs.lemmas.Option.{slice_get_within}
-use Rattle.std.specs.Prelude.{if◌then◌else◌}
 use Rattle.label_set.specs.declared.rules.Pairing.{Pairing}
+use Rattle.step_put.specs.Placed.{left_of}
 use Rattle.step_put.specs.Puts.{AreAt}
+use Rattle.step_put.specs.declared.labels_left.Left.{Left}
+use Rattle.step_put.specs.declared.labels_left.Left.TheVariants as kind
 use Rattle.step_table.specs.Groups.{Names}
-use Rattle.op_set.specs.Sides.{AreBelow, IsNamed, signature_by}
+use Rattle.op_set.specs.Sides.{AreBelow, IsNamed, lent_labels, signature_by}
 use Rattle.op_set.specs.declared.sides.Side.{Side}
 
 -- labels keep their places where all of them stay
@@ -63,22 +65,42 @@ named_at f labels names places i a h =
 
 -- ---- sides
 
+all_left : (names : List Names) → map (left_of kind.All) names ≡ names
+all_left [] = refl
+all_left (n ∷ names) = ap (λ (z : List Names). n ∷ z) (all_left names)
+
+-- what a side keeps stands at its places
+pub signed_placed : (p : Pairing) (lends : Bool) (signatures labels : List Names) (side : Side) → IsNamed p lends signatures labels side → AreAt signatures (map (left_of side.signed.left) side.signed.fed) side.signed.places
+signed_placed p lends signatures labels side n =
+    subst (λ (z : Left). AreAt signatures (map (left_of z) side.signed.fed) side.signed.places) (sym n.signed_left) n.numbers
+
+pub own_placed : (p : Pairing) (lends : Bool) (signatures labels : List Names) (side : Side) → IsNamed p lends signatures labels side → AreAt labels (map (left_of side.own.left) side.own.fed) side.own.places
+own_placed p lends signatures labels side n =
+    let all : map (left_of side.own.left) side.own.fed ≡ lent_labels lends side.signed.fed = ap (λ (z : Left). map (left_of z) side.own.fed) n.own_left ∙ all_left side.own.fed ∙ n.fed in
+    subst (λ (z : List Names). AreAt labels z side.own.places) (sym all) n.places
+
+-- a side that took its labels is named
+pub taken_named : (p : Pairing) (lends : Bool) (signatures labels more others : List Names) (side now : Side) → IsNamed p lends signatures labels side → now.signed.left ≡ side.signed.left → now.own.left ≡ side.own.left
+    → now.own.fed ≡ lent_labels lends now.signed.fed → AreAt more (map (left_of now.signed.left) now.signed.fed) now.signed.places → AreAt others (map (left_of now.own.left) now.own.fed) now.own.places → IsNamed p lends more others now
+taken_named p lends signatures labels more others side now n s o f a b =
+    let signed : now.signed.left ≡ kind.Signature p.on p.names = s ∙ n.signed_left in
+    let own : now.own.left ≡ kind.All = o ∙ n.own_left in
+    let all : map (left_of now.own.left) now.own.fed ≡ lent_labels lends now.signed.fed = ap (λ (z : Left). map (left_of z) now.own.fed) own ∙ all_left now.own.fed ∙ f in
+    record {
+      signed_left = signed;
+      own_left = own;
+      fed = f;
+      numbers = subst (λ (z : Left). AreAt more (map (left_of z) now.signed.fed) now.signed.places) signed a;
+      places = subst (λ (z : List Names). AreAt others z now.own.places) all b;
+    }
+
 -- names stay where all labels stay at their places
 pub named_kept : (p : Pairing) (lends : Bool) (signatures labels more others : List Names) (side : Side) → ((j : ℕ) (n : Names) → slice_get signatures j ≡ Some n → slice_get more j ≡ Some n)
     → ((j : ℕ) (n : Names) → slice_get labels j ≡ Some n → slice_get others j ≡ Some n) → IsNamed p lends signatures labels side → IsNamed p lends more others side
 named_kept p lends signatures labels more others side s k n = record {
-  numbers = at_kept signatures more (map (signature_by p) side.fed) side.numbers s n.numbers;
-  places = λ h. at_kept labels others side.fed side.places k (n.places h);
-  count = n.count;
+  signed_left = n.signed_left;
+  own_left = n.own_left;
+  fed = n.fed;
+  numbers = at_kept signatures more (map (signature_by p) side.signed.fed) side.signed.places s n.numbers;
+  places = at_kept labels others (lent_labels lends side.signed.fed) side.own.places k n.places;
 }
-
-abbrev none : Side
-none = record { fed = []; numbers = []; places = [] }
-
--- the names of a side that stay, and none where they don't
-pub begun_named : (stay : Bool) (p : Pairing) (lends : Bool) (signatures labels more others : List Names) (side was kept : Side) → more ≡ (if stay then signatures else []) → others ≡ (if stay then labels else [])
-    → was ≡ side → kept ≡ (if stay then was else none) → IsNamed p lends signatures labels side → IsNamed p lends more others kept
-begun_named true p lends signatures labels more others side was kept s l w k n =
-    subst (λ (z : List Names). IsNamed p lends z others kept) (sym s) (subst (λ (z : List Names). IsNamed p lends signatures z kept) (sym l) (subst (IsNamed p lends signatures labels) (sym (k ∙ w)) n))
-begun_named false p lends signatures labels more others side was kept s l w k n =
-    subst (λ (z : List Names). IsNamed p lends z others kept) (sym s) (subst (λ (z : List Names). IsNamed p lends [] z kept) (sym l) (subst (IsNamed p lends [] []) (sym k) (record { numbers = tt; places = λ h. tt; count = refl })))

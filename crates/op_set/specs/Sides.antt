@@ -1,6 +1,6 @@
 -- The labels of two sides, the numbers of their signatures and their places among the labels that are lent, and the rows that
 -- an operator keeps by them.
-use Rattle.std.specs.Prelude.{◌≡◌, ◌<◌, ◌==◌, ◌++◌, ℕ, Bool, true, false, not, List, length, map, filter, slice_index_or, IsTrue}
+use Rattle.std.specs.Prelude.{◌≡◌, ◌<◌, ◌==◌, ◌++◌, ℕ, Bool, true, false, not, List, [], length, map, filter, slice_index_or, if◌then◌else◌}
 use Rattle.std.specs.List.{list_any}
 use Rattle.func_table.specs.declared.table.SetOp.{SetOp}
 use Rattle.func_table.specs.declared.table.SetOp.TheVariants.{And, Unless, Or}
@@ -8,6 +8,7 @@ use Rattle.label_set.specs.Labels.{signature}
 use Rattle.label_set.specs.declared.rules.Pairing.{Pairing}
 use Rattle.step_batch.specs.declared.steps.Slot.{Slot}
 use Rattle.step_put.specs.Puts.{AreAt}
+use Rattle.step_put.specs.declared.labels_left.Left.TheVariants as kind
 use Rattle.step_table.specs.Groups.{Names}
 use Rattle.op_set.specs.declared.choose.Chosen.{Chosen}
 use Rattle.op_set.specs.declared.choose.Chosen.TheVariants.{All, Marked, Unmarked}
@@ -26,12 +27,17 @@ lends_right And = false
 lends_right Unless = false
 lends_right Or = true
 
--- each labels of a side have the number of their signature and, where rows of the side are lent, their place among the labels
--- that are lent
+-- the labels of a side whose rows may be lent
+abbrev pub lent_labels : Bool → List Names → List Names
+lent_labels lends labels = if lends then labels else []
+
+-- each labels of a side have the number of their signature, and those that may be lent their place among the labels that are
 pub record IsNamed (p : Pairing) (lends : Bool) (signatures labels : List Names) (side : Side) : Type 0 where
-  pub numbers : AreAt signatures (map (signature_by p) side.fed) side.numbers
-  pub places : IsTrue lends → AreAt labels side.fed side.places
-  pub count : length side.places ≡ length side.fed
+  pub signed_left : side.signed.left ≡ kind.Signature p.on p.names
+  pub own_left : side.own.left ≡ kind.All
+  pub fed : side.own.fed ≡ lent_labels lends side.signed.fed
+  pub numbers : AreAt signatures (map (signature_by p) side.signed.fed) side.signed.places
+  pub places : AreAt labels (lent_labels lends side.signed.fed) side.own.places
 
 pub record AreNamed (names : Naming) (labels : List Names) : Type 0 where
   pub left : IsNamed names.pairing true names.signatures.labels labels names.left
@@ -70,14 +76,14 @@ moved places slot = record { place = slice_index_or places slot.place 0; value =
 
 -- the rows that are chosen, at their own places
 abbrev pub kept_rows : Chosen → List Bool → Side → List Slot → List Slot
-kept_rows chosen marked side slots = map (moved side.places) (filter (is_kept chosen marked side.numbers) slots)
+kept_rows chosen marked side slots = map (moved side.own.places) (filter (is_kept chosen marked side.signed.places) slots)
 
 -- whether a row's signature is that of one of some rows of the other side
 abbrev pub is_met : Side → List Slot → Side → Slot → Bool
-is_met other others side slot = has_number other.numbers others (number_of side.numbers slot)
+is_met other others side slot = has_number other.signed.places others (number_of side.signed.places slot)
 
 -- the rows that an operator gives, at their own places
 abbrev pub rows_kept : SetOp → Side → Side → List Slot → List Slot → List Slot
-rows_kept And left right ls rs = map (moved left.places) (filter (is_met right rs left) ls)
-rows_kept Unless left right ls rs = map (moved left.places) (filter (λ s. not (is_met right rs left s)) ls)
-rows_kept Or left right ls rs = map (moved left.places) ls ++ map (moved right.places) (filter (λ s. not (is_met left ls right s)) rs)
+rows_kept And left right ls rs = map (moved left.own.places) (filter (is_met right rs left) ls)
+rows_kept Unless left right ls rs = map (moved left.own.places) (filter (λ s. not (is_met right rs left s)) ls)
+rows_kept Or left right ls rs = map (moved left.own.places) ls ++ map (moved right.own.places) (filter (λ s. not (is_met left ls right s)) rs)

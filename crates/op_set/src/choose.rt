@@ -1,5 +1,6 @@
 ghost use Rattle.op_set.specs.Sides.{AreBelow, AreMarked, is_chosen as is_row_chosen, kept_rows, moved, number_of as number_at, rows_kept};
 ghost use Rattle.std.specs.Prelude.{◌≡◌, ◌<◌, ◌≤◌, ◌++◌, length, OnOk};
+ghost use Rattle.func_table.specs.declared.table.SetOp.TheVariants.{Or};
 ghost use Rattle.step_batch.specs.Lent.{SlotsRise};
 
 use crate::sides::{Naming, Side};
@@ -68,13 +69,13 @@ fn choose(
     side: &Side,
     slots: &[Slot],
 ) -> Result<(), AllocError>
-    requires within { SlotsRise 0 (length side.now.numbers) slots.now }
-    requires placed { length side.now.numbers ≤ length side.now.places }
-    requires numbered { AreBelow (length marked.now) side.now.numbers }
+    requires within { SlotsRise 0 (length side.now.signed.places) slots.now }
+    requires placed { length side.now.signed.places ≤ length side.now.own.places }
+    requires numbered { AreBelow (length marked.now) side.now.signed.places }
     ensures { OnOk result (kept.new.items ≡ kept.old.items ++ kept_rows chosen marked.now side.now slots.now) }
 {
-    let numbers = side.numbers.as_slice();
-    let places = side.places.as_slice();
+    let numbers = side.signed.places();
+    let places = side.own.places();
     for slot in slots {
         let number = number_of(numbers, *slot);
         if !is_chosen(chosen, marked[number]) {
@@ -93,12 +94,12 @@ pub(crate) fn keep(
     left: &[Slot],
     right: &[Slot],
 ) -> Result<(), AllocError>
-    requires left { SlotsRise 0 (length names.now.left.numbers) left.now }
-    requires right { SlotsRise 0 (length names.now.right.numbers) right.now }
-    requires left_numbers { AreBelow (length marked.old) names.now.left.numbers }
-    requires right_numbers { AreBelow (length marked.old) names.now.right.numbers }
-    requires left_places { length names.now.left.numbers ≤ length names.now.left.places }
-    requires right_places { length names.now.right.numbers ≤ length names.now.right.places }
+    requires left { SlotsRise 0 (length names.now.left.signed.places) left.now }
+    requires right { SlotsRise 0 (length names.now.right.signed.places) right.now }
+    requires left_numbers { AreBelow (length marked.old) names.now.left.signed.places }
+    requires right_numbers { AreBelow (length marked.old) names.now.right.signed.places }
+    requires left_places { length names.now.left.signed.places ≤ length names.now.left.own.places }
+    requires right_places { names.now.op ≡ Or → length names.now.right.signed.places ≤ length names.now.right.own.places }
     ensures count { length marked.new ≡ length marked.old }
     ensures kept { OnOk result (kept.new.items ≡ rows_kept names.now.op names.now.left names.now.right left.now right.now) }
 {
@@ -107,17 +108,17 @@ pub(crate) fn keep(
     kept.clear();
     match names.op {
         SetOp::And => {
-            mark(marked, others.numbers.as_slice(), right);
+            mark(marked, others.signed.places(), right);
             choose(kept, Chosen::Marked, marked, ones, left)?;
             Ok(())
         }
         SetOp::Unless => {
-            mark(marked, others.numbers.as_slice(), right);
+            mark(marked, others.signed.places(), right);
             choose(kept, Chosen::Unmarked, marked, ones, left)?;
             Ok(())
         }
         SetOp::Or => {
-            mark(marked, ones.numbers.as_slice(), left);
+            mark(marked, ones.signed.places(), left);
             choose(kept, Chosen::All, marked, ones, left)?;
             choose(kept, Chosen::Unmarked, marked, others, right)?;
             Ok(())

@@ -19,12 +19,10 @@ use step_table::laws::steps_are_well_formed;
 use step_table::order_laws::{rows_ignore_order, sides_ignore_order};
 use ticks::Ms;
 
-/// A kernel of a set operator between two vectors. The signatures of labels and their places among those that are lent are
-/// made once for each labels that are fed, and kept as long as those that were fed before stand in front of those that are
-/// fed.
+/// A kernel of a set operator between two vectors. The signature of labels and their place among those that are lent are made
+/// once for each labels that are fed, and kept over feeds as long as the labels at that place of the side stay equal.
 #[derive(Drop)]
 pub struct Combined {
-    alloc: Global,
     names: Naming,
     marked: Vec<bool>,
     kept: Vec<Slot>,
@@ -50,8 +48,7 @@ impl Combined {
         ensures lent { IfOk result (λ k. stages k.lent ≡ []) }
     {
         Ok(Combined {
-            alloc,
-            names: Naming::new(alloc, op, pairing),
+            names: Naming::new(alloc, op, pairing)?,
             marked: Vec::new(alloc),
             kept: Vec::new(alloc),
             made: StepBuffer::new(alloc),
@@ -67,7 +64,7 @@ impl Combined {
         ensures lent { OnOk result (stages self.new.lent ≡ all_combined self.old.op self.old.pairing (stages left.now) (stages right.now)) }
     {
         self.names
-            .renew(self.alloc, &mut self.made, left.labels(), right.labels())?;
+            .renew(&mut self.made, left.labels(), right.labels())?;
         self.marked.resize(self.names.count(), false)?;
         put_all(
             &self.names,
@@ -98,8 +95,8 @@ fn put_all(
 ) -> Result<(), AllocError>
     requires steps { length right.now.steps ≡ length left.now.steps }
     requires named { AreNamed names.now made.old.labels }
-    requires left { names.now.left.fed ≡ left.now.labels }
-    requires right { names.now.right.fed ≡ right.now.labels }
+    requires left { names.now.left.signed.fed ≡ left.now.labels }
+    requires right { names.now.right.signed.fed ≡ right.now.labels }
     requires count { length marked.old ≡ length names.now.signatures.labels }
     requires empty { made.old.steps ≡ [] }
     ensures labels { made.new.labels ≡ made.old.labels }
@@ -124,8 +121,8 @@ fn put_one(
     requires here { i < length left.now.steps }
     requires there { i < length right.now.steps }
     requires named { AreNamed names.now made.old.labels }
-    requires left { names.now.left.fed ≡ left.now.labels }
-    requires right { names.now.right.fed ≡ right.now.labels }
+    requires left { names.now.left.signed.fed ≡ left.now.labels }
+    requires right { names.now.right.signed.fed ≡ right.now.labels }
     requires count { length marked.old ≡ length names.now.signatures.labels }
     requires later { (t : _) → option_map (λ s. s.at) (slice_get left.now.steps i) ≡ Some t → IsLater made.old t }
     ensures labels { made.new.labels ≡ made.old.labels }

@@ -7,8 +7,8 @@ use Rattle.step_table.specs.Groups.{Names}
 use Rattle.step_table.specs.Unions.{united}
 use Rattle.op_set.specs.Sides.{AreBelow}
 use Rattle.op_set.proofs.Feeding.{stage_here, step_here}
-use Rattle.op_set.proofs.Making.{AreFed, Laws, one_made, rise_made, side_count}
-use Rattle.op_set.proofs.Named.{at_below}
+use Rattle.op_set.proofs.Making.{AreFed, Laws, lent_count, one_made, rise_made, side_count}
+use Rattle.op_set.proofs.Named.{at_below, at_length}
 use Rattle.op_set.proofs.combined.put_one.Goals as goal
 
 pub keep-requires-clause-left : goal.keep-requires-clause-left
@@ -26,24 +26,26 @@ keep-requires-clause-right c =
 pub keep-requires-clause-left_numbers : goal.keep-requires-clause-left_numbers
 keep-requires-clause-left_numbers c =
     let names = c.args.names.now in
-    subst (λ (n : ℕ). AreBelow n names.left.numbers) (sym c.requires.count) (at_below _ _ names.left.numbers c.requires.named.left.numbers)
+    subst (λ (n : ℕ). AreBelow n names.left.signed.places) (sym c.requires.count) (at_below _ _ names.left.signed.places c.requires.named.left.numbers)
 
 pub keep-requires-clause-right_numbers : goal.keep-requires-clause-right_numbers
 keep-requires-clause-right_numbers c =
     let names = c.args.names.now in
-    subst (λ (n : ℕ). AreBelow n names.right.numbers) (sym c.requires.count) (at_below _ _ names.right.numbers c.requires.named.right.numbers)
+    subst (λ (n : ℕ). AreBelow n names.right.signed.places) (sym c.requires.count) (at_below _ _ names.right.signed.places c.requires.named.right.numbers)
 
 pub keep-requires-clause-left_places : goal.keep-requires-clause-left_places
 keep-requires-clause-left_places c =
     let names = c.args.names.now in
     let count = side_count _ _ _ _ names.left c.requires.named.left in
-    omega (arith, count, c.requires.named.left.count)
+    let places = at_length c.args.made.now.labels names.left.signed.fed names.left.own.places c.requires.named.left.places in
+    omega (arith, count, places)
 
 pub keep-requires-clause-right_places : goal.keep-requires-clause-right_places
-keep-requires-clause-right_places c =
+keep-requires-clause-right_places c = λ e.
     let names = c.args.names.now in
     let count = side_count _ _ _ _ names.right c.requires.named.right in
-    omega (arith, count, c.requires.named.right.count)
+    let places = lent_count names.pairing names.op _ _ names.right c.requires.named.right e in
+    omega (arith, count, places)
 
 pub put_rows-requires-clause-rising : goal.put_rows-requires-clause-rising
 put_rows-requires-clause-rising c =

@@ -1,21 +1,33 @@
-use Rattle.std.proofs.Common.{Bool, sym, subst}
-use Rattle.op_set.specs.Sides.{IsNamed}
-use Rattle.op_set.proofs.Named.{begun_named, named_kept}
+use Rattle.std.proofs.Common.{◌∙◌, Bool, ap}
+use Rattle.op_set.specs.Sides.{lent_labels}
+use Rattle.op_set.proofs.Named.{named_kept, own_placed, signed_placed, taken_named}
 use Rattle.op_set.proofs.sides.Naming.renew.Goals as goal
 
-pub side_named-requires-2 : goal.side_named-requires-2
-side_named-requires-2 c =
-    let names = c.args.self.now in
-    let right = c.kept_if-right_before.result in
-    let begun = begun_named c.if-not-has_many.stay names.pairing _ names.signatures.labels c.args.lent.now.labels c.begin.new.signatures.labels c.begin.new.lent.labels names.right c.replace-right_before.result right
-    c.begin.ensures.signed c.begin.ensures.kept c.replace-right_before.ensures.value c.kept_if-right_before.ensures c.requires.named.right in
-    subst (λ (b : Bool). IsNamed names.pairing b c.side_named.new.signatures.labels c.side_named.new.lent.labels right) (sym c.lends_right-lends.ensures)
-    (named_kept names.pairing _ c.begin.new.signatures.labels c.begin.new.lent.labels c.side_named.new.signatures.labels c.side_named.new.lent.labels right c.side_named.ensures.signed c.side_named.ensures.kept begun)
+pub take-requires-clause-own : goal.take-requires-clause-own
+take-requires-clause-own c = own_placed _ _ _ _ c.begin.new.self.left c.begin.ensures.named.left
+
+pub returns-in_err-take-clause-named : goal.returns-in_err-take-clause-named
+returns-in_err-take-clause-named c = record {
+  left = taken_named _ _ _ _ _ _ c.begin.new.self.left c.take.new.self c.begin.ensures.named.left
+      c.take.ensures.signed_left c.take.ensures.own_left c.take.ensures.lent c.take.ensures.signed c.take.ensures.own;
+  right = named_kept _ _ _ _ _ _ c.begin.new.self.right c.take.ensures.signatures c.take.ensures.kept c.begin.ensures.named.right;
+}
+
+pub take-requires-2-clause-signed : goal.take-requires-2-clause-signed
+take-requires-2-clause-signed c =
+    signed_placed _ _ _ _ c.begin.new.self.right (named_kept _ _ _ _ _ _ c.begin.new.self.right c.take.ensures.signatures c.take.ensures.kept c.begin.ensures.named.right)
+
+pub take-requires-2-clause-own : goal.take-requires-2-clause-own
+take-requires-2-clause-own c =
+    own_placed _ _ _ _ c.begin.new.self.right (named_kept _ _ _ _ _ _ c.begin.new.self.right c.take.ensures.signatures c.take.ensures.kept c.begin.ensures.named.right)
 
 pub returns-clause-named : goal.returns-clause-named
 returns-clause-named c =
-    let names = c.args.self.now in
+    let left = taken_named _ _ _ _ _ _ c.begin.new.self.left c.take.new.self c.begin.ensures.named.left
+    c.take.ensures.signed_left c.take.ensures.own_left c.take.ensures.lent c.take.ensures.signed c.take.ensures.own in
+    let right = named_kept _ _ _ _ _ _ c.begin.new.self.right c.take.ensures.signatures c.take.ensures.kept c.begin.ensures.named.right in
+    let lent = c.take-2.ensures.lent ∙ ap (λ (lends : Bool). lent_labels lends c.take-2.new.self.signed.fed) c.lends_right-lends.ensures in
     record {
-      left = named_kept names.pairing _ c.side_named.new.signatures.labels c.side_named.new.lent.labels c.side_named-2.new.signatures.labels c.side_named-2.new.lent.labels c.in_ok-left.left c.side_named-2.ensures.signed c.side_named-2.ensures.kept c.in_ok-left.ensures.named;
-      right = subst (λ (b : Bool). IsNamed names.pairing b c.side_named-2.new.signatures.labels c.side_named-2.new.lent.labels c.in_ok-right.right) c.lends_right-lends.ensures c.in_ok-right.ensures.named;
+      left = named_kept _ _ _ _ _ _ c.take.new.self c.take-2.ensures.signatures c.take-2.ensures.kept left;
+      right = taken_named _ _ _ _ _ _ c.begin.new.self.right c.take-2.new.self right c.take-2.ensures.signed_left c.take-2.ensures.own_left lent c.take-2.ensures.signed c.take-2.ensures.own;
     }
