@@ -1,4 +1,4 @@
-use crate::written::{digits, marks, named, number, write_marks};
+use crate::written::{digits, lines_hold, marks, named, number, write_marks};
 use label_set::{LabelRefusal, METRIC_NAME};
 use std::alloc::{AllocError, Global};
 use std::test::Fail;
@@ -73,16 +73,13 @@ fn begin(buffer: &mut StepBuffer, at: Ms, answers: &mut String) -> Result<(), Al
 }
 
 /// Puts a value at a place that is free.
-fn put(
-    buffer: &mut StepBuffer,
-    place: usize,
-    value: i64,
-    answers: &mut String,
-) -> Result<(), AllocError> {
+fn put(buffer: &mut StepBuffer, given: &str, answers: &mut String) -> Result<(), AllocError> {
+    let (place, value) = given.split_once('=').unwrap_or((given, ""));
+    let place = place.parse::<usize>().unwrap_or(0);
     if !buffer.is_free(place) {
         return answers.push_str("taken ");
     }
-    buffer.put(place, whole(value))
+    buffer.put(place, whole(number(value)))
 }
 
 /// Adds marks or notes, where a step was begun.
@@ -109,6 +106,16 @@ fn place(
     Ok(())
 }
 
+/// Makes a call that answers nothing.
+fn settle(buffer: &mut StepBuffer, name: &str) {
+    match name {
+        "clear" => buffer.clear(),
+        "renew" => buffer.renew(),
+        "feed" => buffer.begin_feed(),
+        _ => {}
+    }
+}
+
 fn call(
     alloc: Global,
     buffer: &mut StepBuffer,
@@ -116,25 +123,16 @@ fn call(
     answers: &mut String,
 ) -> Result<(), LabelRefusal> {
     let (name, given) = word.split_once(':').unwrap_or((word, ""));
-    if name == "place" {
-        return place(alloc, buffer, given, answers);
+    match name {
+        "place" => place(alloc, buffer, given, answers),
+        "begin" => Ok(begin(buffer, Ms(number(given)), answers)?),
+        "put" => Ok(put(buffer, given, answers)?),
+        "unite" => Ok(unite(alloc, buffer, given, answers)?),
+        _ => {
+            settle(buffer, name);
+            Ok(())
+        }
     }
-    if name == "begin" {
-        begin(buffer, Ms(number(given)), answers)?;
-    } else if name == "put" {
-        let (at, value) = given.split_once('=').unwrap_or((given, ""));
-        let at = at.parse::<usize>().unwrap_or(0);
-        put(buffer, at, number(value), answers)?;
-    } else if name == "unite" {
-        unite(alloc, buffer, given, answers)?;
-    } else if name == "clear" {
-        buffer.clear();
-    } else if name == "renew" {
-        buffer.renew();
-    } else if name == "feed" {
-        buffer.begin_feed();
-    }
-    Ok(())
 }
 
 fn write_slots(alloc: Global, text: &mut String, slots: &[Slot]) -> Result<(), AllocError> {
@@ -181,22 +179,7 @@ fn told(alloc: Global, calls: &str) -> Result<String, LabelRefusal> {
     Ok(text)
 }
 
-/// The first line that tells something else.
-fn line_that_differs(alloc: Global) -> Result<&'static str, LabelRefusal> {
-    for line in LINES.split('\n') {
-        if let Some((calls, wanted)) = line.split_once(" > ") {
-            let got = told(alloc, calls)?;
-            if got.as_str() != wanted {
-                return Ok(line);
-            }
-        }
-    }
-    Ok("none")
-}
-
 #[test]
 fn a_buffer_lends_what_was_put(rt: HostRuntime) -> Result<(), Fail> {
-    let line = line_that_differs(rt.alloc())?;
-    assert_eq!(rt; line, "none");
-    Ok(())
+    lines_hold(rt.alloc(), LINES, told)
 }

@@ -1,4 +1,4 @@
-use crate::written::{digits, marks, named, number, write_marks};
+use crate::written::{digits, lines_hold, marks, named, number, write_marks};
 use label_set::{LabelRefusal, METRIC_NAME};
 use std::alloc::{AllocError, Global};
 use std::test::Fail;
@@ -87,22 +87,7 @@ fn told(alloc: Global, line: &str) -> Result<String, LabelRefusal> {
     }
 }
 
-/// The first line that tells something else.
-fn line_that_differs(alloc: Global) -> Result<&'static str, LabelRefusal> {
-    for line in LINES.split('\n') {
-        if let Some((calls, wanted)) = line.split_once(" > ") {
-            let got = told(alloc, calls)?;
-            if got.as_str() != wanted {
-                return Ok(line);
-            }
-        }
-    }
-    Ok("none")
-}
-
 #[test]
 fn windows_let_go_of_what_is_early(rt: HostRuntime) -> Result<(), Fail> {
-    let line = line_that_differs(rt.alloc())?;
-    assert_eq!(rt; line, "none");
-    Ok(())
+    lines_hold(rt.alloc(), LINES, told)
 }

@@ -1,8 +1,26 @@
 //! Texts of numbers, labels, marks and notes, as the rows of tests have them.
 use label_set::{Items, LabelRefusal, Labels, METRIC_NAME};
 use std::alloc::{AllocError, Global};
+use std::test::Fail;
 use step_table::{Mark, Marks, Note};
 use xfrac::{XFrac, whole};
+
+/// Fails, with the line, at the first line that tells something else than what stands behind its arrow.
+pub fn lines_hold<F: Fn(Global, &str) -> Result<String, LabelRefusal>>(
+    alloc: Global,
+    lines: &str,
+    told: F,
+) -> Result<(), Fail>
+    requires { F.IsAlwaysCallable told }
+{
+    for line in lines.split('\n') {
+        let (calls, wanted) = line.split_once(" > ").ok_or("a line without an arrow")?;
+        if told(alloc, calls)?.as_str() != wanted {
+            return Err(Fail::new(line));
+        }
+    }
+    Ok(())
+}
 
 /// The labels of a metric's name alone.
 pub fn named(alloc: Global, name: &str) -> Result<Labels, LabelRefusal> {
@@ -13,10 +31,7 @@ pub fn named(alloc: Global, name: &str) -> Result<Labels, LabelRefusal> {
 
 /// The number of a word, else 0.
 pub fn number(word: &str) -> i64 {
-    match word.parse::<i64>() {
-        Ok(n) => n,
-        Err(_) => 0,
-    }
+    word.parse::<i64>().unwrap_or(0)
 }
 
 /// Which whole number below 100 a value is, else -1.
@@ -33,14 +48,11 @@ pub fn digits(value: &XFrac) -> i64 {
 pub fn marks(alloc: Global, word: &str) -> Result<Marks, AllocError> {
     let mut fatal = Items::new(alloc);
     let mut notes = Items::new(alloc);
-    if word == "O" {
-        fatal.push(Mark::Overflow)?;
-    }
-    if word == "I" {
-        fatal.push(Mark::Irrational)?;
-    }
-    if word == "B" {
-        notes.push(Note::FixedBuckets)?;
+    match word {
+        "O" => fatal.push(Mark::Overflow)?,
+        "I" => fatal.push(Mark::Irrational)?,
+        "B" => notes.push(Note::FixedBuckets)?,
+        _ => {}
     }
     Ok(Marks { fatal, notes })
 }

@@ -3,6 +3,7 @@ mod texts;
 
 use crate::grammar::printing::{push_text, push_tree};
 use crate::grammar::texts::{BUILT, TEXTS};
+use crate::rows::rows_hold;
 use match_rule::{PatternRoom, Patterns};
 use promql_lex::LexFault;
 use promql_parse::parse;
@@ -22,18 +23,14 @@ fn answer(alloc: Global, text: &str, whole: bool) -> Result<String, Fail> {
     Ok(out)
 }
 
+fn has_tree(alloc: Global, row: &str) -> Result<bool, Fail> {
+    let (text, wanted) = row.split_once(" => ").ok_or("a row without its answer")?;
+    Ok(answer(alloc, text, true)?.as_str() == wanted)
+}
+
 #[test]
 fn texts_have_their_trees(rt: HostRuntime) -> Result<(), Fail> {
-    let alloc = rt.alloc();
-    let mut rows = 0u32;
-    for line in TEXTS.lines() {
-        let (text, wanted) = line.split_once(" => ").ok_or("a row without its answer")?;
-        let found = answer(alloc, text, true)?;
-        assert_eq!(rt; found.as_str(), wanted, "{line}");
-        rows = rows.saturating_add(1);
-    }
-    assert_eq!(rt; rows, 71);
-    Ok(())
+    rows_hold(rt.alloc(), TEXTS, 71, has_tree)
 }
 
 fn push_times(out: &mut String, count: &str, part: &str) -> Result<(), Fail> {
@@ -54,24 +51,26 @@ fn push_part(out: &mut String, part: &str) -> Result<(), Fail> {
     Ok(())
 }
 
+/// A text of a head, a part so many times, a middle, and another part so many times.
+fn built(alloc: Global, parts: &str) -> Result<String, Fail> {
+    let mut words = parts.split(' ');
+    let mut text = String::new(alloc);
+    push_part(&mut text, words.next().ok_or("no head")?)?;
+    let count = words.next().ok_or("no count")?;
+    push_times(&mut text, count, words.next().ok_or("no part")?)?;
+    push_part(&mut text, words.next().ok_or("no middle")?)?;
+    let count = words.next().ok_or("no last count")?;
+    push_times(&mut text, count, words.next().ok_or("no last part")?)?;
+    Ok(text)
+}
+
+fn has_answer(alloc: Global, row: &str) -> Result<bool, Fail> {
+    let (parts, wanted) = row.split_once(" => ").ok_or("a row without its answer")?;
+    let text = built(alloc, parts)?;
+    Ok(answer(alloc, text.as_str(), false)?.as_str() == wanted)
+}
+
 #[test]
 fn long_texts_have_their_answers(rt: HostRuntime) -> Result<(), Fail> {
-    let alloc = rt.alloc();
-    let mut rows = 0u32;
-    for line in BUILT.lines() {
-        let (parts, wanted) = line.split_once(" => ").ok_or("a row without its answer")?;
-        let mut parts = parts.split(' ');
-        let mut text = String::new(alloc);
-        push_part(&mut text, parts.next().ok_or("no head")?)?;
-        let count = parts.next().ok_or("no count")?;
-        push_times(&mut text, count, parts.next().ok_or("no part")?)?;
-        push_part(&mut text, parts.next().ok_or("no middle")?)?;
-        let count = parts.next().ok_or("no last count")?;
-        push_times(&mut text, count, parts.next().ok_or("no last part")?)?;
-        let found = answer(alloc, text.as_str(), false)?;
-        assert_eq!(rt; found.as_str(), wanted, "{line}");
-        rows = rows.saturating_add(1);
-    }
-    assert_eq!(rt; rows, 9);
-    Ok(())
+    rows_hold(rt.alloc(), BUILT, 9, has_answer)
 }

@@ -1,3 +1,4 @@
+use crate::rows::rows_hold;
 use frac_text::write_number;
 use promql_ast::QueryRefusal;
 use promql_lex::{
@@ -256,26 +257,37 @@ fn described(alloc: Global, tokens: &[Token]) -> Result<String, Fail> {
     Ok(out)
 }
 
+/// Whether a text has the tokens of its row, and a copy of them too.
+fn has_tokens(alloc: Global, row: &str) -> Result<bool, Fail> {
+    let (text, wanted) = row.split_once(" => ").ok_or("a row without its tokens")?;
+    let text = unescaped(alloc, text)?;
+    if text.len() > 65_536 {
+        return Ok(false);
+    }
+    let found = tokens(alloc, text.as_str())?;
+    let copy = found.copy()?;
+    Ok(described(alloc, copy.as_slice())?.as_str() == wanted)
+}
+
 #[test]
 fn texts_have_their_tokens(rt: HostRuntime) -> Result<(), Fail> {
-    let alloc = rt.alloc();
+    rows_hold(rt.alloc(), TEXTS, 127, has_tokens)
+}
+
+#[test]
+fn tokens_have_laws(_rt: HostRuntime) -> Result<(), Fail> {
     kinds_are_of_spellings();
     refused_spellings_are_last();
     spans_lie_in_order();
-    let mut rows = 0u32;
-    for line in TEXTS.lines() {
-        let (text, wanted) = line.split_once(" => ").ok_or("a row without its tokens")?;
-        let text = unescaped(alloc, text)?;
-        let text = text.as_str();
-        assert!(rt; text.len() <= 65_536);
-        let found = tokens(alloc, text)?;
-        let copy = found.copy()?;
-        let answer = described(alloc, copy.as_slice())?;
-        assert_eq!(rt; answer.as_str(), wanted, "{line}");
-        rows = rows.saturating_add(1);
-    }
-    assert_eq!(rt; rows, 127);
-    let fault = LexFault::Refused(QueryRefusal::Expected(3));
-    assert!(rt; fault.copy()? == fault);
     Ok(())
+}
+
+#[test]
+fn faults_are_copied(_rt: HostRuntime) -> Result<(), Fail> {
+    let fault = LexFault::Refused(QueryRefusal::Expected(3));
+    if fault.copy()? == fault {
+        Ok(())
+    } else {
+        Err(Fail::from("another fault"))
+    }
 }

@@ -6,6 +6,8 @@ mod grammar;
 #[cfg(test)]
 mod lexing;
 #[cfg(test)]
+mod rows;
+#[cfg(test)]
 mod trees;
 #[cfg(test)]
 mod types;

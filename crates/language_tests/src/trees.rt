@@ -1,3 +1,4 @@
+use crate::rows::rows_hold;
 use crate::types::tree;
 use holders::Text;
 use promql_ast::QueryRefusal;
@@ -6,6 +7,11 @@ use std::test::Fail;
 
 /// Its longest path has six nodes.
 const SIX: &str = "sum(abs(x)) > bool (-(1)) or x";
+
+// Each line is a text and the nodes of its longest path.
+const DEPTHS: &str = "1 => 1
+(x) => 2
+sum(abs(x)) > bool (-(1)) or x => 6";
 
 fn is_copied(alloc: Global) -> Result<bool, Fail> {
     let six = tree(alloc, SIX)?;
@@ -17,12 +23,14 @@ fn depth_of(alloc: Global, text: &str) -> Result<u64, Fail> {
     Ok(tree(alloc, text)?.depth())
 }
 
+fn has_depth(alloc: Global, row: &str) -> Result<bool, Fail> {
+    let (text, wanted) = row.split_once(" => ").ok_or("a row without its depth")?;
+    Ok(depth_of(alloc, text)? == wanted.parse::<u64>()?)
+}
+
 #[test]
 fn trees_are_measured(rt: HostRuntime) -> Result<(), Fail> {
-    for (text, depth) in [("1", 1), ("(x)", 2), (SIX, 6)] {
-        assert_eq!(rt; depth_of(rt.alloc(), text)?, depth, "{text}");
-    }
-    Ok(())
+    rows_hold(rt.alloc(), DEPTHS, 3, has_depth)
 }
 
 #[test]

@@ -1,4 +1,5 @@
 //! The types of trees that no text has, or that are asked for what no query tells.
+use crate::rows::rows_hold;
 use func_table::Aggregate;
 use holders::Items;
 use label_set::{Card, Grouping, Pairing, PatternId};
@@ -8,6 +9,23 @@ use promql_parse::parse;
 use promql_type::{TypeFault, Typed, check};
 use std::alloc::Global;
 use std::test::Fail;
+
+const AGGREGATIONS: &str = "sum
+avg
+min
+max
+count
+group
+stdvar
+topk
+bottomk
+quantile
+count_values";
+
+const TYPES: &str = "1 => scalar
+x => vector
+scalar(x) => scalar
+vector(1) => vector";
 
 /// The tree of a text, with patterns that nobody reads.
 pub fn tree(alloc: Global, text: &str) -> Result<Expr, Fail> {
@@ -30,55 +48,57 @@ fn of_nothing(alloc: Global, f: Aggregate) -> Expr {
     }
 }
 
+/// Whether an aggregation of nothing is refused, at its place.
+fn is_refused(alloc: Global, f: Aggregate) -> Result<bool, Fail> {
+    let mut room = PatternRoom::new(alloc)?;
+    let mut patterns = Patterns::new(alloc, &mut room);
+    match check(alloc, of_nothing(alloc, f), &mut patterns) {
+        Err(TypeFault::Refused(refusal)) => Ok(refusal == QueryRefusal::WrongArity(7)),
+        _ => Ok(false),
+    }
+}
+
+fn aggregation(name: &str) -> Option<Aggregate> {
+    match name {
+        "sum" => Some(Aggregate::Sum),
+        "avg" => Some(Aggregate::Avg),
+        "min" => Some(Aggregate::Min),
+        "max" => Some(Aggregate::Max),
+        "count" => Some(Aggregate::Count),
+        "group" => Some(Aggregate::Group),
+        "stdvar" => Some(Aggregate::Stdvar),
+        "topk" => Some(Aggregate::TopK),
+        "bottomk" => Some(Aggregate::BottomK),
+        "quantile" => Some(Aggregate::Quantile),
+        "count_values" => Some(Aggregate::CountValues),
+        _ => None,
+    }
+}
+
+fn is_name_refused(alloc: Global, name: &str) -> Result<bool, Fail> {
+    match aggregation(name) {
+        Some(f) => is_refused(alloc, f),
+        None => Ok(false),
+    }
+}
+
 #[test]
 fn aggregations_take_arguments(rt: HostRuntime) -> Result<(), Fail> {
-    let alloc = rt.alloc();
-    for f in [
-        Aggregate::Sum,
-        Aggregate::Avg,
-        Aggregate::Min,
-        Aggregate::Max,
-        Aggregate::Count,
-        Aggregate::Group,
-        Aggregate::Stdvar,
-        Aggregate::TopK,
-        Aggregate::BottomK,
-        Aggregate::Quantile,
-        Aggregate::CountValues,
-    ] {
-        let mut room = PatternRoom::new(alloc)?;
-        match check(
-            alloc,
-            of_nothing(alloc, f),
-            &mut Patterns::new(alloc, &mut room),
-        ) {
-            Err(TypeFault::Refused(refusal)) => {
-                assert_eq!(rt; refusal, QueryRefusal::WrongArity(7));
-            }
-            _ => return Err(Fail::from("another answer")),
-        }
-    }
-    Ok(())
+    rows_hold(rt.alloc(), AGGREGATIONS, 11, is_name_refused)
+}
+
+/// Whether a text's tree is a scalar or a vector, as its row tells.
+fn is_of_type(alloc: Global, row: &str) -> Result<bool, Fail> {
+    let (text, wanted) = row.split_once(" => ").ok_or("a row without its type")?;
+    let mut room = PatternRoom::new(alloc)?;
+    let mut patterns = Patterns::new(alloc, &mut room);
+    let typed = check(alloc, tree(alloc, text)?, &mut patterns)?;
+    Ok(typed.is_scalar() == (wanted == "scalar"))
 }
 
 #[test]
 fn trees_are_scalars_or_vectors(rt: HostRuntime) -> Result<(), Fail> {
-    let alloc = rt.alloc();
-    for (text, wanted) in [
-        ("1", true),
-        ("x", false),
-        ("scalar(x)", true),
-        ("vector(1)", false),
-    ] {
-        let mut room = PatternRoom::new(alloc)?;
-        let typed = check(
-            alloc,
-            tree(alloc, text)?,
-            &mut Patterns::new(alloc, &mut room),
-        )?;
-        assert_eq!(rt; typed.is_scalar(), wanted, "{text}");
-    }
-    Ok(())
+    rows_hold(rt.alloc(), TYPES, 4, is_of_type)
 }
 
 const REPLACED: &str = "-label_replace(x, \"a\", \"$1\", \"b\", \"p.*\") + on() group_left(c) 1";

@@ -1,7 +1,7 @@
 //! Rows whose answers were worked out by exact arithmetic elsewhere.
 ghost use Rattle.std.specs.Prelude.{◌≡◌};
 
-use crate::fractions::read;
+use crate::fractions::{field, read, rows_hold};
 use func_table::{Element, Found, Func, find};
 use std::test::Fail;
 use value_fn::element;
@@ -152,29 +152,23 @@ fn function(name: &str) -> Result<Element, Fail> {
 }
 
 fn answer(text: &str) -> Result<Result<Option<XFrac>, NumFault>, Fail> {
-    if text == "overflow" {
-        return Ok(Err(NumFault::Overflow));
+    match text {
+        "overflow" => Ok(Err(NumFault::Overflow)),
+        "outside" => Ok(Err(NumFault::OutOfCalendar)),
+        "none" => Ok(Ok(None)),
+        _ => Ok(Ok(Some(read(text)?))),
     }
-    if text == "outside" {
-        return Ok(Err(NumFault::OutOfCalendar));
-    }
-    if text == "none" {
-        return Ok(Ok(None));
-    }
-    Ok(Ok(Some(read(text)?)))
+}
+
+fn call_holds(row: &str) -> Result<bool, Fail> {
+    let f = function(field(row, 0)?)?;
+    let v = read(field(row, 1)?)?;
+    let first = read(field(row, 2)?)?;
+    let second = read(field(row, 3)?)?;
+    Ok(element(f, &v, &first, &second) == answer(field(row, 4)?)?)
 }
 
 #[test]
-fn elements(rt: HostRuntime) -> Result<(), Fail> {
-    for line in CALLS.lines() {
-        let mut words = line.split_whitespace();
-        let f = function(words.next().ok_or("no function")?)?;
-        let v = read(words.next().ok_or("no value")?)?;
-        let first = read(words.next().ok_or("no first parameter")?)?;
-        let second = read(words.next().ok_or("no second parameter")?)?;
-        let wanted = answer(words.next().ok_or("no answer")?)?;
-        assert_eq!(rt; element(f, &v, &first, &second), wanted, "{line}");
-    }
-    assert_eq!(rt; CALLS.lines().count(), 132);
-    Ok(())
+fn elements(_rt: HostRuntime) -> Result<(), Fail> {
+    rows_hold(CALLS, 132, call_holds)
 }

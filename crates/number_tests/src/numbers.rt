@@ -1,7 +1,7 @@
 //! Rows whose answers were worked out by hand or by exact arithmetic elsewhere.
 ghost use Rattle.std.specs.Prelude.{◌≡◌};
 
-use crate::fractions::read;
+use crate::fractions::{field, read, rows_hold};
 use std::cmp::Ordering;
 use std::test::Fail;
 use xfrac::{
@@ -121,45 +121,34 @@ const OPERATIONS: &str = "+ 1/2 1/3 5/6
 ^ -2/1 2/1 4/1";
 
 fn operator(text: &str) -> ArithOp {
-    if text == "+" {
-        ArithOp::Add
-    } else if text == "-" {
-        ArithOp::Sub
-    } else if text == "*" {
-        ArithOp::Mul
-    } else if text == "/" {
-        ArithOp::Div
-    } else if text == "%" {
-        ArithOp::Rem
-    } else {
-        ArithOp::Pow
+    match text {
+        "+" => ArithOp::Add,
+        "-" => ArithOp::Sub,
+        "*" => ArithOp::Mul,
+        "/" => ArithOp::Div,
+        "%" => ArithOp::Rem,
+        _ => ArithOp::Pow,
     }
 }
 
 fn answer(text: &str) -> Result<Result<XFrac, NumFault>, Fail> {
-    if text == "overflow" {
-        return Ok(Err(NumFault::Overflow));
+    match text {
+        "overflow" => Ok(Err(NumFault::Overflow)),
+        "irrational" => Ok(Err(NumFault::Irrational)),
+        _ => Ok(Ok(read(text)?)),
     }
-    if text == "irrational" {
-        return Ok(Err(NumFault::Irrational));
-    }
-    Ok(Ok(read(text)?))
+}
+
+fn operation_holds(row: &str) -> Result<bool, Fail> {
+    let op = operator(field(row, 0)?);
+    let a = read(field(row, 1)?)?;
+    let b = read(field(row, 2)?)?;
+    Ok(arith(op, &a, &b) == answer(field(row, 3)?)?)
 }
 
 #[test]
-fn operators(rt: HostRuntime) -> Result<(), Fail> {
-    let mut rows = 0u8;
-    for line in OPERATIONS.lines() {
-        let mut words = line.split_whitespace();
-        let op = operator(words.next().ok_or("no operator")?);
-        let a = read(words.next().ok_or("no left operand")?)?;
-        let b = read(words.next().ok_or("no right operand")?)?;
-        let wanted = answer(words.next().ok_or("no answer")?)?;
-        assert_eq!(rt; arith(op, &a, &b), wanted, "{line}");
-        rows = rows.saturating_add(1);
-    }
-    assert_eq!(rt; rows, 87);
-    Ok(())
+fn operators(_rt: HostRuntime) -> Result<(), Fail> {
+    rows_hold(OPERATIONS, 87, operation_holds)
 }
 
 #[test]
@@ -235,56 +224,64 @@ const RISING: &str = "-inf
 1000000000000000000000000000000/1
 inf";
 
+fn rounding_holds(row: &str) -> Result<bool, Fail> {
+    let a = read(field(row, 0)?)?;
+    let negated = neg(&a) == read(field(row, 1)?)? && abs(&a) == read(field(row, 2)?)?;
+    let rounded = floor(&a) == read(field(row, 3)?)? && ceil(&a) == read(field(row, 4)?)?;
+    Ok(negated && rounded)
+}
+
+fn nearness_holds(row: &str) -> Result<bool, Fail> {
+    let a = read(field(row, 0)?)?;
+    let b = read(field(row, 1)?)?;
+    let is_near = field(row, 2)? == "near";
+    Ok(near(&a, &b) == is_near && near(&b, &a) == is_near)
+}
+
 #[test]
-fn rounding_and_nearness(rt: HostRuntime) -> Result<(), Fail> {
-    for line in ROUNDING.lines() {
-        let mut words = line.split_whitespace();
-        let a = read(words.next().ok_or("no number")?)?;
-        let negated = read(words.next().ok_or("no negated number")?)?;
-        let magnitude = read(words.next().ok_or("no magnitude")?)?;
-        let below = read(words.next().ok_or("no floor")?)?;
-        let above = read(words.next().ok_or("no ceiling")?)?;
-        assert_eq!(rt; (neg(&a), abs(&a)), (negated, magnitude), "{line}");
-        assert_eq!(rt; (floor(&a), ceil(&a)), (below, above), "{line}");
+fn rounding_and_nearness(_rt: HostRuntime) -> Result<(), Fail> {
+    rows_hold(ROUNDING, 11, rounding_holds)?;
+    rows_hold(NEARNESS, 18, nearness_holds)
+}
+
+/// Whether two numbers compare as their places do.
+fn are_ordered(x: &XFrac, y: &XFrac, order: Ordering) -> bool {
+    cmp_total(x, y) == order
+        && compare(CompareOp::Lt, x, y) == order.is_lt()
+        && compare(CompareOp::Le, x, y) == order.is_le()
+        && compare(CompareOp::Eq, x, y) == order.is_eq()
+        && compare(CompareOp::Ne, x, y) == order.is_ne()
+        && compare(CompareOp::Gt, x, y) == order.is_gt()
+        && compare(CompareOp::Ge, x, y) == order.is_ge()
+}
+
+/// Whether a number lies among the rising ones as its place does, and below NaN, to which nothing is equal.
+fn is_in_order(x: &XFrac, place: usize) -> Result<bool, Fail> {
+    for (other, text) in RISING.lines().enumerate() {
+        if !are_ordered(x, &read(text)?, place.cmp(&other)) {
+            return Ok(false);
+        }
     }
-    for line in NEARNESS.lines() {
-        let mut words = line.split_whitespace();
-        let a = read(words.next().ok_or("no left number")?)?;
-        let b = read(words.next().ok_or("no right number")?)?;
-        let wanted = words.next().ok_or("no answer")? == "near";
-        assert_eq!(rt; (near(&a, &b), near(&b, &a)), (wanted, wanted), "{line}");
-    }
-    Ok(())
+    Ok(
+        cmp_total(x, &XFrac::NaN) == Ordering::Less
+            && !compare(CompareOp::Lt, x, &XFrac::NaN)
+            && compare(CompareOp::Ne, &XFrac::NaN, x),
+    )
 }
 
 #[test]
 fn order(rt: HostRuntime) -> Result<(), Fail> {
-    for (i, left) in RISING.lines().enumerate() {
-        let x = read(left)?;
-        for (j, right) in RISING.lines().enumerate() {
-            let y = read(right)?;
-            let found = (
-                compare(CompareOp::Lt, &x, &y),
-                compare(CompareOp::Le, &x, &y),
-                compare(CompareOp::Eq, &x, &y),
-                compare(CompareOp::Ne, &x, &y),
-                compare(CompareOp::Gt, &x, &y),
-                compare(CompareOp::Ge, &x, &y),
-            );
-            assert_eq!(rt; cmp_total(&x, &y), i.cmp(&j), "{left} {right}");
-            assert_eq!(rt;
-                found,
-                (i < j, i <= j, i == j, i != j, i > j, i >= j),
-                "{left} {right}"
-            );
+    for (place, text) in RISING.lines().enumerate() {
+        if !is_in_order(&read(text)?, place)? {
+            return Err(Fail::new(text));
         }
-        assert_eq!(rt; cmp_total(&x, &XFrac::NaN), Ordering::Less, "{left}");
-        assert!(rt; !compare(CompareOp::Lt, &x, &XFrac::NaN), "{left}");
-        assert!(rt; compare(CompareOp::Ne, &XFrac::NaN, &x), "{left}");
     }
     let nan = XFrac::NaN;
-    assert_eq!(rt; cmp_total(&nan, &nan), Ordering::Equal);
-    assert!(rt; !compare(CompareOp::Eq, &nan, &nan) && !compare(CompareOp::Ge, &nan, &nan));
+    assert!(rt;
+        cmp_total(&nan, &nan) == Ordering::Equal
+            && !compare(CompareOp::Eq, &nan, &nan)
+            && !compare(CompareOp::Ge, &nan, &nan)
+    );
     Ok(())
 }
 

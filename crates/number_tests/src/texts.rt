@@ -1,3 +1,4 @@
+use crate::fractions::{read, rows_hold};
 use frac_text::NumberRefusal::{BadNumber, LeadingZero, NumberRange};
 use frac_text::{
     NumberRefusal, TimeRefusal, durations_are_times, read_number, read_script_number, read_time,
@@ -6,7 +7,7 @@ use frac_text::{
 use std::alloc::{AllocError, Global};
 use std::test::Fail;
 use ticks::Ms;
-use xfrac::{XFrac, of};
+use xfrac::XFrac;
 
 // Each line is a text and the spelling of its value or the name of its refusal, found by exact fractions in Python.
 const LITERALS: &str = "0 0
@@ -195,72 +196,75 @@ fn answer_text(alloc: Global, answer: Result<XFrac, NumberRefusal>) -> Result<Ve
     }
 }
 
+fn literal_holds(alloc: Global, row: &str) -> Result<bool, Fail> {
+    let (text, wanted) = row.split_once(' ').ok_or("a row without a blank")?;
+    let answer = answer_text(alloc, read_number(text))?;
+    Ok(answer.as_slice() == wanted.as_bytes())
+}
+
+fn script_number_holds(alloc: Global, row: &str) -> Result<bool, Fail> {
+    let (text, wanted) = row.split_once(' ').ok_or("a row without a blank")?;
+    let answer = answer_text(alloc, read_script_number(text))?;
+    Ok(answer.as_slice() == wanted.as_bytes())
+}
+
 #[test]
 fn texts_have_their_values(rt: HostRuntime) -> Result<(), Fail> {
-    assert_eq!(rt; read_number(""), Err(BadNumber));
-    assert_eq!(rt; read_script_number(""), Err(BadNumber));
-    for line in LITERALS.lines() {
-        let (text, wanted) = line.split_once(' ').ok_or("a row without a blank")?;
-        let answer = answer_text(rt.alloc(), read_number(text))?;
-        assert_eq!(rt; answer.as_slice(), wanted.as_bytes(), "{text}");
+    let alloc = rt.alloc();
+    assert!(rt; read_number("") == Err(BadNumber) && read_script_number("") == Err(BadNumber));
+    rows_hold(LITERALS, 89, |row| literal_holds(alloc, row))?;
+    rows_hold(SCRIPT_NUMBERS, 44, |row| {
+        script_number_holds(alloc, row)
+    })
+}
+
+fn time_text(alloc: Global, time: Result<Ms, TimeRefusal>) -> Result<String, AllocError> {
+    match time {
+        Ok(Ms(milliseconds)) => format!(in alloc; "{milliseconds}"),
+        Err(TimeRefusal::BadTime) => String::from_str(alloc, "BadTime"),
+        Err(TimeRefusal::OutOfRange) => String::from_str(alloc, "OutOfRange"),
     }
-    for line in SCRIPT_NUMBERS.lines() {
-        let (text, wanted) = line.split_once(' ').ok_or("a row without a blank")?;
-        let answer = answer_text(rt.alloc(), read_script_number(text))?;
-        assert_eq!(rt; answer.as_slice(), wanted.as_bytes(), "{text}");
-    }
-    Ok(())
+}
+
+fn time_holds(alloc: Global, row: &str) -> Result<bool, Fail> {
+    let (text, wanted) = row.split_once(' ').ok_or("a row without a blank")?;
+    let answer = time_text(alloc, read_time(text))?;
+    Ok(answer.as_str() == wanted)
 }
 
 #[test]
 fn times_are_read(rt: HostRuntime) -> Result<(), Fail> {
     times_are_told();
     durations_are_times();
-    assert_eq!(rt; read_time(""), Err(TimeRefusal::BadTime));
-    for line in TIMES.lines() {
-        let (text, wanted) = line.split_once(' ').ok_or("a row without a blank")?;
-        let answer = match read_time(text) {
-            Ok(Ms(milliseconds)) => format!(in rt.alloc(); "{milliseconds}")?,
-            Err(TimeRefusal::BadTime) => String::from_str(rt.alloc(), "BadTime")?,
-            Err(TimeRefusal::OutOfRange) => String::from_str(rt.alloc(), "OutOfRange")?,
-        };
-        assert_eq!(rt; answer.as_str(), wanted, "{text}");
-    }
-    Ok(())
+    let alloc = rt.alloc();
+    assert!(rt; read_time("") == Err(TimeRefusal::BadTime));
+    rows_hold(TIMES, 37, |row| time_holds(alloc, row))
+}
+
+// Each line is a number, and its spelling behind what stands before it.
+const SPELLINGS: &str = "0/1 =0
+1/3 =1/3
+-3/1 =-3
+1/2 =0.5
+-1/2 =-0.5
+-22/7 =-22/7
+1000000000000000000000000000000/1 =1000000000000000000000000000000
+1/1000000000000000000000000000000 =0.000000000000000000000000000001
+1/633825300114114700748351602688 =0.000000000000000000000000000001577721810442023610823457130565572459346412870218046009540557861328125
+inf =+Inf
+-inf =-Inf
+nan =NaN";
+
+fn spelling_holds(alloc: Global, row: &str) -> Result<bool, Fail> {
+    let (number, wanted) = row.split_once(' ').ok_or("a row without a blank")?;
+    let mut text = Vec::from_slice(alloc, b"=")?;
+    write_number(&read(number)?, &mut text)?;
+    Ok(text.as_slice() == wanted.as_bytes())
 }
 
 #[test]
 fn numbers_have_one_spelling(rt: HostRuntime) -> Result<(), Fail> {
     spellings_are_numbers();
-    let most = 1_000_000_000_000_000_000_000_000_000_000;
-    let rows = [
-        (0, 1, "=0"),
-        (1, 3, "=1/3"),
-        (-3, 1, "=-3"),
-        (1, 2, "=0.5"),
-        (-1, 2, "=-0.5"),
-        (-22, 7, "=-22/7"),
-        (most, 1, "=1000000000000000000000000000000"),
-        (1, most, "=0.000000000000000000000000000001"),
-        (
-            1,
-            1 << 99,
-            "=0.000000000000000000000000000001577721810442023610823457130565572459346412870218046009540557861328125",
-        ),
-    ];
-    for (n, d, wanted) in rows {
-        let mut text = Vec::from_slice(rt.alloc(), b"=")?;
-        write_number(&of(n, d)?, &mut text)?;
-        assert_eq!(rt; text.as_slice(), wanted.as_bytes(), "{wanted}");
-    }
-    for (value, wanted) in [
-        (XFrac::PosInf, "+Inf"),
-        (XFrac::NegInf, "-Inf"),
-        (XFrac::NaN, "NaN"),
-    ] {
-        let mut text = Vec::new(rt.alloc());
-        write_number(&value, &mut text)?;
-        assert_eq!(rt; text.as_slice(), wanted.as_bytes(), "{wanted}");
-    }
-    Ok(())
+    let alloc = rt.alloc();
+    rows_hold(SPELLINGS, 12, |row| spelling_holds(alloc, row))
 }

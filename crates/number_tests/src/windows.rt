@@ -4,7 +4,7 @@ ghost use Rattle.std.specs.List.{All};
 ghost use Rattle.ticks.specs.Walks.{IsTime};
 ghost use Rattle.window_fn.specs.Windows.{IsFrame, IsInFrame};
 
-use crate::fractions::read;
+use crate::fractions::{field, read, rows_hold};
 use func_table::{Found, Func, Window, find};
 use std::alloc::Global;
 use std::test::Fail;
@@ -240,13 +240,11 @@ fn function(name: &str) -> Result<Window, Fail> {
 }
 
 fn answer(text: &str) -> Result<Result<Option<XFrac>, WindowFault>, Fail> {
-    if text == "overflow" {
-        return Ok(Err(WindowFault::Overflow));
+    match text {
+        "overflow" => Ok(Err(WindowFault::Overflow)),
+        "none" => Ok(Ok(None)),
+        _ => Ok(Ok(Some(read(text)?))),
     }
-    if text == "none" {
-        return Ok(Ok(None));
-    }
-    Ok(Ok(Some(read(text)?)))
 }
 
 fn is_time(t: &Ms) -> bool
@@ -283,8 +281,8 @@ fn are_in(times: &[Ms], frame: &WindowFrame) -> bool
     true
 }
 
-fn milliseconds(word: Option<&str>) -> Result<Ms, Fail> {
-    let n: i64 = word.ok_or("no number")?.parse()?;
+fn milliseconds(word: &str) -> Result<Ms, Fail> {
+    let n: i64 = word.parse()?;
     Ok(Ms(n))
 }
 
@@ -310,38 +308,48 @@ fn answered(
     Ok(found)
 }
 
+fn frame_of(call: &str) -> Result<WindowFrame, Fail> {
+    let range = milliseconds(field(call, 1)?)?;
+    let moment = milliseconds(field(call, 2)?)?;
+    let eval = milliseconds(field(call, 3)?)?;
+    Ok(WindowFrame {
+        eval,
+        moment,
+        range,
+    })
+}
+
+fn times_of(alloc: Global, call: &str) -> Result<Vec<Ms>, Fail> {
+    let mut times = Vec::new(alloc);
+    for sample in call.split(' ').skip(5) {
+        let (time, _) = sample.split_once(':').ok_or("no sample")?;
+        times.push(milliseconds(time)?)?;
+    }
+    Ok(times)
+}
+
+fn values_of(alloc: Global, call: &str) -> Result<Vec<XFrac>, Fail> {
+    let mut values = Vec::new(alloc);
+    for sample in call.split(' ').skip(5) {
+        let (_, value) = sample.split_once(':').ok_or("no sample")?;
+        values.push(read(value)?)?;
+    }
+    Ok(values)
+}
+
+fn call_holds(alloc: Global, row: &str) -> Result<bool, Fail> {
+    let (call, wanted) = row.split_once(" => ").ok_or("no answer")?;
+    let f = function(field(call, 0)?)?;
+    let frame = frame_of(call)?;
+    let arg = read(field(call, 4)?)?;
+    let times = times_of(alloc, call)?;
+    let values = values_of(alloc, call)?;
+    let found = answered(alloc, f, times.as_slice(), values.as_slice(), &frame, &arg)?;
+    Ok(found == answer(wanted)?)
+}
+
 #[test]
 fn windows(rt: HostRuntime) -> Result<(), Fail> {
-    for line in CALLS.lines() {
-        let (call, wanted) = line.split_once(" => ").ok_or("no answer")?;
-        let mut words = call.split(' ');
-        let f = function(words.next().ok_or("no function")?)?;
-        let range = milliseconds(words.next())?;
-        let moment = milliseconds(words.next())?;
-        let eval = milliseconds(words.next())?;
-        let frame = WindowFrame {
-            eval,
-            moment,
-            range,
-        };
-        let arg = read(words.next().ok_or("no parameter")?)?;
-        let mut times = Vec::new(rt.alloc());
-        let mut values = Vec::new(rt.alloc());
-        for word in words {
-            let (time, value) = word.split_once(':').ok_or("no sample")?;
-            times.push(milliseconds(Some(time))?)?;
-            values.push(read(value)?)?;
-        }
-        let found = answered(
-            rt.alloc(),
-            f,
-            times.as_slice(),
-            values.as_slice(),
-            &frame,
-            &arg,
-        )?;
-        assert_eq!(rt; found, answer(wanted)?, "{line}");
-    }
-    assert_eq!(rt; CALLS.lines().count(), 216);
-    Ok(())
+    let alloc = rt.alloc();
+    rows_hold(CALLS, 216, |row| call_holds(alloc, row))
 }

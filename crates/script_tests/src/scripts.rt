@@ -1,3 +1,4 @@
+use crate::rows::rows_hold;
 use frac_text::write_number;
 use label_set::Items;
 use match_rule::{PatternRoom, Patterns};
@@ -8,8 +9,7 @@ use ticks::Ms;
 
 /// What scripts say that no report shows. Each row is that, as `push_command` writes it, or a refusal, and behind a `§` the script,
 /// with `¶` for a line feed, `→` for a tab and `⏎` for a carriage return.
-const SAID: &str = r##"
-clear;§  clear →⏎
+const SAID: &str = r##"clear;§  clear →⏎
 load 60000 of 0;§→load  → 1m →
 load 1500 of 0;§load 1.5
 load 300000 of 2;§load 5m⏎¶  x 1⏎¶→y 2⏎¶⏎¶
@@ -189,19 +189,17 @@ fn unmarked(alloc: Global, text: &str) -> Result<String, AllocError> {
     tabs.as_str().replace(alloc, "⏎", "\r")
 }
 
+/// Whether a script says what its row tells.
+fn is_said(alloc: Global, row: &str) -> Result<bool, Fail> {
+    let (wanted, text) = row.split_once("§").ok_or("no script")?;
+    let text = unmarked(alloc, text)?;
+    let got = told(alloc, text.as_str().as_bytes())?;
+    Ok(got.as_slice() == wanted.as_bytes())
+}
+
 #[test]
 fn scripts_say(rt: HostRuntime) -> Result<(), Fail> {
-    let mut rows = 0u32;
-    for row in SAID.lines() {
-        if let Some((wanted, text)) = row.split_once("§") {
-            let text = unmarked(rt.alloc(), text)?;
-            let got = told(rt.alloc(), text.as_bytes())?;
-            assert_eq!(rt; got.as_slice(), wanted.as_bytes(), "{row}");
-            rows = rows.saturating_add(1);
-        }
-    }
-    assert_eq!(rt; rows, 44);
-    Ok(())
+    rows_hold(rt.alloc(), SAID, 44, is_said)
 }
 
 /// What a text of so many equal bytes behind a front says.

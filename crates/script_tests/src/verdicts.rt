@@ -2,6 +2,7 @@
 ghost use Rattle.script_check.specs.Verdicts.{HasPatterns, KeepsPatterns, PatternList};
 ghost use Rattle.std.specs.Prelude.{IfOk};
 
+use crate::rows::rows_hold;
 use frac_text::write_number;
 use label_set::{Items, Labels};
 use match_rule::{PatternRoom, Patterns};
@@ -19,8 +20,7 @@ use xfrac::{XFrac, whole};
 /// Outcomes that no small script has. A verdict, then `i` for an instant at 1 s or `r` for a range from 0 to 2 s and the lines
 /// behind the evaluation, and then the outcome: `vector` or `scalar`, and its series by their values from 0, or at the instant; or
 /// a failure. A line feed is written `¶`.
-const JUDGED: &str = r##"
-pass§r¶expect fail§rows
+const JUDGED: &str = r##"pass§r¶expect fail§rows
 pass§r¶expect fail msg: too many rows§rows
 expected a failure§r¶expect fail regex: .*§scalar¶{} 1
 unexpected too many rows§r§rows
@@ -205,19 +205,17 @@ fn judged(alloc: Global, lines: &str, got: &str) -> Result<Vec<u8>, Fail> {
     Ok(verdict_text(alloc, &verdict, &got)?)
 }
 
+/// Whether a row's verdict is the one that it tells.
+fn is_judged(alloc: Global, row: &str) -> Result<bool, Fail> {
+    let (wanted, row) = row.split_once("§").ok_or("no lines")?;
+    let (lines, got) = row.split_once("§").ok_or("no outcome")?;
+    let verdict = judged(alloc, lines, got)?;
+    Ok(verdict.as_slice() == wanted.as_bytes())
+}
+
 #[test]
 fn verdicts_are_those_of_the_rules(rt: HostRuntime) -> Result<(), Fail> {
-    let mut count = 0u32;
-    for row in JUDGED.lines() {
-        if let Some((wanted, row)) = row.split_once("§") {
-            let (lines, got) = row.split_once("§").ok_or("no outcome")?;
-            let verdict = judged(rt.alloc(), lines, got)?;
-            assert_eq!(rt; verdict.as_slice(), wanted.as_bytes(), "{row}");
-            count = count.saturating_add(1);
-        }
-    }
-    assert_eq!(rt; count, 21);
-    Ok(())
+    rows_hold(rt.alloc(), JUDGED, 21, is_judged)
 }
 
 fn numbered_labels(alloc: Global, k: u32) -> Result<Labels, Fail> {
@@ -245,31 +243,35 @@ fn shuffled(alloc: Global, count: u32, stride: u32) -> Result<Items<ResultSeries
     Ok(all)
 }
 
-#[test]
-fn judges_40000_series(rt: HostRuntime) -> Result<(), Fail> {
-    let alloc = rt.alloc();
-    let expected = Expectations {
+/// What expects so many series, and nothing else.
+fn expecting(alloc: Global, count: u32) -> Result<Expectations, Fail> {
+    Ok(Expectations {
         fail: Items::new(alloc),
         warn: Items::new(alloc),
         no_warn: false,
         info: Items::new(alloc),
         no_info: false,
         ordered: false,
-        result: Expected::Rows(shuffled(alloc, 40_000, 1)?),
-    };
-    let got = Outcome::Answer(Answer {
+        result: Expected::Rows(shuffled(alloc, count, 1)?),
+    })
+}
+
+/// An answer of so many series in another order.
+fn answering(alloc: Global, count: u32) -> Result<Outcome, Fail> {
+    Ok(Outcome::Answer(Answer {
         scalar: false,
-        series: shuffled(alloc, 40_000, 17_389)?,
+        series: shuffled(alloc, count, 17_389)?,
         notes: Items::new(alloc),
-    });
-    let mut room = PatternRoom::new(alloc)?;
-    let verdict = judge(
-        alloc,
-        &expected,
-        true,
-        &got,
-        &mut Patterns::new(alloc, &mut room),
-    )?;
+    }))
+}
+
+#[test]
+fn judges_40000_series(rt: HostRuntime) -> Result<(), Fail> {
+    let expected = expecting(rt.alloc(), 40_000)?;
+    let got = answering(rt.alloc(), 40_000)?;
+    let mut room = PatternRoom::new(rt.alloc())?;
+    let mut searches = Patterns::new(rt.alloc(), &mut room);
+    let verdict = judge(rt.alloc(), &expected, true, &got, &mut searches)?;
     assert_eq!(rt; verdict, Verdict::Pass);
     Ok(())
 }

@@ -8,8 +8,6 @@ mod outside;
 #[cfg(test)]
 mod patterns;
 #[cfg(test)]
-mod places;
-#[cfg(test)]
 mod rows;
 #[cfg(test)]
-mod samples;
+mod stores;

@@ -1,3 +1,4 @@
+use crate::rows::{field, rows_hold};
 use edge_io::{
     Fetch, Fetched, Library, MemLibrary, MemSink, Sink, SinkFail, StdLibrary, StdSink, write_all,
 };
@@ -9,7 +10,7 @@ use std::io::ErrorKind;
 use std::rt::Clock;
 use std::test::Fail;
 use std::time::Duration;
-use std::{fs, io};
+use std::{fs, io, str};
 
 fn numbers(alloc: Global, listed: &[u32]) -> Result<Items<u32>, AllocError> {
     let mut items = Items::new(alloc);
@@ -78,36 +79,98 @@ impl Clock for NarrowOutput {
     }
 }
 
-#[test]
-fn memory_serves(rt: HostRuntime) -> Result<(), Fail> {
-    let alloc = rt.alloc();
+// Each line is a path, a limit in bytes, and what is fetched. A library in memory gives a file once.
+const IN_MEMORY: &str = "b.test 6=whole second
+b.test 6=failed 
+c.test 6=failed 
+b.test 5=past 
+a.test 5=whole first
+a.test 5=failed 
+a.test 4=past ";
+
+// The same of real files, of which one is there.
+const IN_THE_SYSTEM: &str = "kept.test 8=whole load 1m;
+kept.test 7=past 
+absent.test 8=failed 
+. 8=failed 
+- 8=failed ";
+
+// Each line is how many writes would block, the bytes of a write, the write that fails or 0, and then the answer, the writes, and
+// what was taken.
+const WRITES: &str = "0 7 0=taken 3 passed 1 failed 0
+0 18 0=taken 1 passed 1 failed 0
+0 7 3=failed 3 passed 1 faile
+0 7 1=failed 1 
+0 0 0=failed 1 
+3 18 0=taken 4 passed 1 failed 0
+3 18 4=failed 4 ";
+
+/// The whole number at a place among words, else 0.
+fn number(words: &str, place: usize) -> u32 {
+    field(words, ' ', place).parse::<u32>().unwrap_or(0)
+}
+
+fn word(answer: Result<Fetched, Fetch>) -> &'static str {
+    match answer {
+        Ok(Fetched::Whole) => "whole",
+        Ok(Fetched::PastLimit) => "past",
+        Err(Fetch::Failed) => "failed",
+        Err(Fetch::Memory) => "memory",
+    }
+}
+
+/// What is fetched: a word on it, and the text, in which a line's end is told as `;`.
+fn fetched<L: Library>(alloc: Global, library: &mut L, call: &str) -> Result<String, Fail> {
+    let mut into = Vec::new(alloc);
+    let limit = number(call, 1) as usize;
+    let answer = word(library.fetch(field(call, ' ', 0), limit, &mut into));
+    let text = str::from_utf8(into.as_slice()).unwrap_or("no text");
+    let ended = text.strip_suffix('\n');
+    let shown = ended.unwrap_or(text);
+    let end = if ended.is_some() { ";" } else { "" };
+    Ok(format!(in alloc; "{answer} {shown}{end}")?)
+}
+
+/// Fetches by the lines of a table, and fails with the first line of another answer.
+fn fetches_hold<L: Library>(alloc: Global, library: &mut L, lines: &str) -> Result<(), Fail> {
+    for line in lines.split('\n') {
+        let got = fetched(alloc, library, field(line, '=', 0))?;
+        if got.as_str() != field(line, '=', 1) {
+            return Err(Fail::new(line));
+        }
+    }
+    Ok(())
+}
+
+/// A library of two files, the first fetched by its first two bytes and the other whole.
+fn library(alloc: Global) -> Result<MemLibrary, AllocError> {
     let mut paths = Items::new(alloc);
     paths.push(Text::of(alloc, "a.test")?)?;
     paths.push(Text::of(alloc, "b.test")?)?;
     let mut bytes = Items::new(alloc);
     bytes.push(held(alloc, b"first")?)?;
     bytes.push(held(alloc, b"second")?)?;
-    let mut library = MemLibrary::of(paths, bytes, numbers(alloc, &[2, 6])?);
-    let rows = [
-        ("b.test", 6, Ok(Fetched::Whole), "second"),
-        ("b.test", 6, Err(Fetch::Failed), ""),
-        ("c.test", 6, Err(Fetch::Failed), ""),
-        ("b.test", 5, Ok(Fetched::PastLimit), ""),
-        ("a.test", 5, Ok(Fetched::Whole), "first"),
-        ("a.test", 5, Err(Fetch::Failed), ""),
-        ("a.test", 4, Ok(Fetched::PastLimit), ""),
-    ];
-    for (path, limit, answer, text) in rows {
-        let mut into = Vec::new(alloc);
-        assert_eq!(rt;
-            library.fetch(path, limit, &mut into),
-            answer,
-            "{path} up to {limit}"
-        );
-        assert_eq!(rt; into.as_slice(), text.as_bytes(), "{path} up to {limit}");
-    }
+    Ok(MemLibrary::of(paths, bytes, numbers(alloc, &[2, 6])?))
+}
 
-    let mut sink = MemSink::of(alloc, numbers(alloc, &[2])?);
+#[test]
+fn memory_is_fetched(rt: HostRuntime) -> Result<(), Fail> {
+    let mut library = library(rt.alloc())?;
+    fetches_hold(rt.alloc(), &mut library, IN_MEMORY)
+}
+
+#[test]
+fn files_are_fetched(rt: HostRuntime) -> Result<(), Fail> {
+    fs::write(&rt, "kept.test", "load 1m\n")?;
+    let mut library = StdLibrary::new(&rt);
+    fetches_hold(rt.alloc(), &mut library, IN_THE_SYSTEM)?;
+    fs::remove_file(&rt, "kept.test")?;
+    Ok(())
+}
+
+#[test]
+fn memory_is_written(rt: HostRuntime) -> Result<(), Fail> {
+    let mut sink = MemSink::of(rt.alloc(), numbers(rt.alloc(), &[2])?);
     assert_eq!(rt; sink.write(b"one "), Ok(4));
     assert_eq!(rt; sink.write(b"two "), Err(SinkFail::Failed));
     assert_eq!(rt; write_all(&mut sink, b"three"), Ok(()));
@@ -117,63 +180,42 @@ fn memory_serves(rt: HostRuntime) -> Result<(), Fail> {
 }
 
 #[test]
-fn the_system_serves(rt: HostRuntime) -> Result<(), Fail> {
-    fs::write(&rt, "kept.test", "load 1m\n")?;
-    let mut library = StdLibrary::new(&rt);
-    let rows = [
-        ("kept.test", 8, Ok(Fetched::Whole), "load 1m\n"),
-        ("kept.test", 7, Ok(Fetched::PastLimit), ""),
-        ("absent.test", 8, Err(Fetch::Failed), ""),
-        (".", 8, Err(Fetch::Failed), ""),
-        ("-", 8, Err(Fetch::Failed), ""),
-    ];
-    for (path, limit, answer, text) in rows {
-        let mut into = Vec::new(rt.alloc());
-        assert_eq!(rt;
-            library.fetch(path, limit, &mut into),
-            answer,
-            "{path} up to {limit}"
-        );
-        assert_eq!(rt; into.as_slice(), text.as_bytes(), "{path} up to {limit}");
-    }
-    fs::remove_file(&rt, "kept.test")?;
+fn the_output_is_written(rt: HostRuntime) -> Result<(), Fail> {
     let mut sink = StdSink::new(&rt);
     assert_eq!(rt; write_all(&mut sink, b"passed 1 failed 0\n"), Ok(()));
     Ok(())
 }
 
+/// An output by the words of a line, which has taken nothing yet.
+fn output(alloc: Global, words: &str) -> NarrowOutput {
+    NarrowOutput {
+        blocks: number(words, 0),
+        most: number(words, 1) as usize,
+        fails: number(words, 2),
+        writes: Cell::new(0),
+        taken: RefCell::new(Vec::new(alloc)),
+    }
+}
+
+/// What a write to an output comes to: a word on it, the writes, and what was taken.
+fn is_written(alloc: Global, row: &str) -> Result<bool, Fail> {
+    let output = output(alloc, field(row, '=', 0));
+    let answer = match write_all(&mut StdSink::new(&output), b"passed 1 failed 0\n") {
+        Ok(()) => "taken",
+        Err(SinkFail::Failed) => "failed",
+        Err(SinkFail::Memory) => "memory",
+    };
+    let writes = output.writes.get();
+    let Ok(taken) = output.taken.try_borrow() else {
+        return Ok(false);
+    };
+    let text = str::from_utf8(taken.as_slice()).unwrap_or("no text");
+    let shown = text.strip_suffix('\n').unwrap_or(text);
+    let got = format!(in alloc; "{answer} {writes} {shown}")?;
+    Ok(got.as_str() == field(row, '=', 1))
+}
+
 #[test]
 fn a_write_is_taken_in_parts(rt: HostRuntime) -> Result<(), Fail> {
-    let rows = [
-        // the writes that would block, the bytes of a write, the write that fails, the answer, what was taken, and the writes
-        (0, 7, 0, Ok(()), "passed 1 failed 0\n", 3),
-        (0, 18, 0, Ok(()), "passed 1 failed 0\n", 1),
-        (0, 7, 3, Err(SinkFail::Failed), "passed 1 faile", 3),
-        (0, 7, 1, Err(SinkFail::Failed), "", 1),
-        (0, 0, 0, Err(SinkFail::Failed), "", 1),
-        (3, 18, 0, Ok(()), "passed 1 failed 0\n", 4),
-        (3, 18, 4, Err(SinkFail::Failed), "", 4),
-    ];
-    for (blocks, most, fails, answer, text, writes) in rows {
-        let output = NarrowOutput {
-            blocks,
-            most,
-            fails,
-            writes: Cell::new(0),
-            taken: RefCell::new(Vec::new(rt.alloc())),
-        };
-        let mut sink = StdSink::new(&output);
-        assert_eq!(rt;
-            write_all(&mut sink, b"passed 1 failed 0\n"),
-            answer,
-            "{blocks} {most} {fails}"
-        );
-        assert_eq!(rt; output.writes.get(), writes, "{blocks} {most} {fails}");
-        if let Ok(taken) = output.taken.try_borrow() {
-            assert_eq!(rt; taken.as_slice(), text.as_bytes(), "{most} {fails}");
-        } else {
-            assert!(rt; false, "the bytes are lent out");
-        }
-    }
-    Ok(())
+    rows_hold(rt.alloc(), WRITES, '\n', is_written)
 }
