@@ -2,6 +2,7 @@ pub mod Costs
 pub mod Fills
 pub mod Instants
 pub mod Lists
+pub mod PlacesMade
 pub mod Scalars
 pub mod Stages
 pub mod WindowRowsMade

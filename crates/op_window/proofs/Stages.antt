@@ -6,12 +6,6 @@ use Rattle.promql_meaning.specs.Givens.{no_marks}
 use Rattle.sample_store.specs.Samples.{AllSeries}
 use Rattle.step_batch.specs.Lent.{Lent, stages}
 use Rattle.step_batch.specs.LentWindows.{WindowsAt}
-use Rattle.std.specs.List.Sorted.{IsStrictlySortedBy}
-use Rattle.step_table.specs.Laws.{SettledIsWellFormed}
-use Rattle.step_table.specs.Outcomes.{settled, taken}
-use Rattle.step_table.specs.WellFormed.{AreSets, IsTable}
-use Rattle.step_table.specs.declared.marks.Marks.{Marks}
-use Rattle.step_table.specs.declared.outcomes.Outcome.{Outcome}
 use Rattle.step_table.specs.Timed.{StepAt}
 use Rattle.step_table.specs.declared.step.Step.{Step}
 use Rattle.ticks.specs.declared.moment.Ms.{Ms}
@@ -82,16 +76,3 @@ series_next_at f f' store series series' moment moment' range range' at given i 
     (made ∙ ap (λ (z : StepAt). was ++ z ∷ [])
     (ap (λ (x : Window). series_made x store series' moment' range' t scalar) ef ∙ ap (λ (x : List ℕ). series_made f store x moment' range' t scalar) es
     ∙ ap (λ (x : WalkMoment). series_made f store series x range' t scalar) em ∙ ap (λ (x : Ms). series_made f store series moment x t scalar) er))
-
--- ---- tables
-
-pub no_rows : IsTable []
-unfolding IsStrictlySortedBy
-no_rows = tt
-
-no_sets : AreSets no_marks
-unfolding IsStrictlySortedBy
-no_sets = record { fatal = tt; notes = tt }
-
-pub settled_table : SettledIsWellFormed → (marks : Marks) (outcomes : List Outcome) → IsTable (settled (taken marks outcomes)).table.rows
-settled_table law marks outcomes = (law (record { table = (taken marks outcomes).table; marks = no_marks }) no_sets).rows

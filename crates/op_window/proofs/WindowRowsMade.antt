@@ -1,5 +1,5 @@
 -- The windows of series, what comes of them, and the scalar beside them.
-use Rattle.std.proofs.Common.{◌≡◌, ◌∙◌, ℕ, zero, suc, ◌+◌, ◌<◌, ◌≤◌, true, false, List, [], ◌∷◌, ◌++◌, length, map, take, get_or, Option, Some, None, refl, sym, ap, subst, arith, append-nil}
+use Rattle.std.proofs.Common.{◌≡◌, ◌∙◌, ℕ, zero, suc, ◌+◌, ◌<◌, true, false, List, [], ◌∷◌, ◌++◌, length, map, take, get_or, Option, Some, None, refl, sym, ap, subst, arith, append-nil}
 use Rattle.std.specs.Prelude.{Bool, ℤ, ◌-ℤ◌, ◌≤ℤ◌, ◌&&◌, int_le, slice_get, unwrap_or, if◌then◌else◌}
 use Rattle.std.specs.List.{All, AllByRecursion, cons_option, filter_map}
 use Rattle.std.specs.Option.{option_map, option_to_list}
@@ -30,7 +30,7 @@ use Rattle.xfrac.specs.declared.value.XFrac.{XFrac}
 use Rattle.step_batch.specs.Columns.{Columns, has_some}
 use Rattle.op_window.specs.declared.renew.SeriesWindow.{SeriesWindow}
 use Rattle.op_window.specs.Sliding.{Fresh, columns_of}
-use Rattle.op_window.proofs.Lists.{filter_both, filter_one, filtered_more, map_both}
+use Rattle.op_window.proofs.Lists.{filter_both, filter_one, filtered_more}
 use Rattle.op_window.specs.Rules.{note_in, notes_given, outcome_in, rows_of_series, windows_in}
 
 -- ---- the windows of series
@@ -146,12 +146,12 @@ rows_none R xs i h e = sym (filtered_more R xs i 0 h ∙ ap (λ (o : Option Wind
 pub rows_some : (R : ℕ → Option WindowRow) (xs : List ℕ) (i : ℕ) (w : WindowRow) → i < length xs → R (get_or xs i 0) ≡ Some w → filter_map R (take i xs) ++ w ∷ [] ≡ filter_map R (take (i + 1) xs)
 rows_some R xs i w h e = sym (filtered_more R xs i 0 h ∙ ap (λ (o : Option WindowRow). filter_map R (take i xs) ++ option_to_list o) e)
 
--- one window more
-pub outcomes_next : (f : Window) (frame : WindowFrame) (arg : XFrac) (rows more : List WindowRow) (w : WindowRow) (was now : List Outcome) → was ≡ map (outcome_in f frame arg) rows → now ≡ was ++ outcome_in f frame arg w ∷ [] → rows ++ w ∷ [] ≡ more
-    → now ≡ map (outcome_in f frame arg) more
-outcomes_next f frame arg rows more w was now h e r =
-    e ∙ ap (λ (os : List Outcome). os ++ outcome_in f frame arg w ∷ []) h ∙ sym (map_both (outcome_in f frame arg) rows (w ∷ [])) ∙ ap (map (outcome_in f frame arg)) r
+-- there are samples
+pub columns_some : (c : Columns) (K : Fresh) → c ≡ columns_of K → has_some c ≡ true → 0 < length c.values
+columns_some c [] e h = absurd (no_false (sym (ap has_some e) ∙ h))
+columns_some c (x ∷ K) e h = let n : length c.values ≡ suc (length (sample_values K)) = ap (λ (z : Columns). length z.values) e in omega arith
 
+-- one window more
 pub notes_next : (f : Window) (frame : WindowFrame) (arg : XFrac) (rows more : List WindowRow) (w : WindowRow) (was now : List Note) → was ≡ filter_map (note_in f frame arg) rows → now ≡ was ++ option_to_list (note_in f frame arg w) → rows ++ w ∷ [] ≡ more
     → now ≡ filter_map (note_in f frame arg) more
 notes_next f frame arg rows more w was now h e r =

@@ -1,8 +1,8 @@
 -- What a kernel may be fed, and how far it then is.
 use Rattle.std.specs.Prelude.{◌≡◌, ◌<ℤ◌, pos, List, [], ◌∷◌}
+use Rattle.op_window.specs.Kernels.{Kernel}
 use Rattle.op_window.specs.Rules.{AreFramed, AreTimes, HasScalars, frame_at}
 use Rattle.op_window.specs.Sliding.{walked_of}
-use Rattle.op_window.specs.declared.rows.WindowRows.{WindowRows}
 use Rattle.sample_store.specs.Samples.{AllSeries}
 use Rattle.series_marks.specs.Reaches.{AreThere, Follow, IsReached, reach_all}
 use Rattle.step_batch.specs.Lent.{Lent}
@@ -11,7 +11,7 @@ use Rattle.ticks.specs.Walks.{HasTimes, IsTime, moment_at}
 use Rattle.ticks.specs.declared.moment.Ms.{Ms}
 
 -- its series are in the store, with their samples as they were in each feed before; the instants rise, and the moments don't fall
-pub record CanFeedStore (kernel : WindowRows) (store : AllSeries) (at : List Ms) (arg : Lent) : Type 0 where
+pub record CanFeedStore (kernel : Kernel) (store : AllSeries) (at : List Ms) (arg : Lent) : Type 0 where
   pub there : AreThere store kernel.series
   pub walked : kernel.walked ≡ walked_of kernel.moment.closed kernel.range.0 kernel.reached store kernel.series
   pub range : pos 0 <ℤ kernel.range.0
@@ -22,13 +22,13 @@ pub record CanFeedStore (kernel : WindowRows) (store : AllSeries) (at : List Ms)
   pub scalars : HasScalars kernel.f at arg
 
 -- how far it is behind some instants
-pub record HasReached (old new : WindowRows) (store : AllSeries) (at : List Ms) : Type 0 where
+pub record HasReached (old new : Kernel) (store : AllSeries) (at : List Ms) : Type 0 where
   pub reached : new.reached ≡ reach_all old.range.0 old.reached old.moment at
   pub walked : new.walked ≡ walked_of old.moment.closed old.range.0 new.reached store old.series
   pub edge : IsReached old.moment.closed old.range.0 new.reached
 
 -- windows of the one instant, whose samples lie in the window that ends at its moment
-pub record CanFeedWindows (kernel : WindowRows) (windows : WindowsAt) (at : List Ms) (arg : Lent) : Type 0 where
+pub record CanFeedWindows (kernel : Kernel) (windows : WindowsAt) (at : List Ms) (arg : Lent) : Type 0 where
   pub instant : at ≡ windows.at ∷ []
   pub time : IsTime windows.at.0
   pub ends : HasTimes (moment_at kernel.moment windows.at.0) kernel.range.0

@@ -1,3 +1,4 @@
 pub mod Feeds
+pub mod Kernels
 pub mod Rules
 pub mod Sliding

@@ -1,9 +1,9 @@
 -- What a kernel of windows lends: at each instant the meaning's function of the windows there, and of a scalar that is fed beside
 -- them. (The rule is that of the meaning.)
-use Rattle.std.specs.Prelude.{◌≡◌, ◌≤◌, ℕ, Bool, true, false, List, [], ◌∷◌, length, Option, None, Some, if◌then◌else◌, ⊤}
+use Rattle.std.specs.Prelude.{◌≡◌, ◌≤◌, ℕ, Bool, true, false, List, [], ◌∷◌, length, map, Option, None, Some, if◌then◌else◌, ⊤}
 use Rattle.std.specs.List.{All, AllByRecursion}
 use Rattle.func_table.specs.declared.table.Window.{Window}
-use Rattle.func_table.specs.declared.table.Window.TheVariants.{PredictLinear, QuantileOver}
+use Rattle.func_table.specs.declared.table.Window.TheVariants.{LastOver, PredictLinear, QuantileOver}
 use Rattle.op_window.specs.declared.scalar.Scalar.{Scalar}
 use Rattle.promql_meaning.specs.Givens.{barren, by_value, no_marks, value_in}
 use Rattle.promql_meaning.specs.Meaning.{windowed_by, zero_number}
@@ -11,12 +11,17 @@ use Rattle.promql_meaning.specs.Outcomes.{range_notes_of}
 use Rattle.promql_meaning.specs.Ranges.{counter_note, window_outcome, windowed}
 use Rattle.promql_meaning.specs.Selecting.{window_rows}
 use Rattle.promql_meaning.specs.declared.given.Windows.{Windows}
-use Rattle.sample_store.specs.Samples.{AllSeries}
+use Rattle.sample_store.specs.Samples.{AllSeries, labels_at}
 use Rattle.series_marks.specs.Reaches.{moment_of, numbered}
 use Rattle.step_batch.specs.Lent.{Lent}
 use Rattle.step_batch.specs.LentWindows.{WindowsAt}
 use Rattle.step_batch.specs.declared.steps.PlacedStep.{PlacedStep}
 use Rattle.step_batch.specs.declared.steps.Slot.{Slot}
+use Rattle.step_put.specs.Placed.{outcomes_of}
+use Rattle.step_put.specs.declared.labels_left.Left.{Left}
+use Rattle.step_put.specs.declared.labels_left.Left.TheVariants as kind
+use Rattle.step_put.specs.declared.placed.PlacedOutcome.{PlacedOutcome}
+use Rattle.step_table.specs.Groups.{Names}
 use Rattle.step_table.specs.Timed.{StepAt, steps_over}
 use Rattle.step_table.specs.declared.marks.Marks.{Marks}
 use Rattle.step_table.specs.declared.marks.Note.{Note}
@@ -51,6 +56,13 @@ windows_of_series store series moment range t =
 -- windows that are lent
 abbrev pub windows_of_lent : WindowsAt → WalkMoment → Ms → Ms → Windows
 windows_of_lent lent moment range t = windows_in (frame_at moment range t) lent.rows lent.marks
+
+-- the labels of series, and of windows
+abbrev pub names_of : AllSeries → List ℕ → List Names
+names_of store series = map (labels_at store) series
+
+abbrev pub names_in : List WindowRow → List Names
+names_in rows = map (λ (row : WindowRow). row.labels) rows
 
 -- ---- the rule
 
@@ -111,8 +123,17 @@ outcome_in f frame arg row = window_outcome f frame.eval.0 arg (windows_in frame
 abbrev pub note_in : Window → WindowFrame → XFrac → WindowRow → Option Note
 note_in f frame arg row = counter_note f frame.eval.0 arg (windows_in frame [] no_marks) row
 
+-- what a function leaves of labels: all but last_over_time drop the metric's name
+abbrev pub left_for : Window → Left
+left_for LastOver = kind.All
+left_for _ = kind.Nameless
+
+-- what comes of windows by the places of their labels
+abbrev pub outcomes_given : Window → List Names → List PlacedOutcome → List Outcome
+outcomes_given f names placed = outcomes_of (left_for f) names placed
+
 -- the notes of what comes of windows
-abbrev pub notes_given : Window → XFrac → List Outcome → List Note → List Note
+abbrev pub notes_given : {A : Type 0} → Window → XFrac → List A → List Note → List Note
 notes_given QuantileOver arg outcomes notes = range_notes_of arg outcomes
 notes_given f arg outcomes notes = notes
 

@@ -7,16 +7,16 @@ ghost use Rattle.std.specs.List.{filter_map};
 ghost use Rattle.std.specs.Option.{option_to_list};
 ghost use Rattle.std.specs.Prelude.{◌≡◌, ◌+◌, ◌<◌, ◌≤◌, ◌∷◌, [], length, drop, IfOk, OnOk, OnErr};
 
+use op_running::RunningWindow;
 use sample_store::Store;
 use series_marks::{Mark, resumed, stands_at};
 use std::alloc::AllocError;
 use std::sync::ledger::Ledger;
-use step_batch::Slices;
 use ticks::{Ms, Work};
 use xfrac::Held;
 
 /// Puts a sample behind the others, unless it is a marker.
-fn put_fresh(slices: &mut Slices, time: Ms, held: Held) -> Result<(), AllocError>
+fn put_fresh(slices: &mut RunningWindow, time: Ms, held: Held) -> Result<(), AllocError>
     ensures { OnOk result (slices.new ≡ with_samples slices.old (filter_map fresh_sample ((time, held) ∷ []))) }
 {
     match held {
@@ -35,7 +35,7 @@ fn fill_on<W: Ledger>(
     place: u32,
     start: Option<(Ms, Held)>,
     m: Ms,
-    slices: &mut Slices,
+    slices: &mut RunningWindow,
     work: &mut Work<W>,
 ) -> Result<Mark, AllocError>
     requires there { s < length store.now }
@@ -92,7 +92,7 @@ pub(crate) fn fill<W: Ledger>(
     s: u32,
     mark: Mark,
     m: Ms,
-    slices: &mut Slices,
+    slices: &mut RunningWindow,
     work: &mut Work<W>,
 ) -> Result<Mark, AllocError>
     requires there { s < length store.now }

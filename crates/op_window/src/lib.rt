@@ -5,6 +5,7 @@
 mod fill;
 pub mod laws;
 mod made;
+mod named;
 mod renew;
 mod rows;
 mod scalar;

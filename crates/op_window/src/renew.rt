@@ -8,11 +8,12 @@ ghost use Rattle.std.specs.List.{filter_map};
 ghost use Rattle.std.specs.Prelude.{◌≡◌, ◌+◌, ◌<◌, ◌≤◌, ◌≤ℤ◌, [], None, Some, length, IfOk, OnOk, OnErr};
 
 use crate::fill::fill;
+use func_table::Window;
+use op_running::RunningWindow;
 use sample_store::Store;
 use series_marks::{Mark, place_behind};
 use std::alloc::{AllocError, Global};
 use std::sync::ledger::Ledger;
-use step_batch::Slices;
 use ticks::{Ms, Work};
 
 /// The window of an instant: it ends at its moment and has a length in milliseconds; whether its left edge is a part of it, and
@@ -29,11 +30,11 @@ pub(crate) struct Span {
 #[derive(Drop)]
 pub(crate) struct SeriesWindow {
     pub mark: Mark,
-    pub samples: Slices,
+    pub samples: RunningWindow,
 }
 
-/// A series before its first instant. It takes no memory.
-pub(crate) fn blank_window(alloc: Global) -> SeriesWindow
+/// A series before its first instant, for a function of its window. It takes no memory.
+pub(crate) fn blank_window(alloc: Global, f: Window) -> SeriesWindow
     ensures { (closed : _) (range : _) (samples : _) → result ≡ walked_at closed range None samples }
 {
     SeriesWindow {
@@ -42,7 +43,7 @@ pub(crate) fn blank_window(alloc: Global) -> SeriesWindow
             last: None,
             ahead: None,
         },
-        samples: Slices::new(alloc),
+        samples: RunningWindow::new(alloc, f),
     }
 }
 
@@ -52,7 +53,7 @@ fn begin<W: Ledger>(
     s: u32,
     edge: Ms,
     m: Ms,
-    slices: &mut Slices,
+    slices: &mut RunningWindow,
     work: &mut Work<W>,
 ) -> Result<Mark, AllocError>
     requires there { s < length store.now }
@@ -81,7 +82,7 @@ fn go_on<W: Ledger>(
     mark: Mark,
     reached: (Ms, Ms),
     m: Ms,
-    slices: &mut Slices,
+    slices: &mut RunningWindow,
     work: &mut Work<W>,
 ) -> Result<Mark, AllocError>
     requires there { s < length store.now }
@@ -106,7 +107,7 @@ fn renew<W: Ledger>(
     mark: Mark,
     reached: Option<(Ms, Ms)>,
     span: Span,
-    slices: &mut Slices,
+    slices: &mut RunningWindow,
     work: &mut Work<W>,
 ) -> Result<Mark, AllocError>
     requires there { s < length store.now }
@@ -126,11 +127,13 @@ fn renew<W: Ledger>(
         None => {
             let to = begin(store, s, span.edge, span.moment, slices, work)?;
             slices.forget(span.edge);
+            slices.settle()?;
             Ok(to)
         }
         Some(reached) => {
             let to = go_on(store, s, mark, reached, span.moment, slices, work)?;
             slices.forget(span.edge);
+            slices.settle()?;
             Ok(to)
         }
     }

@@ -1,7 +1,7 @@
 //! The kernel.
 ghost use Rattle.either.specs.Either.{MatchEither};
 ghost use Rattle.op_window.specs.Feeds.{CanFeedStore, CanFeedWindows, HasReached};
-ghost use Rattle.op_window.specs.Rules.{by_scalar, fed_by, frame_at, rows_of_series, windowed_at, windows_of_lent, windows_of_series};
+ghost use Rattle.op_window.specs.Rules.{by_scalar, fed_by, frame_at, names_of, rows_of_series, windowed_at, windows_of_lent, windows_of_series};
 ghost use Rattle.op_window.specs.Sliding.{span_at, walked_of};
 ghost use Rattle.series_marks.specs.Reaches.{AreThere, IsReached, IsSoon, reach, reach_all, reads_of, searches_of};
 ghost use Rattle.series_marks.specs.Reads.{AreRising};
@@ -9,9 +9,10 @@ ghost use Rattle.std.specs.Prelude.{◌≡◌, ◌+◌, ◌<ℤ◌, ◌≤◌, �
 ghost use Rattle.step_batch.specs.Lent.{IsLater, stages};
 ghost use Rattle.ticks.specs.Walks.{HasTimes, IsTime, moment_at};
 
+use crate::named::{labels_in, labels_of};
 use crate::renew::{SeriesWindow, Span};
 use crate::scalar::{Scalar, scalar_at};
-use crate::step::{step_of_lent, step_of_series};
+use crate::step::{left_for, put_lent, put_series};
 use crate::walked::{blank_windows, renew_all};
 use either::Either;
 use func_table::Window;
@@ -19,14 +20,16 @@ use holders::Items;
 use sample_store::Store;
 use series_marks::edge_since;
 use std::alloc::{AllocError, Global};
+use std::marker::Model;
 use std::sync::ledger::Ledger;
-use step_batch::{Batch, StepBuffer, Windows};
-use step_put::put_step;
+use step_batch::{Batch, Windows};
+use step_put::{OutcomeBuffer, PlacedOutcome};
 use ticks::{Ms, WalkMoment, Work, last_before};
 use window_fn::WindowFrame;
 
 /// A function of windows. Over the store its windows are those of series, in which it goes forward: what it has reached is the
-/// last time before the first instant's window, and the last moment.
+/// last time before the first instant's window, and the last moment. `placed` is what came of the windows of the last instant, whose
+/// memory is kept.
 #[derive(Drop)]
 pub struct WindowRows {
     alloc: Global,
@@ -36,7 +39,20 @@ pub struct WindowRows {
     range: Ms,
     walked: Items<SeriesWindow>,
     reached: Option<(Ms, Ms)>,
-    buffer: StepBuffer,
+    placed: Vec<PlacedOutcome>,
+    rows: OutcomeBuffer,
+}
+
+impl Model for WindowRows {
+    ghost use Rattle.op_window.specs.Kernels.{Kernel};
+    ghost use Rattle.op_window.specs.Rules.{left_for};
+    ghost use Rattle.std.specs.Prelude.{◌≡◌};
+
+    ghost Value = { Kernel };
+
+    ghost view = { λ k. record { series = k.series; f = k.f; moment = k.moment; range = k.range; walked = k.walked; reached = k.reached; named = k.rows.fed; buffer = k.rows.lent } };
+
+    ghost invariant = { λ k. k.rows.left ≡ left_for k.f };
 }
 
 /// The window of an instant.
@@ -83,7 +99,7 @@ impl WindowRows {
         ensures walked { IfOk result (λ k. (store : _) → k.walked ≡ walked_of moment.closed range.0 None store series) }
         ensures lent { IfOk result (λ k. stages k.buffer ≡ []) }
     {
-        let walked = blank_windows(alloc, series.as_slice())?;
+        let walked = blank_windows(alloc, f, series.as_slice())?;
         Ok(WindowRows {
             alloc,
             series,
@@ -92,7 +108,8 @@ impl WindowRows {
             range,
             walked,
             reached: None,
-            buffer: StepBuffer::new(alloc),
+            placed: Vec::new(alloc),
+            rows: OutcomeBuffer::new(alloc, left_for(f)),
         })
     }
 
@@ -100,7 +117,24 @@ impl WindowRows {
     pub fn lend(&self) -> Batch<'_>
         ensures { result ≡ self.now.buffer }
     {
-        self.buffer.lend()
+        self.rows.lend()
+    }
+
+    /// Takes all steps out, and names the series by their labels.
+    fn name_series(&mut self, store: &Store) -> Result<(), AllocError>
+        requires { AreThere store.now self.old.series }
+        ensures series { self.new.series ≡ self.old.series }
+        ensures f { self.new.f ≡ self.old.f }
+        ensures moment { self.new.moment ≡ self.old.moment }
+        ensures range { self.new.range ≡ self.old.range }
+        ensures walked { self.new.walked ≡ self.old.walked }
+        ensures reached { self.new.reached ≡ self.old.reached }
+        ensures named { OnOk result (self.new.named ≡ names_of store.now self.old.series) }
+        ensures steps { OnOk result (self.new.buffer.steps ≡ []) }
+    {
+        let labels = labels_of(self.alloc, store, self.series.as_slice())?;
+        self.rows.begin_feed(labels.as_slice())?;
+        Ok(())
     }
 
     /// The step of one more instant over the store.
@@ -113,6 +147,7 @@ impl WindowRows {
     ) -> Result<(), AllocError>
         requires there { AreThere store.now self.old.series }
         requires rises { AreRising store.now }
+        requires named { self.old.named ≡ names_of store.now self.old.series }
         requires walked { self.old.walked ≡ walked_of self.old.moment.closed self.old.range.0 self.old.reached store.now self.old.series }
         requires range { pos 0 <ℤ self.old.range.0 }
         requires reached { IsReached self.old.moment.closed self.old.range.0 self.old.reached }
@@ -123,6 +158,7 @@ impl WindowRows {
         ensures f { self.new.f ≡ self.old.f }
         ensures moment { self.new.moment ≡ self.old.moment }
         ensures range { self.new.range ≡ self.old.range }
+        ensures named { self.new.named ≡ self.old.named }
         ensures reached { OnOk result (self.new.reached ≡ reach self.old.range.0 self.old.reached self.old.moment t) }
         ensures edge { OnOk result (IsReached self.old.moment.closed self.old.range.0 self.new.reached) }
         ensures walked { OnOk result (self.new.walked ≡ walked_of self.old.moment.closed self.old.range.0 self.new.reached store.now self.old.series) }
@@ -137,6 +173,7 @@ impl WindowRows {
         let reached = self.reached;
         renew_all(
             self.alloc,
+            self.f,
             &mut self.walked,
             store,
             self.series.as_slice(),
@@ -144,7 +181,7 @@ impl WindowRows {
             span,
             work,
         )?;
-        let step = step_of_series(
+        put_series(
             self.alloc,
             self.f,
             &frame,
@@ -153,8 +190,9 @@ impl WindowRows {
             store,
             self.series.as_slice(),
             self.walked.as_slice(),
+            &mut self.placed,
+            &mut self.rows,
         )?;
-        put_step(self.alloc, &mut self.buffer, t, &step)?;
         self.reached = Some((edge_since(reached, span.edge), span.moment));
         Ok(())
     }
@@ -182,7 +220,7 @@ impl WindowRows {
         ensures tested { work.new.tested ≡ work.old.tested }
     {
         let _ = store.series();
-        self.buffer.begin_feed();
+        self.name_series(store)?;
         for i in 0..at.len() {
             let scalar = scalar_at(self.alloc, self.f, at, arg, i)?;
             self.step(store, at[i], scalar, work)?;
@@ -202,10 +240,18 @@ impl WindowRows {
     {
         let t = windows.at();
         let frame = frame_of(&self.moment, self.range, t);
-        self.buffer.begin_feed();
+        let labels = labels_in(self.alloc, windows)?;
+        self.rows.begin_feed(labels.as_slice())?;
         let scalar = scalar_at(self.alloc, self.f, &[t], arg, 0)?;
-        let step = step_of_lent(self.alloc, self.f, &frame, scalar, windows)?;
-        put_step(self.alloc, &mut self.buffer, t, &step)?;
+        put_lent(
+            self.alloc,
+            self.f,
+            &frame,
+            scalar,
+            windows,
+            &mut self.placed,
+            &mut self.rows,
+        )?;
         Ok(())
     }
 

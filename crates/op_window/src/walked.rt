@@ -5,6 +5,7 @@ ghost use Rattle.series_marks.specs.Reads.{AreRising, IsNoEarlier, edge_of};
 ghost use Rattle.std.specs.Prelude.{◌≡◌, ◌+◌, ◌≤◌, None, Some, IfOk, OnOk};
 
 use crate::renew::{SeriesWindow, Span, blank_window, renewed};
+use func_table::Window;
 use holders::Items;
 use sample_store::Store;
 use std::alloc::{AllocError, Global};
@@ -14,13 +15,14 @@ use ticks::{Ms, Work};
 /// Series before their first instant. The only error is want of memory.
 pub(crate) fn blank_windows(
     alloc: Global,
+    f: Window,
     series: &[u32],
 ) -> Result<Items<SeriesWindow>, AllocError>
     ensures { IfOk result (λ walked. (closed : _) (range : _) (store : _) → walked ≡ walked_of closed range None store series.now) }
 {
     let mut walked = Items::with_capacity(alloc, series.len())?;
     for _s in series {
-        walked.push(blank_window(alloc))?;
+        walked.push(blank_window(alloc, f))?;
     }
     Ok(walked)
 }
@@ -29,6 +31,7 @@ pub(crate) fn blank_windows(
 /// different instants.
 pub(crate) fn renew_all<W: Ledger>(
     alloc: Global,
+    f: Window,
     walked: &mut Items<SeriesWindow>,
     store: &Store,
     series: &[u32],
@@ -48,7 +51,7 @@ pub(crate) fn renew_all<W: Ledger>(
     ensures tested { work.new.tested ≡ work.old.tested }
 {
     for i in 0..series.len() {
-        let was = walked.replace(i, blank_window(alloc));
+        let was = walked.replace(i, blank_window(alloc, f));
         let now = renewed(store, series[i], was, reached, span, work)?;
         walked.replace(i, now);
     }

@@ -1,4 +1,4 @@
-use Rattle.std.proofs.Common.{◌≡◌, ◌∙◌, ◌+◌, ◌≤◌, ◌∷◌, length, drop, true, sym, ap, arith, rules}
+use Rattle.std.proofs.Common.{◌≡◌, ◌∙◌, ◌+◌, ◌∷◌, length, drop, true, sym, ap, arith, rules}
 use Rattle.std.specs.Prelude.{◌<ℤ◌, ◌≤ℤ◌}
 use Rattle.sample_store.specs.Samples.{Samples, samples_at}
 use Rattle.series_marks.specs.Passing.{after_goes, after_past, after_there, drop_next, drop_within, last_goes, rises_next}

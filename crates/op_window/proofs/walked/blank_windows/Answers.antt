@@ -1,4 +1,4 @@
-use Rattle.std.proofs.Common.{◌∙◌, ◌++◌, ◌∷◌, [], ◌+◌, None, ap, ℕ, get_or, map, take}
+use Rattle.std.proofs.Common.{◌∙◌, ◌++◌, ◌∷◌, [], None, ap, ℕ, get_or, map, take}
 use Rattle.std.specs.Prelude.{List}
 use Rattle.sample_store.specs.Samples.{samples_at}
 use Rattle.op_window.specs.Sliding.{walked_at}

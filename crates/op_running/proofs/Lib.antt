@@ -1,0 +1,6 @@
+pub mod Keeping
+pub mod LostSums
+pub mod Picks
+pub mod Sums
+pub mod Tails
+pub mod Tenths
