@@ -18,3 +18,8 @@ IsNearMoment moment = fixed_near moment.fixed
 abbrev pub RiseFrom : ℤ → List Ms → Type 0
 RiseFrom last [] = ⊤
 RiseFrom last (t ∷ at) = (last <ℤ t.0) × IsNear t.0 × RiseFrom t.0 at
+
+-- a time lies between two others, or is one of them
+pub record IsBetween (start end t : Ms) : Type 0 where
+  pub from_start : start.0 ≤ℤ t.0
+  pub to_end : t.0 ≤ℤ end.0

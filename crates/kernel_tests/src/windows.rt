@@ -46,7 +46,7 @@ sum_over_time 120000 - > x 60000 big big -1 > 0 60000 120000 180000 240000 > 0 :
 sum_over_time 120000 - > x 60000 5 > -1 0 119999 120000 > -1 - | 0 :5 | 119999 :5 | 120000 -";
 
 /// A function of windows, and its scalar, else 0.
-fn function(word: &str) -> Result<(Window, XFrac), Fail> {
+pub fn function(word: &str) -> Result<(Window, XFrac), Fail> {
     let (name, scalar) = word.split_once(':').unwrap_or((word, "0"));
     match find(name) {
         Found::Known(Func::Window(f)) => Ok((f, value(scalar)?)),
@@ -55,7 +55,7 @@ fn function(word: &str) -> Result<(Window, XFrac), Fail> {
 }
 
 /// The steps of a scalar at some instants, as far as they rise.
-fn scalar_steps(alloc: Global, at: &[Ms], scalar: &XFrac) -> Result<StepBuffer, AllocError> {
+pub fn scalar_steps(alloc: Global, at: &[Ms], scalar: &XFrac) -> Result<StepBuffer, AllocError> {
     let mut buffer = StepBuffer::new(alloc);
     for t in at {
         put_scalar(&mut buffer, &Labels::empty(alloc), *t, scalar)?;
@@ -81,7 +81,7 @@ fn put_scalar(
 }
 
 /// Whether a batch has steps at these instants, each with one row at most.
-fn are_scalars(at: &[Ms], arg: &Batch<'_>) -> bool
+pub fn are_scalars(at: &[Ms], arg: &Batch<'_>) -> bool
     ensures { IsTrue result → ScalarsAt at.now arg.now.steps }
 {
     if at.len() != arg.len() {
