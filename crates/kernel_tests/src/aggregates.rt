@@ -9,7 +9,8 @@ use step_table::Step;
 use ticks::Ms;
 
 // Each line is an aggregation with its grouping, steps that are fed, and steps that are lent.
-const LINES: &str = "sum by x > 10 a,x=1:1;a,x=2:2;b,x=1:3 | 20 - | 30 a,x=2:5 > 10 ,x=1:4;,x=2:2 | 20 - | 30 ,x=2:5
+const LINES: &str =
+    "sum by x > 10 a,x=1:1;a,x=2:2;b,x=1:3 | 20 - | 30 a,x=2:5 > 10 ,x=1:4;,x=2:2 | 20 - | 30 ,x=2:5
 sum by > 10 a:1;b:2 | 20 - | 30 b:1/2 > 10 :3 | 20 - | 30 :1/2
 sum by > 10 a:1/2;b:1/3;c:-1/6 | 20 a:2;b:-2 | 30 -!O > 10 :2/3 | 20 :0 | 30 -!O
 sum by > 10 a:big;b:-1 | 20 a:big;b:1!I | 30 a:1!O!S,x=1 > 10 -!O | 20 -!O!I | 30 :1!O!S,x=1
@@ -90,13 +91,7 @@ fn holds(alloc: Global, size: usize, line: &str) -> Result<bool, Fail> {
     let mut kernel = kernel(alloc, words.next().ok_or("no aggregation")?)?;
     let rows = steps(alloc, words.next().ok_or("no steps")?)?;
     let wanted = steps(alloc, words.next().ok_or("no lent steps")?)?;
-    are_fed(
-        alloc,
-        &mut kernel,
-        size,
-        rows.as_slice(),
-        wanted.as_slice(),
-    )
+    are_fed(alloc, &mut kernel, size, rows.as_slice(), wanted.as_slice())
 }
 
 /// The first line that doesn't hold in batches of so many steps.

@@ -26,7 +26,8 @@ use xfrac::XFrac;
 
 // Each line is a function with its scalar behind a colon, a range, a moment, windows with their samples' times and values, and the
 // step that is lent.
-const LINES: &str = "sum_over_time 120000 - > a,i=1 60000:1 120000:2; a,i=2 30000:5 > 120000 ,i=1:3;,i=2:5
+const LINES: &str =
+    "sum_over_time 120000 - > a,i=1 60000:1 120000:2; a,i=2 30000:5 > 120000 ,i=1:3;,i=2:5
 last_over_time 120000 - > a,i=1 60000:1 120000:2; b 1:7 > 120000 a,i=1:2;b:7
 max_over_time 60000 o60000 > a 0:4 60000:3 > 120000 :4
 min_over_time 60000 closed > a 60000:nan 90000:4 120000:3 > 120000 :3

@@ -1,17 +1,17 @@
 //! Where what is left of fed labels stands.
-ghost use Rattle.step_put.specs.Placed.{IsPlaced};
-
 use crate::batches::line_that_differs;
 use crate::written::labels;
 use label_set::{Items, Labels, Text};
 use std::alloc::Global;
+use std::marker::Model;
 use std::test::Fail;
 use step_batch::StepBuffer;
 use step_put::{Left, Placing};
 
 // Each line is what is left of labels, the labels of some feeds, and the place of what is left of each: feeds are parted by
 // ` | `, labels by semicolons and places by blanks, and `-` has none.
-const LINES: &str = "nameless > a,x=1;a,x=2;a,x=3 | a,x=1;a,x=9;a,x=3 | a,x=1;b,x=2;a,x=3 > 0 1 2 | 0 3 2 | 0 1 2
+const LINES: &str =
+    "nameless > a,x=1;a,x=2;a,x=3 | a,x=1;a,x=9;a,x=3 | a,x=1;b,x=2;a,x=3 > 0 1 2 | 0 3 2 | 0 1 2
 nameless > a,x=1;b,x=1;c,x=2 | c,x=2;b,x=1;a,x=3 > 0 0 1 | 1 0 2
 nameless > a,x=1;a,x=2;a,x=3;a,x=4 | a,x=1;a,x=2;a,x=3 | a,x=1 | a,x=1;a,x=4 > 0 1 2 3 | 0 1 2 | 0 | 0 1
 nameless > a,x=1;a,x=2;a,x=3 | a,x=3 | a,x=1 > 0 1 2 | 0 | 1
@@ -26,7 +26,16 @@ ignoring y > a,x=1,y=1;b,x=1,y=2;a,x=2 | a,x=2,y=1;b,y=2 > 0 0 1 | 1 2";
 struct Fed {
     placing: Placing,
     buffer: StepBuffer,
-    ghost named: { IsPlaced buffer placing },
+}
+
+impl Model for Fed {
+    ghost use Rattle.step_put.specs.Placed.{IsPlaced, Naming};
+
+    ghost Value = { Naming };
+
+    ghost view = { λ f. f.placing };
+
+    ghost invariant = { λ f. IsPlaced f.buffer f.placing };
 }
 
 fn signature(alloc: Global, on: bool, name: &str) -> Result<Left, Fail> {
@@ -99,6 +108,9 @@ fn holds(alloc: Global, line: &str) -> Result<bool, Fail> {
 #[test]
 fn places_are_kept_while_labels_are(rt: HostRuntime) -> Result<(), Fail> {
     let alloc = rt.alloc();
-    assert_eq!(rt; line_that_differs(LINES, |line| holds(alloc, line))?, "none");
+    assert_eq!(rt;
+        line_that_differs(LINES, |line| holds(alloc, line))?,
+        "none"
+    );
     Ok(())
 }
