@@ -14,8 +14,8 @@ const LINES: &str =
     "nameless > a,x=1;a,x=2;a,x=3 | a,x=1;a,x=9;a,x=3 | a,x=1;b,x=2;a,x=3 > 0 1 2 | 0 3 2 | 0 1 2
 nameless > a,x=1;b,x=1;c,x=2 | c,x=2;b,x=1;a,x=3 > 0 0 1 | 1 0 2
 nameless > a,x=1;a,x=2;a,x=3;a,x=4 | a,x=1;a,x=2;a,x=3 | a,x=1 | a,x=1;a,x=4 > 0 1 2 3 | 0 1 2 | 0 | 0 1
-nameless > a,x=1;a,x=2;a,x=3 | a,x=3 | a,x=1 > 0 1 2 | 0 | 1
-nameless > a,x=1 | - | a,x=2 > 0 | - | 0
+nameless > a,x=1;a,x=2;a,x=3 | a,x=3 | a,x=1 > 0 1 2 | 2 | 0
+nameless > a,x=1 | - | a,x=2 > 0 | - | 1
 all > a;b | c;d | e;f | g;h > 0 1 | 2 3 | 4 5 | 0 1
 all > a;a,x=1 | b;a,x=1 | a;a,x=1 > 0 1 | 2 1 | 0 1
 on x > a,x=1,y=1;a,x=1,y=2;b,x=2;c | c;b,x=2 > 0 0 1 2 | 2 1
