@@ -98,7 +98,7 @@ fn comparison(word: &str) -> Option<CompareOp> {
     }
 }
 
-fn operator(word: &str) -> Result<PairOp, Fail> {
+pub fn operator(word: &str) -> Result<PairOp, Fail> {
     if let Some(op) = arithmetic(word) {
         return Ok(PairOp::Arith(op));
     }

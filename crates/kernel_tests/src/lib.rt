@@ -10,6 +10,8 @@ mod conditions;
 #[cfg(test)]
 mod elements;
 #[cfg(test)]
+mod joins;
+#[cfg(test)]
 mod lent_windows;
 #[cfg(test)]
 mod places;

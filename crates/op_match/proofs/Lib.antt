@@ -1,0 +1,10 @@
+pub mod Clear
+pub mod Feeding
+pub mod Finding
+pub mod Keeping
+pub mod LastStep
+pub mod Lists
+pub mod Naming
+pub mod Numbers
+pub mod Rising
+pub mod Settling

@@ -1,0 +1,4 @@
+pub mod Apart
+pub mod Joins
+pub mod Noted
+pub mod Places
