@@ -244,7 +244,9 @@ fn shuffled(alloc: Global, count: u32, stride: u32) -> Result<Items<ResultSeries
 }
 
 /// What expects so many series, and nothing else.
-fn expecting(alloc: Global, count: u32) -> Result<Expectations, Fail> {
+fn expecting(alloc: Global, count: u32) -> Result<Expectations, Fail>
+    ensures { (kept : PatternList) → IfOk result (λ e. HasPatterns kept e) }
+{
     Ok(Expectations {
         fail: Items::new(alloc),
         warn: Items::new(alloc),
