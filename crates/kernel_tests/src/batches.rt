@@ -131,18 +131,3 @@ pub fn are_lent(lent: &Batch<'_>, wanted: &[(Ms, Step)]) -> bool {
     }
     lent.len() == wanted.len()
 }
-
-/// The first of the lines that doesn't hold.
-pub fn line_that_differs<F: FnMut(&'static str) -> Result<bool, Fail>>(
-    lines: &'static str,
-    mut holds: F,
-) -> Result<&'static str, Fail>
-    requires { F.IsAlwaysCallable holds }
-{
-    for line in lines.split('\n') {
-        if !holds(line)? {
-            return Ok(line);
-        }
-    }
-    Ok("none")
-}
