@@ -1,5 +1,6 @@
 pub mod Keeping
 pub mod Lone
 pub mod Making
+pub mod Owned
 pub mod Putting
 pub mod Sharing

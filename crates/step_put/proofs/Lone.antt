@@ -1,207 +1,226 @@
--- Sorted slots: those that have a place of their own, and the places that several have.
-use Rattle.std.proofs.Common.{◌≡◌, ◌∙◌, ◌+◌, ◌<◌, ◌≤◌, ℕ, zero, suc, arith, Bool, true, false, cond, List, [], ◌∷◌, length, get_or, drop, refl, sym, ap, subst, Option, Some, None}
-use Rattle.std.specs.Prelude.{◌==◌, ◌&&◌, ◌||◌, not, filter, slice_index_or, if◌then◌else◌, ⊤}
-use Rattle.std.specs.List.{AllByRecursion, list_any}
-use Rattle.std.specs.List.Sorted.{IsNonDecreasingBy}
+-- What came to places: the slots that are alone at their place, and the places that several have.
+use Rattle.std.proofs.Common.{◌≡◌, ◌∙◌, ◌+◌, ◌<◌, ◌≤◌, ℕ, zero, suc, arith, Bool, true, false, cond, List, [], ◌∷◌, ◌++◌, length, get_or, drop, refl, sym, ap, subst, Option, Some, None}
+use Rattle.std.specs.Prelude.{◌==◌, filter, slice_index_or, if◌then◌else◌}
+use Rattle.std.proofs.Math.ListN.{replicate, set}
+use Rattle.std.specs.List.{AllByRecursion, cons_option, list_any}
 use Rattle.std.specs.Option.{option_to_list}
+use Rattle.std.proofs.lemmas.List.Elements.{filter-append}
 use Rattle.step_batch.specs.Lent.{SlotsRise}
 use Rattle.step_batch.specs.declared.steps.Slot.{Slot}
 use Rattle.step_table.specs.Groups.{alone, has_several}
-use Rattle.step_table.specs.Alike.{has_some}
-use Rattle.step_table.specs.Shuffles.{Shuffled, none, kept, swapped, joined}
-use Rattle.step_put.specs.Clashes.{is_first, is_last, lone_slots, shared_places}
-
--- ---- sorted slots
-
--- the places of slots do not fall, from one on
-abbrev pub DoNotFall : ℕ → List Slot → Type 0
-DoNotFall low [] = ⊤
-DoNotFall low (s ∷ slots) = (low ≤ s.place) × DoNotFall s.place slots
-
-pub fall_not : (low : ℕ) (slots : List Slot) → ((d : Slot) → 0 < length slots → low ≤ (slice_index_or slots 0 d).place) → IsNonDecreasingBy (λ (s : Slot). s.place) slots → DoNotFall low slots
-fall_not low [] f h = tt
-fall_not low (s ∷ slots) f h =
-    (f s (omega arith), fall_not s.place slots (λ d l. h 0 1 d (omega arith) (omega arith)) (λ i j d a b. h (suc i) (suc j) d (omega arith) (omega arith)))
-
-same_place : (m n : ℕ) → (m == n) ≡ true → m ≡ n
-same_place m n h = grind (arith, h)
-
-next_place : (m n : ℕ) → (m == n) ≡ false → m ≤ n → m + 1 ≤ n
-next_place m n h l = grind (arith, h, l)
-
-abbrev low_of : Option ℕ → ℕ
-low_of None = 0
-low_of (Some last) = last
+use Rattle.step_put.specs.Clashes.{cell_of, cells_from, cells_of, is_shared, joined_by, lone_slot, lone_slots, shared_places, slots_at}
+use Rattle.step_put.specs.declared.cells.Cell.{Cell}
+use Rattle.step_put.specs.declared.cells.Cell.TheVariants.{Empty, One, Several}
 
 abbrev pub only : List Slot → List Slot
 only slots = option_to_list (alone slots)
 
-several_none : (s : Slot) (slots : List Slot) → has_some slots ≡ true → only (s ∷ slots) ≡ []
-several_none s [] h = absurd (cc)
-several_none s (t ∷ slots) h = refl
+abbrev pub AllBelow : ℕ → List Slot → Type 0
+AllBelow high slots = AllByRecursion (λ (s : Slot). s.place < high) slots
 
-several_true : (s : Slot) (slots : List Slot) → has_some slots ≡ true → has_several (s ∷ slots) ≡ true
-several_true s [] h = absurd (cc)
-several_true s (t ∷ slots) h = refl
+pub same_place : (m n : ℕ) → (m == n) ≡ true → m ≡ n
+same_place m n h = grind (arith, h)
 
--- one more slot in front: b, whether the one before has its place, and n, whether the next has; c, whether it counts, and d, whether the one before does
-lone_step : (b n c d : Bool) (s : Slot) (lone slots : List Slot) → lone ≡ (if c then [] else only slots) → (b ≡ true → d ≡ c) → (b ≡ false → d ≡ true → (c ≡ false) × (slots ≡ []))
-    → (n ≡ true → c ≡ true → has_some slots ≡ true) → (n ≡ false → c ≡ true → slots ≡ [])
-    → (if b || n then lone else cond c (s ∷ lone) lone) ≡ (if d then [] else only (cond c (s ∷ slots) slots))
-lone_step true n true true s lone slots e f g h k = e
-lone_step true n true false s lone slots e f g h k = absurd (let z : false ≡ true = f refl in cc)
-lone_step true n false true s lone slots e f g h k = absurd (let z : true ≡ false = f refl in cc)
-lone_step true n false false s lone slots e f g h k = e
-lone_step false true true true s lone slots e f g h k = absurd (let z : true ≡ false = (g refl refl).0 in cc)
-lone_step false true true false s lone slots e f g h k = e ∙ sym (several_none s slots (h refl refl))
-lone_step false true false true s lone slots e f g h k = e ∙ ap only (g refl refl).1
-lone_step false true false false s lone slots e f g h k = e
-lone_step false false true true s lone slots e f g h k = absurd (let z : true ≡ false = (g refl refl).0 in cc)
-lone_step false false true false s lone slots e f g h k = ap (λ (z : List Slot). s ∷ z) e ∙ sym (ap (λ (z : List Slot). only (s ∷ z)) (k refl refl))
-lone_step false false false true s lone slots e f g h k = e ∙ ap only (g refl refl).1
-lone_step false false false false s lone slots e f g h k = e
+is_same : (m n : ℕ) → m ≡ n → (m == n) ≡ true
+is_same m n h = grind (arith, h)
 
-shared_step : (b n c d : Bool) (s : Slot) (shared : Bool) (slots : List Slot) → shared ≡ (if c then false else has_several slots) → (b ≡ true → d ≡ c) → (b ≡ false → d ≡ true → (c ≡ false) × (slots ≡ []))
-    → (n ≡ true → c ≡ true → has_some slots ≡ true) → (n ≡ false → c ≡ true → slots ≡ [])
-    → (if not b && n then (c || shared) else shared) ≡ (if d then false else has_several (cond c (s ∷ slots) slots))
-shared_step true n true true s shared slots e f g h k = e
-shared_step true n true false s shared slots e f g h k = absurd (let z : false ≡ true = f refl in cc)
-shared_step true n false true s shared slots e f g h k = absurd (let z : true ≡ false = f refl in cc)
-shared_step true n false false s shared slots e f g h k = e
-shared_step false true true true s shared slots e f g h k = absurd (let z : true ≡ false = (g refl refl).0 in cc)
-shared_step false true true false s shared slots e f g h k = sym (several_true s slots (h refl refl))
-shared_step false true false true s shared slots e f g h k = e ∙ ap has_several (g refl refl).1
-shared_step false true false false s shared slots e f g h k = e
-shared_step false false true true s shared slots e f g h k = absurd (let z : true ≡ false = (g refl refl).0 in cc)
-shared_step false false true false s shared slots e f g h k = e ∙ sym (ap (λ (z : List Slot). has_several (s ∷ z)) (k refl refl))
-shared_step false false false true s shared slots e f g h k = e ∙ ap has_several (g refl refl).1
-shared_step false false false false s shared slots e f g h k = e
+is_other : (m n : ℕ) → m < n → (m == n) ≡ false
+is_other m n h = grind (arith, h)
 
--- slots that count, which all have one place
+-- ---- slots that count, which all have one place
+
 module _ (q : ℕ → Bool) where
   abbrev pub counted : List Slot → List Slot
   counted slots = filter (λ (s : Slot). q s.place) slots
 
-  abbrev counts : Option ℕ → Bool
-  counts None = false
-  counts (Some last) = q last
+  none_counted : (high : ℕ) (slots : List Slot) → AllBelow high slots → ((j : ℕ) → j < high → q j ≡ false) → counted slots ≡ []
+  none_counted high [] b f = refl
+  none_counted high (s ∷ slots) b f = let here = f s.place b.0 in rw here (none_counted high slots b.1 f)
+
+  -- none from a place on
+  none_lone : (place : ℕ) (cells : List Cell) → ((j : ℕ) → place ≤ j → q j ≡ false) → counted (lone_slots place cells) ≡ []
+  none_lone place [] f = refl
+  none_lone place (c ∷ cells) f = one c (none_lone (place + 1) cells (λ j l. f j (omega arith)))
+    where
+      one : (c : Cell) → counted (lone_slots (place + 1) cells) ≡ [] → counted (cons_option (lone_slot place c) (lone_slots (place + 1) cells)) ≡ []
+      one Empty e = e
+      one (One v) e = let here = f place (omega arith) in rw here e
+      one Several e = e
+
+  none_shared : (place : ℕ) (cells : List Cell) → ((j : ℕ) → place ≤ j → q j ≡ false) → list_any q (shared_places place cells) ≡ false
+  none_shared place [] f = refl
+  none_shared place (c ∷ cells) f = one (is_shared c) (none_shared (place + 1) cells (λ j l. f j (omega arith)))
+    where
+      one : (b : Bool) → list_any q (shared_places (place + 1) cells) ≡ false → list_any q (if b then place ∷ shared_places (place + 1) cells else shared_places (place + 1) cells) ≡ false
+      one true e = let here = f place (omega arith) in rw here e
+      one false e = e
+
+  -- a place that doesn't count is passed over
+  lone_past : (place : ℕ) (c : Cell) (slots : List Slot) → q place ≡ false → counted (cons_option (lone_slot place c) slots) ≡ counted slots
+  lone_past place Empty slots e = refl
+  lone_past place (One v) slots e = rw e refl
+  lone_past place Several slots e = refl
+
+  shared_past : (place : ℕ) (b : Bool) (places : List ℕ) → q place ≡ false → list_any q (if b then place ∷ places else places) ≡ list_any q places
+  shared_past place true places e = rw e refl
+  shared_past place false places e = refl
+
+  abbrev AllAt : ℕ → List Slot → Type 0
+  AllAt place slots = AllByRecursion (λ (s : Slot). s.place ≡ place) slots
+
+  -- at the place that counts
+  lone_here : (place : ℕ) (here rest : List Slot) → q place ≡ true → AllAt place here → counted rest ≡ [] → counted (cons_option (lone_slot place (cell_of here)) rest) ≡ only here
+  lone_here place [] rest e a n = n
+  lone_here place (s ∷ []) rest e a n =
+      let same : cond (q place) (record { place = place; value = s.value } ∷ counted rest) (counted rest) ≡ record { place = place; value = s.value } ∷ [] = rw (e, n) refl in
+      same ∙ ap (λ (m : ℕ). record { place = m; value = s.value } ∷ []) (sym a.0)
+  lone_here place (s ∷ t ∷ here) rest e a n = n
+
+  shared_here : (place : ℕ) (here : List Slot) (rest : List ℕ) → q place ≡ true → list_any q rest ≡ false → list_any q (if is_shared (cell_of here) then place ∷ rest else rest) ≡ has_several here
+  shared_here place [] rest e n = n
+  shared_here place (s ∷ []) rest e n = n
+  shared_here place (s ∷ t ∷ here) rest e n = rw e refl
 
   module _ (one : (i j : ℕ) → q i ≡ true → q j ≡ true → i ≡ j) where
-    not_behind : (i j : ℕ) → q i ≡ true → i < j → q j ≡ false
-    not_behind i j e l = elim (q j) as (λ b. q j ≡ b → b ≡ false) [ true ↦ λ h. absurd (let same : i ≡ j = one i j e h in omega arith) | false ↦ λ h. refl ] refl
+    counts_at : (place n : ℕ) → q place ≡ true → q n ≡ (n == place)
+    counts_at place n e =
+        elim (q n) as (λ (b : Bool). q n ≡ b → b ≡ (n == place)) [
+          | true ↦ λ h. sym (is_same n place (one n place h e))
+          | false ↦ λ h. elim (n == place) as (λ (c : Bool). (n == place) ≡ c → false ≡ c) [ true ↦ λ t. absurd (let same : n ≡ place = same_place n place t in let k : q n ≡ true = ap q same ∙ e in let z : true ≡ false = sym k ∙ h in cc) | false ↦ λ t. refl ] refl
+        ] refl
 
-    none_behind : (last low : ℕ) (slots : List Slot) → q last ≡ true → last < low → DoNotFall low slots → counted slots ≡ []
-    none_behind last low [] e l w = refl
-    none_behind last low (s ∷ slots) e l w =
-        let f : last < s.place = omega (arith, w.0) in
-        let none : q s.place ≡ false = not_behind last s.place e f in
-        rw none (none_behind last s.place slots e f w.1)
+    counted_at : (place : ℕ) (slots : List Slot) → q place ≡ true → counted slots ≡ slots_at place slots
+    counted_at place [] e = refl
+    counted_at place (s ∷ slots) e = λ i. cond (counts_at place s.place e i) (s ∷ counted_at place slots e i) (counted_at place slots e i)
 
-    before_counts : (last : Option ℕ) (place : ℕ) → is_last last place ≡ true → counts last ≡ q place
-    before_counts None place h = absurd (let z : false ≡ true = h in cc)
-    before_counts (Some last) place h = ap q (same_place last place h)
+    all_at : (place : ℕ) (slots : List Slot) → AllAt place (slots_at place slots)
+    all_at place [] = tt
+    all_at place (s ∷ slots) =
+        elim (s.place == place) as (λ (b : Bool). (s.place == place) ≡ b → AllAt place (cond b (s ∷ slots_at place slots) (slots_at place slots))) [
+          | true ↦ λ e. (same_place s.place place e, all_at place slots)
+          | false ↦ λ e. all_at place slots
+        ] refl
 
-    none_left : (last : Option ℕ) (s : Slot) (slots : List Slot) → DoNotFall (low_of last) (s ∷ slots) → is_last last s.place ≡ false → counts last ≡ true → (q s.place ≡ false) × (counted slots ≡ [])
-    none_left None s slots w h e = absurd (let z : false ≡ true = e in cc)
-    none_left (Some last) s slots w h e =
-        let l : last < s.place = let k = next_place last s.place h w.0 in omega (arith, k) in
-        (not_behind last s.place e l, none_behind last s.place slots e l w.1)
+    none_behind : (place j : ℕ) → q place ≡ true → place + 1 ≤ j → q j ≡ false
+    none_behind place j e l = elim (q j) as (λ (b : Bool). q j ≡ b → b ≡ false) [ true ↦ λ h. absurd (let same : place ≡ j = one place j e h in omega arith) | false ↦ λ h. refl ] refl
 
-    next_counts : (place : ℕ) (slots : List Slot) → is_first slots place ≡ true → q place ≡ true → has_some (counted slots) ≡ true
-    next_counts place [] h e = absurd (let z : false ≡ true = h in cc)
-    next_counts place (s ∷ slots) h e = let c : q s.place ≡ true = ap q (same_place s.place place h) ∙ e in rw c refl
-
-    none_next : (place : ℕ) (slots : List Slot) → DoNotFall place slots → is_first slots place ≡ false → q place ≡ true → counted slots ≡ []
-    none_next place [] w h e = refl
-    none_next place (s ∷ slots) w h e =
-        let l : place < s.place = let k = next_place place s.place (turned s.place place h) w.0 in omega (arith, k) in
-        none_behind place s.place (s ∷ slots) e l (omega arith, w.1)
+    lone_from : (place count : ℕ) (slots : List Slot) → AllBelow (place + count) slots → ((j : ℕ) → j < place → q j ≡ false) → counted (lone_slots place (cells_from place count slots)) ≡ only (counted slots)
+    lone_from place zero slots b f = sym (ap only (none_counted (place + zero) slots b (λ j l. f j (omega arith))))
+    lone_from place (suc count) slots b f =
+        elim (q place) as (λ (c : Bool). q place ≡ c → counted (lone_slots place (cells_from place (suc count) slots)) ≡ only (counted slots)) [
+          | true ↦ λ e. lone_here place (slots_at place slots) (lone_slots (place + 1) (cells_from (place + 1) count slots)) e (all_at place slots) (none_lone (place + 1) (cells_from (place + 1) count slots) (λ j l. none_behind place j e l))
+              ∙ ap only (sym (counted_at place slots e))
+          | false ↦ λ e. lone_past place (cell_of (slots_at place slots)) (lone_slots (place + 1) (cells_from (place + 1) count slots)) e
+              ∙ lone_from (place + 1) count slots (subst (λ (n : ℕ). AllBelow n slots) (omega arith) b) (before_next place e f)
+        ] refl
       where
-        turned : (m n : ℕ) → (m == n) ≡ false → (n == m) ≡ false
-        turned m n h = grind (arith, h)
+        before_next : (place : ℕ) → q place ≡ false → ((j : ℕ) → j < place → q j ≡ false) → (j : ℕ) → j < place + 1 → q j ≡ false
+        before_next place e f j l = elim (j == place) as (λ (c : Bool). (j == place) ≡ c → q j ≡ false) [ true ↦ λ t. ap q (same_place j place t) ∙ e | false ↦ λ t. f j (grind (arith, t, l)) ] refl
 
-    -- of the slots that count only one that is alone is left
-    lone_from : (last : Option ℕ) (slots : List Slot) → DoNotFall (low_of last) slots → counted (lone_slots last slots) ≡ (if counts last then [] else only (counted slots))
-    lone_from last [] w = elim (counts last) as (λ (b : Bool). [] ≡ (if b then [] else only [])) [ true ↦ refl | false ↦ refl ]
-    lone_from last (s ∷ slots) w =
-        pushed (is_last last s.place || is_first slots s.place) (lone_slots (Some s.place) slots)
-        ∙ lone_step (is_last last s.place) (is_first slots s.place) (q s.place) (counts last) s (counted (lone_slots (Some s.place) slots)) (counted slots) (lone_from (Some s.place) slots w.1)
-        (before_counts last s.place) (none_left last s slots w) (next_counts s.place slots) (none_next s.place slots w.1)
+    shared_from : (place count : ℕ) (slots : List Slot) → AllBelow (place + count) slots → ((j : ℕ) → j < place → q j ≡ false) → list_any q (shared_places place (cells_from place count slots)) ≡ has_several (counted slots)
+    shared_from place zero slots b f = sym (ap has_several (none_counted (place + zero) slots b (λ j l. f j (omega arith))))
+    shared_from place (suc count) slots b f =
+        elim (q place) as (λ (c : Bool). q place ≡ c → list_any q (shared_places place (cells_from place (suc count) slots)) ≡ has_several (counted slots)) [
+          | true ↦ λ e. shared_here place (slots_at place slots) (shared_places (place + 1) (cells_from (place + 1) count slots)) e (none_shared (place + 1) (cells_from (place + 1) count slots) (λ j l. none_behind place j e l))
+              ∙ ap has_several (sym (counted_at place slots e))
+          | false ↦ λ e. shared_past place (is_shared (cell_of (slots_at place slots))) (shared_places (place + 1) (cells_from (place + 1) count slots)) e
+              ∙ shared_from (place + 1) count slots (subst (λ (n : ℕ). AllBelow n slots) (omega arith) b) (before_next place e f)
+        ] refl
       where
-        pushed : (b : Bool) (lone : List Slot) → counted (if b then lone else s ∷ lone) ≡ (if b then counted lone else cond (q s.place) (s ∷ counted lone) (counted lone))
-        pushed true lone = refl
-        pushed false lone = refl
+        before_next : (place : ℕ) → q place ≡ false → ((j : ℕ) → j < place → q j ≡ false) → (j : ℕ) → j < place + 1 → q j ≡ false
+        before_next place e f j l = elim (j == place) as (λ (c : Bool). (j == place) ≡ c → q j ≡ false) [ true ↦ λ t. ap q (same_place j place t) ∙ e | false ↦ λ t. f j (grind (arith, t, l)) ] refl
 
-    shared_from : (last : Option ℕ) (slots : List Slot) → DoNotFall (low_of last) slots → list_any q (shared_places last slots) ≡ (if counts last then false else has_several (counted slots))
-    shared_from last [] w = elim (counts last) as (λ (b : Bool). false ≡ (if b then false else false)) [ true ↦ refl | false ↦ refl ]
-    shared_from last (s ∷ slots) w =
-        pushed (not (is_last last s.place) && is_first slots s.place) (shared_places (Some s.place) slots)
-        ∙ shared_step (is_last last s.place) (is_first slots s.place) (q s.place) (counts last) s (list_any q (shared_places (Some s.place) slots)) (counted slots) (shared_from (Some s.place) slots w.1)
-        (before_counts last s.place) (none_left last s slots w) (next_counts s.place slots) (none_next s.place slots w.1)
-      where
-        pushed : (b : Bool) (shared : List ℕ) → list_any q (if b then s.place ∷ shared else shared) ≡ (if b then (q s.place || list_any q shared) else list_any q shared)
-        pushed true shared = refl
-        pushed false shared = refl
+    pub lone_counted : (count : ℕ) (slots : List Slot) → AllBelow count slots → counted (lone_slots 0 (cells_of count slots)) ≡ only (counted slots)
+    lone_counted count slots b = let e : count ≡ 0 + count = omega arith in lone_from 0 count slots (subst (λ (n : ℕ). AllBelow n slots) e b) (λ j l. absurd (omega arith))
 
-    pub lone_counted : (slots : List Slot) → DoNotFall 0 slots → counted (lone_slots None slots) ≡ only (counted slots)
-    lone_counted slots w = lone_from None slots w
+    pub shared_counted : (count : ℕ) (slots : List Slot) → AllBelow count slots → list_any q (shared_places 0 (cells_of count slots)) ≡ has_several (counted slots)
+    shared_counted count slots b = let e : count ≡ 0 + count = omega arith in shared_from 0 count slots (subst (λ (n : ℕ). AllBelow n slots) e b) (λ j l. absurd (omega arith))
 
-    pub shared_counted : (slots : List Slot) → DoNotFall 0 slots → list_any q (shared_places None slots) ≡ has_several (counted slots)
-    shared_counted slots w = shared_from None slots w
-
--- ---- the slots that are left rise
-
-abbrev pub AllBelow : ℕ → List Slot → Type 0
-AllBelow high slots = AllByRecursion (λ (s : Slot). s.place < high) slots
+-- ---- the slots that are alone rise
 
 rise_lower : (low next high : ℕ) (slots : List Slot) → low ≤ next → SlotsRise next high slots → SlotsRise low high slots
 rise_lower low next high [] l r = tt
 rise_lower low next high (s ∷ slots) l r = (omega (arith, r.0), r.1, r.2)
 
-lone_behind : (last high : ℕ) (slots : List Slot) → DoNotFall last slots → AllBelow high slots → SlotsRise (last + 1) high (lone_slots (Some last) slots)
-lone_behind last high [] w b = tt
-lone_behind last high (s ∷ slots) w b =
-    let rest : SlotsRise (s.place + 1) high (lone_slots (Some s.place) slots) = lone_behind s.place high slots w.1 b.1 in
-    by (last == s.place) (is_first slots s.place) refl rest
+pub lone_rises : (place high : ℕ) (cells : List Cell) → place + length cells ≤ high → SlotsRise place high (lone_slots place cells)
+lone_rises place high [] l = tt
+lone_rises place high (c ∷ cells) l = one c (lone_rises (place + 1) high cells (omega arith))
   where
-    by : (d n : Bool) → (last == s.place) ≡ d → SlotsRise (s.place + 1) high (lone_slots (Some s.place) slots) → SlotsRise (last + 1) high (if d || n then lone_slots (Some s.place) slots else s ∷ lone_slots (Some s.place) slots)
-    by true n h r = rise_lower (last + 1) (s.place + 1) high (lone_slots (Some s.place) slots) (let l = w.0 in omega arith) r
-    by false true h r = rise_lower (last + 1) (s.place + 1) high (lone_slots (Some s.place) slots) (let l = w.0 in omega arith) r
-    by false false h r = (next_place last s.place h w.0, b.0, r)
+    one : (c : Cell) → SlotsRise (place + 1) high (lone_slots (place + 1) cells) → SlotsRise place high (cons_option (lone_slot place c) (lone_slots (place + 1) cells))
+    one Empty r = rise_lower place (place + 1) high (lone_slots (place + 1) cells) (omega arith) r
+    one (One v) r = (omega arith, omega arith, r)
+    one Several r = rise_lower place (place + 1) high (lone_slots (place + 1) cells) (omega arith) r
 
-pub lone_rises : (high : ℕ) (slots : List Slot) → DoNotFall 0 slots → AllBelow high slots → SlotsRise 0 high (lone_slots None slots)
-lone_rises high [] w b = tt
-lone_rises high (s ∷ slots) w b = by (is_first slots s.place) (lone_behind s.place high slots w.1 b.1)
-  where
-    by : (n : Bool) → SlotsRise (s.place + 1) high (lone_slots (Some s.place) slots) → SlotsRise 0 high (if n then lone_slots (Some s.place) slots else s ∷ lone_slots (Some s.place) slots)
-    by true r = rise_lower 0 (s.place + 1) high (lone_slots (Some s.place) slots) (omega arith) r
-    by false r = (omega arith, b.0, r)
-
--- places in another order are below the same one
-pub all_below : (high : ℕ) (xs ys : List Slot) → Shuffled xs ys → AllBelow high xs → AllBelow high ys
-all_below high _ _ none a = tt
-all_below high _ _ (kept x xs ys s) a = (a.0, all_below high xs ys s a.1)
-all_below high _ _ (swapped x y xs) a = (a.1.0, (a.0, a.1.1))
-all_below high _ _ (joined xs ys zs s t) a = all_below high ys zs t (all_below high xs ys s a)
-
--- ---- one slot after another
-
-pub drop_here : {A : Type 0} (xs : List A) (i : ℕ) (x : A) → i < length xs → x ≡ get_or xs i x → drop i xs ≡ x ∷ drop (i + 1) xs
+drop_here : {A : Type 0} (xs : List A) (i : ℕ) (x : A) → i < length xs → x ≡ get_or xs i x → drop i xs ≡ x ∷ drop (i + 1) xs
 drop_here [] i x l e = absurd (omega arith)
 drop_here {A} (y ∷ xs) zero x l e = ap (λ (z : A). z ∷ xs) (sym e)
 drop_here (y ∷ xs) (suc i) x l e = let n : suc i + 1 ≡ suc (i + 1) = omega arith in rw n (drop_here xs i x (omega arith) e)
 
-pub lone_here : (last : Option ℕ) (slots : List Slot) (i : ℕ) (s : Slot) (b : Bool) → i < length slots → s ≡ get_or slots i s → b ≡ (is_last last s.place || is_first (drop (i + 1) slots) s.place)
-    → lone_slots last (drop i slots) ≡ (if b then lone_slots (Some s.place) (drop (i + 1) slots) else s ∷ lone_slots (Some s.place) (drop (i + 1) slots))
-lone_here last slots i s b l e f =
-    ap (lone_slots last) (drop_here slots i s l e) ∙ ap (λ (d : Bool). if d then lone_slots (Some s.place) (drop (i + 1) slots) else s ∷ lone_slots (Some s.place) (drop (i + 1) slots)) (sym f)
+-- one cell after another
+pub lone_next : (place : ℕ) (cells : List Cell) (c : Cell) → place < length cells → c ≡ get_or cells place c → lone_slots place (drop place cells) ≡ option_to_list (lone_slot place c) ++ lone_slots (place + 1) (drop (place + 1) cells)
+lone_next place cells c l is = ap (lone_slots place) (drop_here cells place c l is) ∙ put (lone_slot place c) (lone_slots (place + 1) (drop (place + 1) cells))
+  where
+    put : (o : Option Slot) (rest : List Slot) → cons_option o rest ≡ option_to_list o ++ rest
+    put None rest = refl
+    put (Some s) rest = refl
 
-pub shared_here : (last : Option ℕ) (slots : List Slot) (i : ℕ) (s : Slot) (b : Bool) → i < length slots → s ≡ get_or slots i s → b ≡ (not (is_last last s.place) && is_first (drop (i + 1) slots) s.place)
-    → shared_places last (drop i slots) ≡ (if b then s.place ∷ shared_places (Some s.place) (drop (i + 1) slots) else shared_places (Some s.place) (drop (i + 1) slots))
-shared_here last slots i s b l e f =
-    ap (shared_places last) (drop_here slots i s l e) ∙ ap (λ (d : Bool). if d then s.place ∷ shared_places (Some s.place) (drop (i + 1) slots) else shared_places (Some s.place) (drop (i + 1) slots)) (sym f)
+pub shared_next : (place : ℕ) (cells : List Cell) (c : Cell) (b : Bool) → place < length cells → c ≡ get_or cells place c → b ≡ is_shared c
+    → shared_places place (drop place cells) ≡ (if b then place ∷ shared_places (place + 1) (drop (place + 1) cells) else shared_places (place + 1) (drop (place + 1) cells))
+shared_next place cells c b l is e =
+    ap (shared_places place) (drop_here cells place c l is) ∙ ap (λ (d : Bool). if d then place ∷ shared_places (place + 1) (drop (place + 1) cells) else shared_places (place + 1) (drop (place + 1) cells)) (sym e)
 
-pub slot_below : (high : ℕ) (slots : List Slot) (i : ℕ) (s : Slot) → i < length slots → s ≡ get_or slots i s → AllBelow high slots → s.place < high
-slot_below high [] i s l e a = absurd (omega arith)
-slot_below high (t ∷ slots) zero s l e a = subst (λ (z : Slot). z.place < high) (sym e) a.0
-slot_below high (t ∷ slots) (suc i) s l e a = slot_below high slots i s (omega arith) e a.1
+-- ---- one value more
+
+pub cells_count : (place count : ℕ) (slots : List Slot) → length (cells_from place count slots) ≡ count
+cells_count place zero slots = refl
+cells_count place (suc count) slots = ap suc (cells_count (place + 1) count slots)
+
+pub no_cells : (place count : ℕ) → replicate count Empty ≡ cells_from place count []
+no_cells place zero = refl
+no_cells place (suc count) = ap (λ (cs : List Cell). Empty ∷ cs) (no_cells (place + 1) count)
+
+cell_more : (slots : List Slot) (s : Slot) → cell_of (slots ++ s ∷ []) ≡ joined_by (cell_of slots) s.value
+cell_more [] s = refl
+cell_more (r ∷ []) s = refl
+cell_more (r ∷ t ∷ slots) s = refl
+
+at_more : (place : ℕ) (slots : List Slot) (s : Slot) → slots_at place (slots ++ s ∷ []) ≡ slots_at place slots ++ cond (s.place == place) (s ∷ []) []
+at_more place slots s = filter-append (λ (s : Slot). s.place == place) slots (s ∷ [])
+
+nothing_behind : (slots : List Slot) → slots ++ [] ≡ slots
+nothing_behind [] = refl
+nothing_behind (s ∷ slots) = ap (λ (r : List Slot). s ∷ r) (nothing_behind slots)
+
+other_cell : (place : ℕ) (slots : List Slot) (s : Slot) → (s.place == place) ≡ false → cell_of (slots_at place (slots ++ s ∷ [])) ≡ cell_of (slots_at place slots)
+other_cell place slots s h = ap cell_of (at_more place slots s ∙ ap (λ (b : Bool). slots_at place slots ++ cond b (s ∷ []) []) h ∙ nothing_behind (slots_at place slots))
+
+same_cell : (place : ℕ) (slots : List Slot) (s : Slot) → (s.place == place) ≡ true → cell_of (slots_at place (slots ++ s ∷ [])) ≡ joined_by (cell_of (slots_at place slots)) s.value
+same_cell place slots s h = ap cell_of (at_more place slots s ∙ ap (λ (b : Bool). slots_at place slots ++ cond b (s ∷ []) []) h) ∙ cell_more (slots_at place slots) s
+
+cells_behind : (place count : ℕ) (slots : List Slot) (s : Slot) → s.place < place → cells_from place count (slots ++ s ∷ []) ≡ cells_from place count slots
+cells_behind place zero slots s l = refl
+cells_behind place (suc count) slots s l = λ i. other_cell place slots s (is_other s.place place l) i ∷ cells_behind (place + 1) count slots s (omega arith) i
+
+taken_from : (place count i : ℕ) (slots : List Slot) (s : Slot) → s.place ≡ place + i → i < count
+    → set (cells_from place count slots) i (joined_by (slice_index_or (cells_from place count slots) i Empty) s.value) ≡ cells_from place count (slots ++ s ∷ [])
+taken_from place zero i slots s e l = absurd (omega arith)
+taken_from place (suc count) zero slots s e l =
+    λ i. sym (same_cell place slots s (is_same s.place place (omega (arith, e)))) i ∷ sym (cells_behind (place + 1) count slots s (omega (arith, e))) i
+taken_from place (suc count) (suc n) slots s e l =
+    λ i. sym (other_cell place slots s (turned s.place place (is_other place s.place (omega (arith, e))))) i ∷ taken_from (place + 1) count n slots s (omega (arith, e)) (omega arith) i
+  where
+    turned : (m n : ℕ) → (n == m) ≡ false → (m == n) ≡ false
+    turned m n h = grind (arith, h)
+
+pub taken_more : (count : ℕ) (slots : List Slot) (s : Slot) → s.place < count
+    → set (cells_of count slots) s.place (joined_by (slice_index_or (cells_of count slots) s.place Empty) s.value) ≡ cells_of count (slots ++ s ∷ [])
+taken_more count slots s l = taken_from 0 count s.place slots s (omega arith) l
+
+cell_from : (place count i : ℕ) (slots : List Slot) (d : Cell) → i < count → slice_index_or (cells_from place count slots) i d ≡ cell_of (slots_at (place + i) slots)
+cell_from place zero i slots d l = absurd (omega arith)
+cell_from place (suc count) zero slots d l = ap (λ (n : ℕ). cell_of (slots_at n slots)) (omega arith)
+cell_from place (suc count) (suc i) slots d l = cell_from (place + 1) count i slots d (omega arith) ∙ ap (λ (n : ℕ). cell_of (slots_at n slots)) (omega arith)
+
+-- what came to a place
+pub cell_is : (count place : ℕ) (slots : List Slot) (d : Cell) → place < count → slice_index_or (cells_of count slots) place d ≡ cell_of (slots_at place slots)
+cell_is count place slots d l = cell_from 0 count place slots d l ∙ ap (λ (n : ℕ). cell_of (slots_at n slots)) (omega arith)

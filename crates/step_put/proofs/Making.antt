@@ -1,6 +1,6 @@
 -- What is made of rows, one row after another, and the step that it comes to.
-use Rattle.std.proofs.Common.{◌≡◌, ◌∙◌, ◌+◌, ◌<◌, ◌≤◌, ℕ, zero, suc, arith, Bool, true, false, List, [], ◌∷◌, ◌++◌, length, get_or, slice_get, take, drop, map, refl, sym, ap, subst, Option, Some, None, append-nil}
-use Rattle.std.specs.Prelude.{◌&&◌, IsTrue, Result, Ok, Err, nat_lt, pos, slice_index_or}
+use Rattle.std.proofs.Common.{◌≡◌, ◌∙◌, ◌+◌, ◌<◌, ◌≤◌, ℕ, zero, suc, arith, Bool, true, false, cond, List, [], ◌∷◌, ◌++◌, length, get_or, slice_get, take, drop, map, refl, sym, ap, subst, Option, Some, None, append-nil}
+use Rattle.std.specs.Prelude.{◌&&◌, ◌==◌, IsTrue, Result, Ok, Err, nat_lt, pos, slice_index_or}
 use Rattle.std.specs.BTreeSet.{insert_key}
 use Rattle.std.specs.List.{IsDistinct, cons_option, filter_map}
 use Rattle.std.specs.Option.{option_map, option_to_list}
@@ -13,12 +13,11 @@ use Rattle.step_batch.specs.declared.steps.PlacedStep.{PlacedStep}
 use Rattle.step_batch.specs.declared.steps.Slot.{Slot}
 use Rattle.step_table.specs.Gathering.{settled_table}
 use Rattle.step_table.specs.Groups.{Names, lone_items, shared_names}
-use Rattle.std.specs.List.Sorted.{IsNonDecreasingBy, IsPermutation, IsStrictlyIncreasing}
+use Rattle.std.specs.List.Sorted.{IsStrictlyIncreasing}
 use Rattle.step_table.specs.KeySets.{set_more}
 use Rattle.step_table.specs.Orders.{mark_cmp}
 use Rattle.step_table.specs.Outcomes.{fault_mark, keyed, mark_of, mark_of_value, row_of, settled, taken}
 use Rattle.step_table.specs.Shuffles.{SettledIgnoresOrder, Shuffled}
-use Rattle.step_table.specs.Shuffling.{chosen_shuffled, from_permutation, mapped_shuffled}
 use Rattle.step_table.specs.Timed.{StepAt}
 use Rattle.step_table.specs.Unions.{set_of, united, with_fatal}
 use Rattle.step_table.specs.declared.marks.Mark.{Mark}
@@ -32,9 +31,12 @@ use Rattle.xfrac.specs.declared.value.XFrac.{XFrac}
 use Rattle.step_put.specs.Placed.{PlacesRise, do_rise, has_value, is_behind, left_of, made_step, marks_made, marks_of_faults, noted, one_if, outcomes_of, slot_at, slot_made, slots_made, with_fault}
 use Rattle.step_put.specs.Puts.{AreAt}
 use Rattle.ticks.specs.declared.moment.Ms.{Ms}
-use Rattle.step_put.specs.Clashes.{lone_slots, marks_at, shared_places}
+use Rattle.step_put.specs.Clashes.{AreApart, cell_of, cells_of, is_single_at, lone_slots, marks_at, shared_places, slots_at, taken_by}
+use Rattle.step_put.specs.declared.cells.Cell.{Cell}
+use Rattle.step_put.specs.declared.cells.Cell.TheVariants.{Empty}
+use Rattle.step_put.specs.declared.owners.Owners.{Owners}
 use Rattle.step_put.proofs.Sharing.{lone_rows, rows_in, shared_marks_are}
-use Rattle.step_put.proofs.Lone.{AllBelow, DoNotFall, all_below, fall_not, lone_rises}
+use Rattle.step_put.proofs.Lone.{AllBelow, cell_is, cells_count, lone_rises, same_place, taken_more}
 use Rattle.step_put.proofs.Putting.{on_last_one, within}
 use Rattle.step_put.specs.declared.faults.Faults.{Faults}
 use Rattle.step_put.specs.declared.labels_left.Left.{Left}
@@ -88,7 +90,7 @@ chosen_more {A} {B} f (x ∷ xs) (suc i) d h =
     behind None ys zs = refl
     behind (Some b) ys zs = refl
 
-chosen_append : {A B : Type 0} (f : A → Option B) (xs ys : List A) → filter_map f (xs ++ ys) ≡ filter_map f xs ++ filter_map f ys
+pub chosen_append : {A B : Type 0} (f : A → Option B) (xs ys : List A) → filter_map f (xs ++ ys) ≡ filter_map f xs ++ filter_map f ys
 chosen_append f [] ys = refl
 chosen_append {A} {B} f (x ∷ xs) ys = ap (cons_option (f x)) (chosen_append f xs ys) ∙ behind (f x) (filter_map f xs) (filter_map f ys)
   where
@@ -113,11 +115,18 @@ entries_more labels places placed i r l is =
     ∙ chosen_append (entry_of labels) (slots_made places (take i placed)) (option_to_list (slot_made places (get_or placed i r)))
     ∙ ap (λ (p : PlacedOutcome). entries_of labels (slots_made places (take i placed)) ++ entries_of labels (option_to_list (slot_made places p))) (sym is)
 
-pub slots_more : (places : List ℕ) (placed : List PlacedOutcome) (i own : ℕ) (r : PlacedOutcome) (done now : List Slot) → i < length placed → r ≡ get_or placed i r → own ≡ slice_index_or places r.place 0 → done ≡ slots_made places (take i placed)
-    → now ≡ done ++ option_to_list (slot_at own r.value) → now ≡ slots_made places (take (i + 1) placed)
-slots_more places placed i own r done now l is o d n =
-    n ∙ ap (λ (z : List Slot). z ++ option_to_list (slot_at own r.value)) d ∙ ap (λ (m : ℕ). slots_made places (take i placed) ++ option_to_list (slot_at m r.value)) o
-    ∙ ap (λ (p : PlacedOutcome). slots_made places (take i placed) ++ option_to_list (slot_made places p)) is ∙ sym (chosen_more (slot_made places) placed i r l)
+-- the cells to which one more row comes
+pub cells_more : (count : ℕ) (places : List ℕ) (placed : List PlacedOutcome) (i own : ℕ) (r : PlacedOutcome) (was now : List Cell) → i < length placed → r ≡ get_or placed i r → own ≡ slice_index_or places r.place 0 → own < count
+    → was ≡ cells_of count (slots_made places (take i placed)) → now ≡ taken_by was own r.value → now ≡ cells_of count (slots_made places (take (i + 1) placed))
+cells_more count places placed i own r was now l is o below w n =
+    let done : List Slot = slots_made places (take i placed) in
+    n ∙ ap (λ (z : List Cell). taken_by z own r.value) w ∙ one r.value
+    ∙ ap (cells_of count) (ap (λ (m : ℕ). done ++ option_to_list (slot_at m r.value)) o ∙ ap (λ (p : PlacedOutcome). done ++ option_to_list (slot_made places p)) is ∙ sym (chosen_more (slot_made places) placed i r l))
+  where
+    one : (v : Result (Option XFrac) NumFault) → taken_by (cells_of count (slots_made places (take i placed))) own v ≡ cells_of count (slots_made places (take i placed) ++ option_to_list (slot_at own v))
+    one (Ok (Some v)) = taken_more count (slots_made places (take i placed)) (record { place = own; value = v }) below
+    one (Ok None) = ap (cells_of count) (sym (append-nil (slots_made places (take i placed))))
+    one (Err x) = ap (cells_of count) (sym (append-nil (slots_made places (take i placed))))
 
 -- ---- places
 
@@ -134,14 +143,14 @@ row_within high placed i r l is rise = subst (λ (p : PlacedOutcome). p.place < 
     place_within low high (p ∷ placed) zero d l r = r.1
     place_within low high (p ∷ placed) (suc i) d l r = place_within (p.place + 1) high placed i d (omega arith) r.2
 
-slots_at : (places : List ℕ) (placed : List PlacedOutcome) (i : ℕ) (d : PlacedOutcome) → i < length placed → slots_made places (drop i placed) ≡ cons_option (slot_made places (get_or placed i d)) (slots_made places (drop (i + 1) placed))
-slots_at places [] i d l = absurd (omega arith)
-slots_at places (p ∷ placed) zero d l = refl
-slots_at places (p ∷ placed) (suc i) d l = let e : suc i + 1 ≡ suc (i + 1) = omega arith in rw e (slots_at places placed i d (omega arith))
+slots_from : (places : List ℕ) (placed : List PlacedOutcome) (i : ℕ) (d : PlacedOutcome) → i < length placed → slots_made places (drop i placed) ≡ cons_option (slot_made places (get_or placed i d)) (slots_made places (drop (i + 1) placed))
+slots_from places [] i d l = absurd (omega arith)
+slots_from places (p ∷ placed) zero d l = refl
+slots_from places (p ∷ placed) (suc i) d l = let e : suc i + 1 ≡ suc (i + 1) = omega arith in rw e (slots_from places placed i d (omega arith))
 
 -- the slots of a row and of those behind it
 pub slots_here : (places : List ℕ) (placed : List PlacedOutcome) (i : ℕ) (r : PlacedOutcome) → i < length placed → r ≡ get_or placed i r → slots_made places (drop i placed) ≡ cons_option (slot_made places r) (slots_made places (drop (i + 1) placed))
-slots_here places placed i r l is = slots_at places placed i r l ∙ ap (λ (p : PlacedOutcome). cons_option (slot_made places p) (slots_made places (drop (i + 1) placed))) (sym is)
+slots_here places placed i r l is = slots_from places placed i r l ∙ ap (λ (p : PlacedOutcome). cons_option (slot_made places p) (slots_made places (drop (i + 1) placed))) (sym is)
 
 -- whether the places rise, one row after another
 abbrev do_rise_in : List ℕ → List PlacedOutcome → Option ℕ → Bool
@@ -172,11 +181,50 @@ pub slot_alone : (low high : ℕ) (o : Option Slot) (slots : List Slot) → Slot
 slot_alone low high None slots r = tt
 slot_alone low high (Some s) slots r = (r.0, r.1, tt)
 
-left_there : (left : Left) (labels fed : List Names) (places : List ℕ) (i : ℕ) → AreAt labels (map (left_of left) fed) places → i < length fed → slice_get labels (slice_index_or places i 0) ≡ Some (left_of left (get_or fed i []))
+pub left_there : (left : Left) (labels fed : List Names) (places : List ℕ) (i : ℕ) → AreAt labels (map (left_of left) fed) places → i < length fed → slice_get labels (slice_index_or places i 0) ≡ Some (left_of left (get_or fed i []))
 left_there left labels [] places i a l = absurd (omega arith)
 left_there left labels (f ∷ fed) [] i a l = absurd a
 left_there left labels (f ∷ fed) (p ∷ places) zero a l = a.0
 left_there left labels (f ∷ fed) (p ∷ places) (suc i) a l = left_there left labels fed places i a.1 (omega arith)
+
+-- ---- places that one labels alone have
+
+module _ (owners : List Owners) (places : List ℕ) (apart : AreApart owners places) where
+  row_from : (low : ℕ) (placed : List PlacedOutcome) (i : ℕ) (d : PlacedOutcome) → i < length placed → PlacesRise low (length places) placed → (low ≤ (get_or placed i d).place) × ((get_or placed i d).place < length places)
+  row_from low [] i d l r = absurd (omega arith)
+  row_from low (p ∷ placed) zero d l r = (r.0, r.1)
+  row_from low (p ∷ placed) (suc i) d l r = let h = row_from (p.place + 1) placed i d (omega arith) r.2 in (omega (arith, h.0, r.0), h.1)
+
+  none_from : (low : ℕ) (placed : List PlacedOutcome) (i : ℕ) (d : PlacedOutcome) → i < length placed → PlacesRise low (length places) placed
+      → is_single_at owners (slice_index_or places (get_or placed i d).place 0) ≡ true → slots_at (slice_index_or places (get_or placed i d).place 0) (slots_made places (take i placed)) ≡ []
+  none_from low [] i d l r e = absurd (omega arith)
+  none_from low (p ∷ placed) zero d l r e = refl
+  none_from low (p ∷ placed) (suc i) d l r e =
+      let far = row_from (p.place + 1) placed i d (omega arith) r.2 in
+      let own : ℕ = slice_index_or places (get_or placed i d).place 0 in
+      one p.value (λ same. apart p.place (get_or placed i d).place (omega (arith, far.0)) far.1 same) (none_from (p.place + 1) placed i d (omega arith) r.2 e)
+    where
+      one : (v : Result (Option XFrac) NumFault) → (slice_index_or places p.place 0 ≡ slice_index_or places (get_or placed i d).place 0 → is_single_at owners (slice_index_or places (get_or placed i d).place 0) ≡ false)
+          → slots_at (slice_index_or places (get_or placed i d).place 0) (slots_made places (take i placed)) ≡ []
+          → slots_at (slice_index_or places (get_or placed i d).place 0) (cons_option (slot_at (slice_index_or places p.place 0) v) (slots_made places (take i placed))) ≡ []
+      one (Ok (Some v)) f n =
+          elim (slice_index_or places p.place 0 == slice_index_or places (get_or placed i d).place 0) as
+          (λ (b : Bool). (slice_index_or places p.place 0 == slice_index_or places (get_or placed i d).place 0) ≡ b
+          → cond b (record { place = slice_index_or places p.place 0; value = v } ∷ slots_at (slice_index_or places (get_or placed i d).place 0) (slots_made places (take i placed))) (slots_at (slice_index_or places (get_or placed i d).place 0) (slots_made places (take i placed))) ≡ []) [
+            | true ↦ λ h. absurd (let z : true ≡ false = sym e ∙ f (same_place (slice_index_or places p.place 0) (slice_index_or places (get_or placed i d).place 0) h) in cc)
+            | false ↦ λ h. n
+          ] refl
+      one (Ok None) f n = n
+      one (Err x) f n = n
+
+  -- nothing came before to a place that is noted as that of one labels alone
+  pub still_empty : (placed : List PlacedOutcome) (i own count : ℕ) (r : PlacedOutcome) → i < length placed → r ≡ get_or placed i r → own ≡ slice_index_or places r.place 0 → own < count → PlacesRise 0 (length places) placed
+      → is_single_at owners own ≡ true → slice_index_or (cells_of count (slots_made places (take i placed))) own Empty ≡ Empty
+  still_empty placed i own count r l is o below rise e =
+      let own_is : own ≡ slice_index_or places (get_or placed i r).place 0 = o ∙ ap (λ (p : PlacedOutcome). slice_index_or places p.place 0) is in
+      let none : slots_at own (slots_made places (take i placed)) ≡ [] =
+      subst (λ (n : ℕ). slots_at n (slots_made places (take i placed)) ≡ []) (sym own_is) (none_from 0 placed i r l rise (ap (is_single_at owners) (sym own_is) ∙ e)) in
+      cell_is count own (slots_made places (take i placed)) Empty below ∙ ap cell_of none
 
 -- ---- the step
 
@@ -264,35 +312,27 @@ module _ (left : Left) (labels fed : List Names) (places : List ℕ) (a : AreAt 
       one own (Ok None) l e = e
       one own (Err x) l e = e
 
-  -- sorted by place they are so too, and those that have a place of their own rise
-  pub sorted_below : (placed : List PlacedOutcome) (slots : List Slot) → PlacesRise 0 (length fed) placed → IsPermutation (slots_made places placed) slots → AllBelow (length labels) slots
-  sorted_below placed slots r perm = all_below (length labels) (slots_made places placed) slots (from_permutation (slots_made places placed) slots perm) (all_placed 0 placed r)
-
-  pub sorted_rise : (placed : List PlacedOutcome) (slots : List Slot) → PlacesRise 0 (length fed) placed → IsPermutation (slots_made places placed) slots → IsNonDecreasingBy (λ (s : Slot). s.place) slots → SlotsRise 0 (length labels) (lone_slots None slots)
-  sorted_rise placed slots r perm w = lone_rises (length labels) slots (fall_not 0 slots (λ d l. omega arith) w) (sorted_below placed slots r perm)
-
-  -- where rows may share labels, those are made that have a place of their own
-  pub made_clashing : LentRowsAreThoseOfSlots → LentRowsAreTables → SettledIgnoresOrder → IsDistinct labels_eq labels → (marks : Marks) (placed : List PlacedOutcome) (slots : List Slot) → PlacesRise 0 (length fed) placed
-      → IsPermutation (slots_made places placed) slots → IsNonDecreasingBy (λ (s : Slot). s.place) slots
-      → made_step left fed marks placed ≡ step_of (entries_of labels (lone_slots None slots)) (with_fatal (with_fatal marks (marks_made placed)) (marks_at labels (shared_places None slots)))
-  made_clashing law tables order d marks placed slots r perm sorts =
-      let w : DoNotFall 0 slots = fall_not 0 slots (λ d l. omega arith) sorts in
+  -- where rows may share labels, those are made that come alone to their places
+  pub made_clashing : LentRowsAreThoseOfSlots → LentRowsAreTables → SettledIgnoresOrder → IsDistinct labels_eq labels → (marks : Marks) (placed : List PlacedOutcome) → PlacesRise 0 (length fed) placed
+      → made_step left fed marks placed
+      ≡ step_of (entries_of labels (lone_slots 0 (cells_of (length labels) (slots_made places placed)))) (with_fatal (with_fatal marks (marks_made placed)) (marks_at labels (shared_places 0 (cells_of (length labels) (slots_made places placed)))))
+  made_clashing law tables order d marks placed r =
+      let slots : List Slot = slots_made places placed in
+      let below : AllBelow (length labels) slots = all_placed 0 placed r in
+      let came : List Cell = cells_of (length labels) slots in
       let all : Marks = with_fatal marks (marks_made placed) in
-      let sorted : Step = record { table = record { rows = rows_in labels slots }; marks = all } in
-      let lone : Step = record { table = record { rows = rows_in labels (lone_slots None slots) }; marks = all } in
-      let whole : Step = step_of (entries_of labels (lone_slots None slots)) all in
-      let shuffled : Shuffled (slots_made places placed) slots = from_permutation (slots_made places placed) slots perm in
-      let rise : SlotsRise 0 (length labels) (lone_slots None slots) = sorted_rise placed slots r perm sorts in
-      let s : PlacedStep = record { at = record { 0 = pos 0 }; slots = lone_slots None slots; marks = all } in
-      let same : Shuffled (rows_in labels (lone_slots None slots)) whole.table.rows = law (record { labels = labels; steps = [] }) s (record { distinct = d; placed = tt; rising = tt }) rise in
-      let rows : Shuffled (rows_in labels (slots_made places placed)) (rows_in labels slots) =
-      mapped_shuffled lent.row_of (entries_of labels (slots_made places placed)) (entries_of labels slots) (chosen_shuffled (entry_of labels) (slots_made places placed) slots shuffled) in
-      let taken_is : settled (taken marks (outcomes_of left fed placed)) ≡ settled sorted =
-      order (taken marks (outcomes_of left fed placed)) sorted (record { rows = subst (λ (z : List Row). Shuffled z (rows_in labels slots)) (sym (rows_taken 0 placed r)) rows; marks = ap (with_fatal marks) (marks_taken 0 placed r) }) in
+      let made : Step = record { table = record { rows = rows_in labels slots }; marks = all } in
+      let lone : Step = record { table = record { rows = rows_in labels (lone_slots 0 came) }; marks = all } in
+      let whole : Step = step_of (entries_of labels (lone_slots 0 came)) all in
+      let rise : SlotsRise 0 (length labels) (lone_slots 0 came) = lone_rises 0 (length labels) came (let n = cells_count 0 (length labels) slots in omega (arith, n)) in
+      let s : PlacedStep = record { at = record { 0 = pos 0 }; slots = lone_slots 0 came; marks = all } in
+      let same : Shuffled (rows_in labels (lone_slots 0 came)) whole.table.rows = law (record { labels = labels; steps = [] }) s (record { distinct = d; placed = tt; rising = tt }) rise in
+      let taken_is : settled (taken marks (outcomes_of left fed placed)) ≡ settled made =
+      ap settled (λ i. record { table = record { rows = rows_taken 0 placed r i }; marks = with_fatal marks (marks_taken 0 placed r i) }) in
       let apart : settled lone ≡ whole = order lone whole (record { rows = same; marks = refl }) ∙ settled_table whole (tables labels s) in
-      let left_rows : lone_items (keyed (rows_in labels slots)) ≡ whole.table.rows = lone_rows labels d slots w ∙ ap (λ (z : Step). z.table.rows) apart in
-      let left_marks : with_fatal all (map SameLabelset (shared_names (keyed (rows_in labels slots)))) ≡ with_fatal all (marks_at labels (shared_places None slots)) =
-      ap (λ (fs : List Mark). united all (record { fatal = fs; notes = [] })) (shared_marks_are labels d slots w) in
+      let left_rows : lone_items (keyed (rows_in labels slots)) ≡ whole.table.rows = lone_rows labels d slots below ∙ ap (λ (z : Step). z.table.rows) apart in
+      let left_marks : with_fatal all (map SameLabelset (shared_names (keyed (rows_in labels slots)))) ≡ with_fatal all (marks_at labels (shared_places 0 came)) =
+      ap (λ (fs : List Mark). united all (record { fatal = fs; notes = [] })) (shared_marks_are labels d slots below) in
       taken_is ∙ (λ i. record { table = record { rows = left_rows i }; marks = left_marks i })
 
 -- ---- the last step

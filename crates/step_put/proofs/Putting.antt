@@ -18,9 +18,10 @@ use Rattle.step_table.specs.declared.step.Row.{Row}
 use Rattle.ticks.specs.declared.moment.Ms.{Ms}
 use Rattle.xfrac.specs.declared.value.XFrac.{XFrac}
 use Rattle.step_batch.specs.Laws.{SortedRowsAreTables}
-use Rattle.step_batch.specs.Lent.{entry_in, has_slot, last_slots, no_marks, on_last, row_of, stage_with_marks, stage_with_row, step_of}
+use Rattle.step_batch.specs.Lent.{IsFreeFrom, Lent, entry_in, has_slot, last_slots, no_marks, on_last, row_of, stage_with_marks, stage_with_row, step_of}
 use Rattle.step_batch.specs.Tables.{in_order, put_into}
 use Rattle.step_batch.specs.declared.steps.PlacedStep.{PlacedStep}
+use Rattle.step_batch.specs.declared.steps.Slot.{Slot}
 use Rattle.step_put.specs.Puts.{AreAt, names_in}
 
 abbrev Entry : Type 0
@@ -115,6 +116,14 @@ last_count f (s ∷ t ∷ ss) = ap suc (last_count f (t ∷ ss))
 
 pub still_begun : (f : PlacedStep → PlacedStep) (steps now : List PlacedStep) → now ≡ on_last f steps → 0 < length steps → 0 < length now
 still_begun f steps now e h = subst (λ (n : ℕ). 0 < n) (sym (ap length e ∙ last_count f steps)) h
+
+-- a place behind a free one is free
+pub free_wider : (place : ℕ) (lent : Lent) → IsFreeFrom place lent → IsFreeFrom (place + 1) lent
+free_wider place lent f = (f.0, wider (last_slots lent.steps) f.1)
+  where
+    wider : (slots : List Slot) → AllByRecursion (λ (s : Slot). s.place < place) slots → AllByRecursion (λ (s : Slot). s.place < place + 1) slots
+    wider [] a = tt
+    wider (s ∷ slots) a = let h = a.0 in (omega arith, wider slots a.1)
 
 -- ---- the step
 

@@ -1,5 +1,5 @@
 -- A step of rows that may share labels, by the places of these.
-use Rattle.std.proofs.Common.{◌≡◌, ◌∙◌, ℕ, zero, suc, Bool, true, false, cond, List, [], ◌∷◌, map, refl, sym, ap, subst, Option, Some, None}
+use Rattle.std.proofs.Common.{◌≡◌, ◌∙◌, ℕ, zero, suc, Bool, true, false, cond, List, [], ◌∷◌, length, map, refl, sym, ap, subst, Option, Some, None}
 use Rattle.std.specs.Prelude.{◌||◌, ◌&&◌, is_some, filter, slice_get, if◌then◌else◌}
 use Rattle.std.specs.BTreeMap.{is_at}
 use Rattle.std.specs.List.{AllByRecursion, IsDistinct, cons_option, filter_map, list_any}
@@ -27,8 +27,9 @@ use Rattle.step_table.specs.Unions.{set_of}
 use Rattle.step_table.specs.declared.marks.Mark.{Mark}
 use Rattle.step_table.specs.declared.marks.Mark.TheVariants.{SameLabelset}
 use Rattle.step_table.specs.declared.step.Row.{Row}
-use Rattle.step_put.specs.Clashes.{lone_slots, marks_at, shared_places}
-use Rattle.step_put.proofs.Lone.{DoNotFall, counted, lone_counted, only, shared_counted}
+use Rattle.step_put.specs.Clashes.{cells_of, lone_slots, marks_at, shared_places}
+use Rattle.step_put.specs.declared.cells.Cell.{Cell}
+use Rattle.step_put.proofs.Lone.{AllBelow, counted, lone_counted, only, shared_counted}
 
 -- ---- items under labels
 
@@ -205,28 +206,32 @@ module _ (labels : List Names) (n : Names) where
       by None rest = rest
       by (Some m) rest = ap (λ (b : Bool). is_at (labels_cmp n) m || b) rest
 
-module _ (labels : List Names) (d : IsDistinct labels_eq labels) (slots : List Slot) (w : DoNotFall 0 slots) where
-  lone_rows_at : (n : Names) → lone_at (keyed (rows_in labels slots)) n ≡ lone_at (keyed (rows_in labels (lone_slots None slots))) n
+module _ (labels : List Names) (d : IsDistinct labels_eq labels) (slots : List Slot) (b : AllBelow (length labels) slots) where
+  -- what came to the places of labels
+  abbrev came : List Cell
+  came = cells_of (length labels) slots
+
+  lone_rows_at : (n : Names) → lone_at (keyed (rows_in labels slots)) n ≡ lone_at (keyed (rows_in labels (lone_slots 0 came))) n
   lone_rows_at n =
       let q : ℕ → Bool = stand_at labels n in
       ap alone (rows_under labels n slots) ∙ only_row labels n (counted q slots) (all_stand labels n slots)
-      ∙ ap (λ (z : List Slot). alone (rows_in labels z)) (sym (lone_counted q (one_place labels d n) slots w))
-      ∙ sym (ap alone (rows_under labels n (lone_slots None slots)))
+      ∙ ap (λ (z : List Slot). alone (rows_in labels z)) (sym (lone_counted q (one_place labels d n) (length labels) slots b))
+      ∙ sym (ap alone (rows_under labels n (lone_slots 0 came)))
 
   -- the rows that are alone are those of the slots that have a place of their own
-  pub lone_rows : lone_items (keyed (rows_in labels slots)) ≡ lone_items (keyed (rows_in labels (lone_slots None slots)))
-  lone_rows = lone_alike (keyed (rows_in labels slots)) (keyed (rows_in labels (lone_slots None slots))) lone_rows_at
+  pub lone_rows : lone_items (keyed (rows_in labels slots)) ≡ lone_items (keyed (rows_in labels (lone_slots 0 came)))
+  lone_rows = lone_alike (keyed (rows_in labels slots)) (keyed (rows_in labels (lone_slots 0 came))) lone_rows_at
 
   abbrev items : List (Names × Row)
   items = keyed (rows_in labels slots)
 
   abbrev named : List Names
-  named = filter_map (slice_get labels) (shared_places None slots)
+  named = filter_map (slice_get labels) (shared_places 0 came)
 
   several_at : (n : Names) → has_several (items_of items n) ≡ list_any (is_at (labels_cmp n)) named
   several_at n =
       let q : ℕ → Bool = stand_at labels n in
-      ap has_several (rows_under labels n slots) ∙ several_rows labels n (counted q slots) (all_stand labels n slots) ∙ sym (shared_counted q (one_place labels d n) slots w) ∙ sym (any_place labels n (shared_places None slots))
+      ap has_several (rows_under labels n slots) ∙ several_rows labels n (counted q slots) (all_stand labels n slots) ∙ sym (shared_counted q (one_place labels d n) (length labels) slots b) ∙ sym (any_place labels n (shared_places 0 came))
 
   -- the labels that rows share are those at the places that slots share
   shared_are : shared_names items ≡ set_of labels_cmp named
@@ -236,12 +241,12 @@ module _ (labels : List Names) (d : IsDistinct labels_eq labels) (slots : List S
       same_sets labels_cmp_total labels_cmp_ties (shared_names items) (set_of labels_cmp named)
       (subst (IsStrictlySortedBy labels_cmp) (sym same) (IsStrictlySortedBy-filter labels_cmp p (names_among items) (names_sorted items))) (sorted_set labels_cmp_total labels_cmp_ties named)
       (λ k.
-      ap (list_any (is_at (labels_cmp k))) same ∙ any_passing p k (names_among items) ∙ ap (λ (b : Bool). p k && b) (any_name items k) ∙ some_several (items_of items k)
+      ap (list_any (is_at (labels_cmp k))) same ∙ any_passing p k (names_among items) ∙ ap (λ (c : Bool). p k && c) (any_name items k) ∙ some_several (items_of items k)
       ∙ several_at k ∙ sym (any_of_set labels_cmp_total labels_cmp_ties (is_at (labels_cmp k)) named))
 
   any_mark : (p : Mark → Bool) (ns : List Names) → list_any p (map SameLabelset ns) ≡ list_any (λ (m : Names). p (SameLabelset m)) ns
   any_mark p [] = refl
-  any_mark p (m ∷ ns) = ap (λ (b : Bool). p (SameLabelset m) || b) (any_mark p ns)
+  any_mark p (m ∷ ns) = ap (λ (c : Bool). p (SameLabelset m) || c) (any_mark p ns)
 
   marks_named : (places : List ℕ) → marks_at labels places ≡ map SameLabelset (filter_map (slice_get labels) places)
   marks_named [] = refl
@@ -252,12 +257,12 @@ module _ (labels : List Names) (d : IsDistinct labels_eq labels) (slots : List S
       by (Some m) rest = ap (λ (r : List Mark). SameLabelset m ∷ r) rest
 
   -- and so are their marks
-  pub shared_marks_are : set_of mark_cmp (map SameLabelset (shared_names items)) ≡ set_of mark_cmp (marks_at labels (shared_places None slots))
+  pub shared_marks_are : set_of mark_cmp (map SameLabelset (shared_names items)) ≡ set_of mark_cmp (marks_at labels (shared_places 0 came))
   shared_marks_are =
-      same_sets mark_cmp_total mark_cmp_ties (set_of mark_cmp (map SameLabelset (shared_names items))) (set_of mark_cmp (marks_at labels (shared_places None slots)))
-      (sorted_set mark_cmp_total mark_cmp_ties (map SameLabelset (shared_names items))) (sorted_set mark_cmp_total mark_cmp_ties (marks_at labels (shared_places None slots)))
+      same_sets mark_cmp_total mark_cmp_ties (set_of mark_cmp (map SameLabelset (shared_names items))) (set_of mark_cmp (marks_at labels (shared_places 0 came)))
+      (sorted_set mark_cmp_total mark_cmp_ties (map SameLabelset (shared_names items))) (sorted_set mark_cmp_total mark_cmp_ties (marks_at labels (shared_places 0 came)))
       (λ k.
       let p : Mark → Bool = is_at (mark_cmp k) in
       any_of_set mark_cmp_total mark_cmp_ties p (map SameLabelset (shared_names items)) ∙ any_mark p (shared_names items)
       ∙ ap (list_any (λ (m : Names). p (SameLabelset m))) shared_are ∙ any_of_set labels_cmp_total labels_cmp_ties (λ (m : Names). p (SameLabelset m)) named
-      ∙ sym (any_mark p named) ∙ ap (list_any p) (sym (marks_named (shared_places None slots))) ∙ sym (any_of_set mark_cmp_total mark_cmp_ties p (marks_at labels (shared_places None slots))))
+      ∙ sym (any_mark p named) ∙ ap (list_any p) (sym (marks_named (shared_places 0 came))) ∙ sym (any_of_set mark_cmp_total mark_cmp_ties p (marks_at labels (shared_places 0 came))))

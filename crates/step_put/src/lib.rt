@@ -2,11 +2,13 @@
 //! Its rows of tests stand in `kernel_tests`.
 #![tactic(auto)]
 
+mod cells;
 mod clashing;
 mod faults;
 mod labels_left;
 mod outcome_buffer;
 mod own_places;
+mod owners;
 mod placed;
 mod put;
 mod rising;

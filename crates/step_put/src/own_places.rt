@@ -1,5 +1,5 @@
 ghost use Rattle.label_set.specs.Labels.{metric_name};
-ghost use Rattle.std.specs.Prelude.{◌≡◌, ◌↔◌, ◌<◌, ◌≤◌, ◌+◌, ◌++◌, ◌∷◌, ℕ, List, [], Some, drop, length, map, slice_get, take, IfOk, IsTrue, OnOk};
+ghost use Rattle.std.specs.Prelude.{◌≡◌, ◌↔◌, ◌<◌, ◌≤◌, ◌+◌, ◌++◌, ◌∷◌, ℕ, List, [], Some, drop, false, length, map, slice_get, take, IfOk, IsTrue, OnErr, OnOk};
 ghost use Rattle.step_put.specs.Placed.{IsPlaced, left_of};
 ghost use Rattle.step_put.specs.Puts.{AreAt};
 
@@ -65,15 +65,36 @@ impl Placing {
         ensures kept { (j : _) (names : _) → slice_get buffer.old.labels j ≡ Some names → slice_get buffer.new.labels j ≡ Some names }
         ensures steps { buffer.new.steps ≡ buffer.old.steps }
     {
-        let before = mem::replace(&mut self.kept, nothing(self.alloc));
-        let kept = cut(before, labels.len());
-        self.kept = placed(self.alloc, &self.left, buffer, kept, labels)?;
+        self.take_telling(buffer, labels)?;
         Ok(())
     }
 
-    /// Takes all steps out of the buffer that the labels fed before stand in, and takes the labels that are fed. Where the
-    /// buffer has more than twice as many labels as are fed, these are taken out first and all are made anew, so that it
-    /// doesn't grow with the number of feeds. The only error is want of memory; then no labels are kept, and the next feed
+    /// Does what `take` does, and tells whether the places may be others than before.
+    fn take_telling(
+        &mut self,
+        buffer: &mut StepBuffer,
+        labels: &[Labels],
+    ) -> Result<bool, AllocError>
+        requires named { IsPlaced buffer.old self.old }
+        ensures named { IsPlaced buffer.new self.new }
+        ensures left { self.new.left ≡ self.old.left }
+        ensures fed { OnOk result (self.new.fed ≡ labels.now) }
+        ensures kept { (j : _) (names : _) → slice_get buffer.old.labels j ≡ Some names → slice_get buffer.new.labels j ≡ Some names }
+        ensures steps { buffer.new.steps ≡ buffer.old.steps }
+        ensures stay { IfOk result (λ changed. changed ≡ false → self.new.places ≡ self.old.places) }
+        ensures err { OnErr result (self.new.places ≡ []) }
+    {
+        let before = mem::replace(&mut self.kept, nothing(self.alloc));
+        let fewer = labels.len() < before.places.len();
+        let kept = cut(before, labels.len());
+        let (kept, changed) = placed(self.alloc, &self.left, buffer, kept, labels)?;
+        self.kept = kept;
+        Ok(fewer || changed)
+    }
+
+    /// Takes all steps out of the buffer that the labels fed before stand in, and takes the labels that are fed. Where half of
+    /// the buffer's labels, rounded down, are more than are fed, its labels are taken out first and all are made anew, so that
+    /// it doesn't grow with the number of feeds. The only error is want of memory; then no labels are kept, and the next feed
     /// may begin all the same.
     pub fn renew(&mut self, buffer: &mut StepBuffer, labels: &[Labels]) -> Result<(), AllocError>
         requires named { IsPlaced buffer.old self.old }
@@ -82,13 +103,32 @@ impl Placing {
         ensures fed { OnOk result (self.new.fed ≡ labels.now) }
         ensures steps { buffer.new.steps ≡ [] }
     {
+        self.renew_telling(buffer, labels)?;
+        Ok(())
+    }
+
+    /// Does what `renew` does, and tells whether the places may be others than before.
+    pub(crate) fn renew_telling(
+        &mut self,
+        buffer: &mut StepBuffer,
+        labels: &[Labels],
+    ) -> Result<bool, AllocError>
+        requires named { IsPlaced buffer.old self.old }
+        ensures named { IsPlaced buffer.new self.new }
+        ensures left { self.new.left ≡ self.old.left }
+        ensures fed { OnOk result (self.new.fed ≡ labels.now) }
+        ensures steps { buffer.new.steps ≡ [] }
+        ensures stay { IfOk result (λ changed. changed ≡ false → self.new.places ≡ self.old.places) }
+        ensures err { OnErr result (self.new.places ≡ []) }
+    {
         if buffer.lend().labels().len() / 2 > labels.len() {
             buffer.clear();
             self.forget();
-        } else {
-            buffer.renew();
+            self.take_telling(buffer, labels)?;
+            return Ok(true);
         }
-        self.take(buffer, labels)
+        buffer.renew();
+        self.take_telling(buffer, labels)
     }
 
     /// Beside each of the labels that were fed the place of what is left of them. It takes no memory.
@@ -123,22 +163,24 @@ fn cut(kept: Kept, count: usize) -> Kept
     Kept { fed, places }
 }
 
-/// Takes the labels that are fed in the place of those that are kept, where they differ.
+/// Takes the labels that are fed in the place of those that are kept, where they differ, and tells whether some do.
 fn placed(
     alloc: Global,
     left: &Left,
     buffer: &mut StepBuffer,
     before: Kept,
     labels: &[Labels],
-) -> Result<Kept, AllocError>
+) -> Result<(Kept, bool), AllocError>
     requires named { AreAt buffer.old.labels (map (left_of left.now) before.fed.items) before.places.items }
     requires within { length before.fed.items ≤ length labels.now }
-    ensures fed { IfOk result (λ k. k.fed.items ≡ labels.now) }
-    ensures named { IfOk result (λ k. AreAt buffer.new.labels (map (left_of left.now) k.fed.items) k.places.items) }
+    ensures fed { IfOk result (λ k. k.0.fed.items ≡ labels.now) }
+    ensures named { IfOk result (λ k. AreAt buffer.new.labels (map (left_of left.now) k.0.fed.items) k.0.places.items) }
+    ensures stay { IfOk result (λ k. k.1 ≡ false → k.0.places.items ≡ before.places.items) }
     ensures kept { (j : _) (names : _) → slice_get buffer.old.labels j ≡ Some names → slice_get buffer.new.labels j ≡ Some names }
     ensures steps { buffer.new.steps ≡ buffer.old.steps }
 {
     let mut kept = before;
+    let mut changed = false;
     for i in 0..labels.len() {
         let names = &labels[i];
         if has(&kept, i, names) {
@@ -146,8 +188,9 @@ fn placed(
         }
         let place = place_of(alloc, left, buffer, names)?;
         kept = kept_at(kept, i, names.copy()?, place)?;
+        changed = true;
     }
-    Ok(kept)
+    Ok((kept, changed))
 }
 
 /// Whether these labels are kept at a place.

@@ -17,6 +17,7 @@ loop-i-preserved-then-has c =
           (split_here fed i one (c.has.ensures c.if-has.true) ∙ ap (λ (z : List Names). take i z ++ one ∷ drop (i + 1) z) was.fed);
       named = was.named;
       stays = was.stays;
+      stay = was.stay;
       steps = was.steps;
     }
 
@@ -43,5 +44,6 @@ loop-i-preserved c =
       named = at_renewed (left_of c.args.left.now) c.loop-i.buffer.labels c.place_of.new.buffer.labels fed c.in_ok-kept.kept.fed.items c.loop-i.kept.places.items c.in_ok-kept.kept.places.items i c.in_ok-place.place one
           c.place_of.ensures.kept next c.in_ok-kept.ensures.places was.named c.in_ok-place.ensures.place;
       stays = λ j names h. c.place_of.ensures.kept j names (was.stays j names h);
+      stay = λ h. absurd (cc);
       steps = c.place_of.ensures.steps ∙ was.steps;
     }

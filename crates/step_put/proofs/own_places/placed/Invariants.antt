@@ -1,4 +1,4 @@
-use Rattle.std.proofs.Common.{◌≡◌, ℕ, Some, map}
+use Rattle.std.proofs.Common.{◌≡◌, ℕ, Some, false, map}
 use Rattle.std.specs.Prelude.{slice_get}
 use Rattle.step_table.specs.Groups.{Names}
 use Rattle.step_put.specs.Placed.{left_of}
@@ -11,5 +11,6 @@ invariant-loop-i l = record {
   fed : l.kept.fed.items ≡ mixed l.i l.labels l.fn.before.fed.items;
   named : AreAt l.buffer.labels (map (left_of l.left) l.kept.fed.items) l.kept.places.items;
   stays : (j : ℕ) (names : Names) → slice_get l.fn.buffer.labels j ≡ Some names → slice_get l.buffer.labels j ≡ Some names;
+  stay : l.changed ≡ false → l.kept.places.items ≡ l.fn.before.places.items;
   steps : l.buffer.steps ≡ l.fn.buffer.steps;
 }

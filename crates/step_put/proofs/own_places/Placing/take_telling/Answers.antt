@@ -2,7 +2,7 @@ use Rattle.std.proofs.Common.{length, map, refl, rules}
 use Rattle.step_put.proofs.Keeping.{at_cut}
 use Rattle.step_put.specs.Placed.{left_of}
 use Rattle.step_put.specs.Puts.{AreAt}
-use Rattle.step_put.proofs.own_places.Placing.take.Goals as goal
+use Rattle.step_put.proofs.own_places.Placing.take_telling.Goals as goal
 
 pub placed-requires-clause-named : goal.placed-requires-clause-named
 placed-requires-clause-named c =
