@@ -1,0 +1,5 @@
+pub mod Feeding
+pub mod Keeping
+pub mod Made
+pub mod Orders
+pub mod Splitting

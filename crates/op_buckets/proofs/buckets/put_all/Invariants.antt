@@ -1,0 +1,13 @@
+use Rattle.std.proofs.Common.{◌≡◌, drop, take}
+use Rattle.step_batch.specs.Lent.{stages}
+use Rattle.op_buckets.specs.Rules.{all_quantiles}
+use Rattle.op_buckets.proofs.Feeding.{Follow}
+use Rattle.op_buckets.proofs.buckets.put_all.Given as goal
+
+abbrev pub invariant-loop-i : goal.invariant-loop-i
+invariant-loop-i l = record {
+  left : l.made.left ≡ l.fn.made.left;
+  fed : l.made.fed ≡ l.fn.made.fed;
+  follow : Follow l.made.lent (drop l.i l.rows.steps);
+  lent : stages l.made.lent ≡ all_quantiles (take l.i (stages l.quantile)) (take l.i (stages l.rows));
+}

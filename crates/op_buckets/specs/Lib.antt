@@ -1,0 +1,4 @@
+pub mod Groups
+pub mod Histograms
+pub mod Rules
+pub mod Splits
