@@ -10,7 +10,7 @@ use Rattle.step_batch.specs.LentWindows.{TimesRise, WindowsAt}
 use Rattle.ticks.specs.Walks.{HasTimes, IsTime, moment_at}
 use Rattle.ticks.specs.declared.moment.Ms.{Ms}
 
--- its series are in the store, with their samples as they were in each feed before; the instants rise, and the moments don't fall
+-- its series are in the store, with their labels and samples as they were in each feed before; the instants rise, and the moments don't fall
 pub record CanFeedStore (kernel : Kernel) (store : AllSeries) (at : List Ms) (arg : Lent) : Type 0 where
   pub there : AreThere store kernel.series
   pub walked : kernel.walked ≡ walked_of kernel.moment.closed kernel.range.0 kernel.reached store kernel.series

@@ -3,10 +3,11 @@ use Rattle.std.specs.Prelude.{◌≡◌, ◌<ℤ◌, ◌++◌, ℕ, ℤ, pos, Bo
 use Rattle.op_window.specs.declared.renew.SeriesWindow.{SeriesWindow}
 use Rattle.op_window.specs.declared.renew.Span.{Span}
 use Rattle.promql_meaning.specs.Selecting.{sample_times, sample_values, window}
-use Rattle.sample_store.specs.Samples.{AllSeries, Samples, samples_at}
+use Rattle.sample_store.specs.Samples.{AllSeries, Samples, labels_at, samples_at}
 use Rattle.series_marks.specs.Reaches.{edge_at, moment_of, window_edge}
 use Rattle.series_marks.specs.Reads.{Reached, mark_of}
 use Rattle.step_batch.specs.Columns.{Columns}
+use Rattle.step_table.specs.Groups.{Names}
 use Rattle.ticks.specs.declared.moment.Ms.{Ms}
 use Rattle.ticks.specs.declared.walk.WalkMoment.{WalkMoment}
 use Rattle.xfrac.specs.declared.value.XFrac.{XFrac}
@@ -49,5 +50,18 @@ abbrev pub walked_at : Bool → ℤ → Reached → Samples → SeriesWindow
 walked_at closed range reached samples = record { mark = mark_of reached samples; samples = columns_of (window_of closed range reached samples) }
 
 -- of all series
-abbrev pub walked_of : Bool → ℤ → Reached → AllSeries → List ℕ → List SeriesWindow
-walked_of closed range reached store series = map (λ s. walked_at closed range reached (samples_at store s)) series
+abbrev pub all_walked : Bool → ℤ → Reached → AllSeries → List ℕ → List SeriesWindow
+all_walked closed range reached store series = map (λ s. walked_at closed range reached (samples_at store s)) series
+
+-- the windows of all series, and the labels that they were named by
+pub record Walked : Type 0 where
+  pub windows : List SeriesWindow
+  pub named : List Names
+
+-- before the first instant no labels count
+abbrev pub named_once : Reached → List Names → List Names
+named_once None names = []
+named_once (Some r) names = names
+
+abbrev pub walked_of : Bool → ℤ → Reached → AllSeries → List ℕ → Walked
+walked_of closed range reached store series = record { windows = all_walked closed range reached store series; named = named_once reached (map (labels_at store) series) }

@@ -1,7 +1,7 @@
 //! What comes of the windows of an instant.
 ghost use Rattle.label_set.specs.Labels.{metric_name, value_of};
 ghost use Rattle.op_window.specs.Rules.{AreFramed, names_in, names_of, note_in, outcome_in, outcomes_given, rows_of_series};
-ghost use Rattle.op_window.specs.Sliding.{walked_of};
+ghost use Rattle.op_window.specs.Sliding.{all_walked};
 ghost use Rattle.series_marks.specs.Reaches.{AreThere};
 ghost use Rattle.std.specs.List.{filter_map};
 ghost use Rattle.std.specs.Option.{option_to_list};
@@ -78,7 +78,7 @@ pub(crate) fn made_of_series(
 ) -> Result<Items<Note>, AllocError>
     requires there { AreThere store.now series.now }
     requires frame { IsFrame frame.now }
-    requires walked { (edge : Ms) × (walked.now ≡ walked_of closed frame.now.range.0 (Some (edge, frame.now.moment)) store.now series.now) }
+    requires walked { (edge : Ms) × (walked.now ≡ all_walked closed frame.now.range.0 (Some (edge, frame.now.moment)) store.now series.now) }
     ensures rising { OnOk result (PlacesRise 0 (length series.now) placed.new.items) }
     ensures outcomes { OnOk result (outcomes_given f (names_of store.now series.now) placed.new.items ≡ map (outcome_in f frame.now arg.now) (rows_of_series closed frame.now store.now series.now)) }
     ensures notes { IfOk result (λ notes. notes ≡ filter_map (note_in f frame.now arg.now) (rows_of_series closed frame.now store.now series.now)) }

@@ -2,7 +2,7 @@
 ghost use Rattle.either.specs.Either.{MatchEither};
 ghost use Rattle.op_window.specs.Feeds.{CanFeedStore, CanFeedWindows, HasReached};
 ghost use Rattle.op_window.specs.Rules.{by_scalar, fed_by, frame_at, names_of, rows_of_series, windowed_at, windows_of_lent, windows_of_series};
-ghost use Rattle.op_window.specs.Sliding.{span_at, walked_of};
+ghost use Rattle.op_window.specs.Sliding.{named_once, span_at, walked_of};
 ghost use Rattle.series_marks.specs.Reaches.{AreThere, IsReached, IsSoon, reach, reach_all, reads_of, searches_of};
 ghost use Rattle.series_marks.specs.Reads.{AreRising};
 ghost use Rattle.std.specs.Prelude.{◌≡◌, ◌+◌, ◌<ℤ◌, ◌≤◌, ◌++◌, ◌∷◌, [], None, pos, map, OnOk, IfOk, ⊤};
@@ -28,8 +28,8 @@ use ticks::{Ms, WalkMoment, Work, last_before};
 use window_fn::WindowFrame;
 
 /// A function of windows. Over the store its windows are those of series, in which it goes forward: what it has reached is the
-/// last time before the first instant's window, and the last moment. `placed` is what came of the windows of the last instant, whose
-/// memory is kept.
+/// last time before the first instant's window, and the last moment. It names its series by their labels once, before its first
+/// instant. `placed` is what came of the windows of the last instant, whose memory is kept.
 #[derive(Drop)]
 pub struct WindowRows {
     alloc: Global,
@@ -46,11 +46,12 @@ pub struct WindowRows {
 impl Model for WindowRows {
     ghost use Rattle.op_window.specs.Kernels.{Kernel};
     ghost use Rattle.op_window.specs.Rules.{left_for};
+    ghost use Rattle.op_window.specs.Sliding.{named_once};
     ghost use Rattle.std.specs.Prelude.{◌≡◌};
 
     ghost Value = { Kernel };
 
-    ghost view = { λ k. record { series = k.series; f = k.f; moment = k.moment; range = k.range; walked = k.walked; reached = k.reached; named = k.rows.fed; buffer = k.rows.lent } };
+    ghost view = { λ k. record { series = k.series; f = k.f; moment = k.moment; range = k.range; walked = record { windows = k.walked; named = named_once k.reached k.rows.fed }; reached = k.reached; named = k.rows.fed; buffer = k.rows.lent } };
 
     ghost invariant = { λ k. k.rows.left ≡ left_for k.f };
 }
@@ -78,6 +79,33 @@ fn frame_of(moment: &WalkMoment, range: Ms, t: Ms) -> WindowFrame
         eval: t,
         moment: Ms(moment.at(t)),
         range,
+    }
+}
+
+/// Takes all steps out. Before the first instant the rows are named by the labels of their series, which they keep.
+fn name_rows(
+    alloc: Global,
+    rows: &mut OutcomeBuffer,
+    reached: &Option<(Ms, Ms)>,
+    store: &Store,
+    series: &[u32],
+) -> Result<(), AllocError>
+    requires there { AreThere store.now series.now }
+    requires named { named_once reached.now rows.old.fed ≡ named_once reached.now (names_of store.now series.now) }
+    ensures left { rows.new.left ≡ rows.old.left }
+    ensures stay { named_once reached.now rows.new.fed ≡ named_once reached.now rows.old.fed }
+    ensures named { OnOk result (rows.new.fed ≡ names_of store.now series.now) }
+    ensures steps { OnOk result (rows.new.lent.steps ≡ []) }
+{
+    match reached {
+        Some(_) => {
+            rows.begin_same_feed();
+            Ok(())
+        }
+        None => {
+            let labels = labels_of(alloc, store, series)?;
+            rows.begin_feed(labels.as_slice())
+        }
     }
 }
 
@@ -120,9 +148,10 @@ impl WindowRows {
         self.rows.lend()
     }
 
-    /// Takes all steps out, and names the series by their labels.
-    fn name_series(&mut self, store: &Store) -> Result<(), AllocError>
-        requires { AreThere store.now self.old.series }
+    /// Takes all steps out. Before its first instant it names the series by their labels, which they keep.
+    fn make_ready(&mut self, store: &Store) -> Result<(), AllocError>
+        requires there { AreThere store.now self.old.series }
+        requires walked { self.old.walked ≡ walked_of self.old.moment.closed self.old.range.0 self.old.reached store.now self.old.series }
         ensures series { self.new.series ≡ self.old.series }
         ensures f { self.new.f ≡ self.old.f }
         ensures moment { self.new.moment ≡ self.old.moment }
@@ -132,9 +161,13 @@ impl WindowRows {
         ensures named { OnOk result (self.new.named ≡ names_of store.now self.old.series) }
         ensures steps { OnOk result (self.new.buffer.steps ≡ []) }
     {
-        let labels = labels_of(self.alloc, store, self.series.as_slice())?;
-        self.rows.begin_feed(labels.as_slice())?;
-        Ok(())
+        name_rows(
+            self.alloc,
+            &mut self.rows,
+            &self.reached,
+            store,
+            self.series.as_slice(),
+        )
     }
 
     /// The step of one more instant over the store.
@@ -199,8 +232,8 @@ impl WindowRows {
 
     /// Makes the steps of more instants of the windows of its series, later than those that were fed before, and takes out those of
     /// the last feed. Where the function takes a scalar, `arg` has its steps at the same instants, each with one row at most; else
-    /// it isn't read. In all feeds of one kernel the store holds the same; the moments don't fall. The only error is want of
-    /// memory; then the kernel can't be fed again.
+    /// it isn't read. In all feeds of one kernel the store holds the same labels and samples; the moments don't fall. The only error
+    /// is want of memory; then the kernel can't be fed again.
     pub fn feed_store<W: Ledger>(
         &mut self,
         store: &Store,
@@ -220,7 +253,7 @@ impl WindowRows {
         ensures tested { work.new.tested ≡ work.old.tested }
     {
         let _ = store.series();
-        self.name_series(store)?;
+        self.make_ready(store)?;
         for i in 0..at.len() {
             let scalar = scalar_at(self.alloc, self.f, at, arg, i)?;
             self.step(store, at[i], scalar, work)?;

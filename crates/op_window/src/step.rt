@@ -1,6 +1,6 @@
 //! The step of an instant, of windows and of a scalar, is put behind those before.
 ghost use Rattle.op_window.specs.Rules.{AreFramed, by_scalar, left_for as left_by, names_in, names_of, notes_given, rows_of_series};
-ghost use Rattle.op_window.specs.Sliding.{walked_of};
+ghost use Rattle.op_window.specs.Sliding.{all_walked};
 ghost use Rattle.promql_meaning.specs.Givens.{barren};
 ghost use Rattle.promql_meaning.specs.Outcomes.{with_notes as marks_with_notes};
 ghost use Rattle.series_marks.specs.Reaches.{AreThere};
@@ -102,7 +102,7 @@ pub(crate) fn put_series(
 ) -> Result<(), AllocError>
     requires there { AreThere store.now series.now }
     requires frame { IsFrame frame.now }
-    requires walked { (edge : Ms) × (walked.now ≡ walked_of closed frame.now.range.0 (Some (edge, frame.now.moment)) store.now series.now) }
+    requires walked { (edge : Ms) × (walked.now ≡ all_walked closed frame.now.range.0 (Some (edge, frame.now.moment)) store.now series.now) }
     requires left { rows.old.left ≡ left_by f }
     requires named { rows.old.fed ≡ names_of store.now series.now }
     requires later { IsLater rows.old.lent frame.now.eval }

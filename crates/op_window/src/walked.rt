@@ -1,5 +1,5 @@
 //! All series go to the window of an instant.
-ghost use Rattle.op_window.specs.Sliding.{IsSpan, walked_of};
+ghost use Rattle.op_window.specs.Sliding.{IsSpan, all_walked};
 ghost use Rattle.series_marks.specs.Reaches.{AreThere, IsReached, reads_of, searches_of};
 ghost use Rattle.series_marks.specs.Reads.{AreRising, IsNoEarlier, edge_of};
 ghost use Rattle.std.specs.Prelude.{◌≡◌, ◌+◌, ◌≤◌, None, Some, IfOk, OnOk};
@@ -18,7 +18,7 @@ pub(crate) fn blank_windows(
     f: Window,
     series: &[u32],
 ) -> Result<Items<SeriesWindow>, AllocError>
-    ensures { IfOk result (λ walked. (closed : _) (range : _) (store : _) → walked ≡ walked_of closed range None store series.now) }
+    ensures { IfOk result (λ walked. (closed : _) (range : _) (store : _) → walked ≡ all_walked closed range None store series.now) }
 {
     let mut walked = Items::with_capacity(alloc, series.len())?;
     for _s in series {
@@ -41,11 +41,11 @@ pub(crate) fn renew_all<W: Ledger>(
 ) -> Result<(), AllocError>
     requires there { AreThere store.now series.now }
     requires rises { AreRising store.now }
-    requires was { walked.old ≡ walked_of span.closed span.range.0 reached store.now series.now }
+    requires was { walked.old ≡ all_walked span.closed span.range.0 reached store.now series.now }
     requires begun { IsReached span.closed span.range.0 reached }
     requires later { IsNoEarlier reached span.moment }
     requires span { IsSpan span }
-    ensures now { OnOk result (walked.new ≡ walked_of span.closed span.range.0 (Some (edge_of reached span.edge, span.moment)) store.now series.now) }
+    ensures now { OnOk result (walked.new ≡ all_walked span.closed span.range.0 (Some (edge_of reached span.edge, span.moment)) store.now series.now) }
     ensures fetched { work.new.fetched + reads_of reached store.now series.now ≤ work.old.fetched + reads_of (Some (edge_of reached span.edge, span.moment)) store.now series.now }
     ensures probed { work.new.probed + searches_of reached series.now ≤ work.old.probed + searches_of (Some (edge_of reached span.edge, span.moment)) series.now }
     ensures tested { work.new.tested ≡ work.old.tested }

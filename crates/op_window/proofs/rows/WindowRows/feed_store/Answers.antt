@@ -28,14 +28,14 @@ returns-in_err-scalar-clause-probed g c =
     let i = c.loop-i.invariant in
     searches_stay k.range.0 k.series k.reached c.loop-i.self.reached (reach_all k.range.0 k.reached k.moment c.args.at.now) k.moment (drop c.loop-i.i c.args.at.now) c.loop-i.work.probed c.args.work.now.probed i.reached i.probed
 
-pub returns-in_err-name_series-clause-fetched : goal.returns-in_err-name_series-clause-fetched
-returns-in_err-name_series-clause-fetched g c =
+pub returns-in_err-make_ready-clause-fetched : goal.returns-in_err-make_ready-clause-fetched
+returns-in_err-make_ready-clause-fetched g c =
     let k = c.args.self.now in
     let at = c.args.at.now in
     reads_stay k.range.0 c.args.store.now k.series k.reached k.reached (reach_all k.range.0 k.reached k.moment at) k.moment at c.args.work.now.fetched c.args.work.now.fetched c.requires.follow refl (omega arith)
 
-pub returns-in_err-name_series-clause-probed : goal.returns-in_err-name_series-clause-probed
-returns-in_err-name_series-clause-probed g c =
+pub returns-in_err-make_ready-clause-probed : goal.returns-in_err-make_ready-clause-probed
+returns-in_err-make_ready-clause-probed g c =
     let k = c.args.self.now in
     let at = c.args.at.now in
     searches_stay k.range.0 k.series k.reached k.reached (reach_all k.range.0 k.reached k.moment at) k.moment at c.args.work.now.probed c.args.work.now.probed refl (omega arith)
