@@ -1,5 +1,5 @@
 -- Values by places: one more of them, and what is kept of each place.
-use Rattle.std.proofs.Common.{◌≡◌, ◌∙◌, ◌<◌, ◌≤◌, ℕ, zero, suc, arith, Bool, true, false, cond, List, [], ◌∷◌, ◌++◌, length, slice_get, refl, sym, ap, subst, Some}
+use Rattle.std.proofs.Common.{◌≡◌, ◌∙◌, ◌<◌, ◌≤◌, ℕ, zero, suc, arith, Bool, true, false, cond, List, [], ◌∷◌, ◌++◌, length, slice_get, get_or, take, ◌+◌, refl, sym, ap, subst, Some}
 use Rattle.std.specs.Prelude.{◌==◌, ◌||◌, not, filter, fold, slice_set, if◌then◌else◌}
 use Rattle.std.specs.List.{AllByRecursion}
 use Rattle.std.specs.Map.{keys_of, values_of}
@@ -174,7 +174,12 @@ apart_shuffled _ _ (swapped x y xs) a = (
     later false b e = e
 apart_shuffled _ _ (joined xs ys zs s t) a = apart_shuffled ys zs t (apart_shuffled xs ys s a)
 
--- ---- lists that are changed at one place
+-- ---- lists that are read or changed at one place
+
+pub take_more : {A : Type 0} (xs : List A) (i : ℕ) (d : A) → i < length xs → take (i + 1) xs ≡ take i xs ++ get_or xs i d ∷ []
+take_more [] i d l = absurd (omega arith)
+take_more (x ∷ xs) zero d l = refl
+take_more (x ∷ xs) (suc i) d l = let e : suc i + 1 ≡ suc (i + 1) = omega arith in rw e (ap (λ r. x ∷ r) (take_more xs i d (omega arith)))
 
 pub set_here : {A : Type 0} (xs : List A) (i : ℕ) (y : A) → i < length xs → slice_get (slice_set xs i y) i ≡ Some y
 set_here [] i y l = absurd (omega arith)

@@ -17,7 +17,7 @@ use Rattle.op_aggregate.specs.Places.{AreTallied, IsReady, AreReady, has_place, 
 use Rattle.op_aggregate.specs.Tallies.{HasRoom, group_of}
 use Rattle.op_aggregate.specs.declared.groups.Groups.{Groups}
 use Rattle.op_aggregate.specs.declared.tally.Group.{Group}
-use Rattle.op_aggregate.proofs.AtPlaces.{Item, all_append, all_there, has_append, has_key, or_none, has_values, places_more, same_place, set_here, set_there, tests_itself, values_all, values_few, values_more}
+use Rattle.op_aggregate.proofs.AtPlaces.{Item, all_append, all_there, has_append, has_key, or_none, has_values, places_more, same_place, set_here, set_there, take_more, tests_itself, values_all, values_few, values_more}
 use Rattle.op_aggregate.proofs.Tallying.{has_numbers, has_room}
 
 -- ---- the group at a place
@@ -98,11 +98,6 @@ place_within n places i p l e a = subst (λ (q : ℕ). q < n) (sym e) (at places
     at [] i l a = absurd (omega arith)
     at (x ∷ places) zero l a = a.0
     at (x ∷ places) (suc i) l a = at places i (omega arith) a.1
-
-take_more : {A : Type 0} (xs : List A) (i : ℕ) (d : A) → i < length xs → take (i + 1) xs ≡ take i xs ++ get_or xs i d ∷ []
-take_more [] i d l = absurd (omega arith)
-take_more (x ∷ xs) zero d l = refl
-take_more (x ∷ xs) (suc i) d l = let e : suc i + 1 ≡ suc (i + 1) = omega arith in rw e (ap (λ r. x ∷ r) (take_more xs i d (omega arith)))
 
 pub items_more : (places : List ℕ) (slots : List Slot) (i p : ℕ) (s : Slot) → i < length slots → s ≡ get_or slots i s → p ≡ slice_index_or places s.place 0
     → items_at places (take (i + 1) slots) ≡ items_at places (take i slots) ++ (p, s.value) ∷ []

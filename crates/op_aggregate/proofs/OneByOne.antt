@@ -27,7 +27,7 @@ use Rattle.xfrac.specs.declared.value.XFrac.{XFrac}
 use Rattle.op_aggregate.specs.Places.{AreApart, AreReady, IsReady, group_made, groups_made, has_place, overflow_if}
 use Rattle.op_aggregate.specs.Tallies.{group_value, or_overflow}
 use Rattle.op_aggregate.specs.declared.tally.Group.{Group}
-use Rattle.op_aggregate.proofs.AtPlaces.{here_first}
+use Rattle.op_aggregate.proofs.AtPlaces.{here_first, or_none, take_more}
 
 abbrev Entry : Type 0
 Entry = Names × XFrac
@@ -90,11 +90,6 @@ unite_overflow front put now at marks more es fs ms p n m f =
 
 -- ---- groups
 
-take_more : {A : Type 0} (xs : List A) (i : ℕ) (d : A) → i < length xs → take (i + 1) xs ≡ take i xs ++ get_or xs i d ∷ []
-take_more [] i d l = absurd (omega arith)
-take_more (x ∷ xs) zero d l = refl
-take_more (x ∷ xs) (suc i) d l = let e : suc i + 1 ≡ suc (i + 1) = omega arith in rw e (ap (λ r. x ∷ r) (take_more xs i d (omega arith)))
-
 one_made : (f : Aggregate) (labels : List Names) (all : List Group) (p : ℕ) (value : Option XFrac) → option_map (group_value f) (slice_get all p) ≡ Some value
     → groups_made f labels all (p ∷ []) ≡ record { labels = slice_index_or labels p []; value = or_overflow value } ∷ []
 one_made f labels all p value e = told (slice_get all p) e
@@ -128,10 +123,6 @@ rows_more f labels all places i p value l e v =
 
 mark_more : (b : Bool) (value : Option XFrac) (ms : List Mark) (names : Names) → overflow_if b ≡ set_of mark_cmp ms → overflow_if (b || is_none value) ≡ set_of mark_cmp (ms ++ option_to_list (outcomes.mark_of (record { labels = names; value = or_overflow value })))
 mark_more b (Some v) ms names e = ap overflow_if (or_none b) ∙ e ∙ ap (set_of mark_cmp) (sym (append-nil ms))
-  where
-    or_none : (b : Bool) → (b || false) ≡ b
-    or_none true = refl
-    or_none false = refl
 mark_more b None ms names e = sym (insert b) ∙ ap (λ (z : List Mark). insert_key mark_cmp z Overflow) e ∙ sym (set_more mark_cmp ms Overflow)
   where
     insert : (b : Bool) → insert_key mark_cmp (overflow_if b) Overflow ≡ overflow_if (b || true)

@@ -1,5 +1,5 @@
 -- Where labels are apart each group has one item, and an operator between vectors goes pair by pair.
-use Rattle.std.proofs.Common.{◌≡◌, ◌∙◌, Bool, true, false, cond, List, [], ◌∷◌, ◌++◌, map, refl, sym, ap, subst, Option, Some, None}
+use Rattle.std.proofs.Common.{◌≡◌, ◌∙◌, Bool, true, false, cond, List, [], ◌∷◌, ◌++◌, map, refl, sym, ap, subst, Some, None}
 use Rattle.std.specs.Prelude.{filter, if◌then◌else◌}
 use Rattle.std.specs.BTreeMap.{is_at}
 use Rattle.std.specs.List.{AllByRecursion, cons_option, filter_map}
@@ -8,24 +8,22 @@ use Rattle.std.specs.Map.{keys_of, values_of}
 use Rattle.std.specs.declared.cmp.Ordering.{Ordering}
 use Rattle.std.specs.declared.cmp.Ordering.TheVariants.{Equal, Less, Greater}
 use Rattle.std.specs.Ordering.{is_eq}
-use Rattle.label_set.specs.LabelOrder.{labels_cmp_ties, labels_cmp_total}
+use Rattle.label_set.specs.LabelOrder.{labels_cmp_ties}
 use Rattle.label_set.specs.Labels.{labels_cmp}
 use Rattle.label_set.specs.declared.rules.Card.{Card}
-use Rattle.label_set.specs.declared.rules.Pairing.{Pairing}
 use Rattle.step_table.specs.AllGathered.{all_gathered, all_in}
 use Rattle.step_table.specs.Groups.{Names, alone, gathered, has_several, items_of, lone_items, names_among, shared_names, shared_of}
 use Rattle.step_table.specs.Laws.{SettledIsWellFormed}
-use Rattle.step_table.specs.Matching.{by_signature, clash_mark, crowded, duplicates, faults_of, left_rows, matches, pair_marks, pair_rows, uncrowded}
+use Rattle.step_table.specs.Matching.{by_signature, clash_mark, crowded, duplicates, faults_of, matches, uncrowded}
 use Rattle.step_table.specs.Operators.{is_grouped}
 use Rattle.step_table.specs.Outcomes.{keyed}
-use Rattle.step_table.specs.Shuffles.{Shuffled, joined}
+use Rattle.step_table.specs.Shuffles.{Shuffled}
 use Rattle.step_table.specs.Shuffling.{from_permutation, itself, lone_shuffled, mapped_shuffled, shared_shuffled}
-use Rattle.step_table.specs.WellFormed.{IsTable}
 use Rattle.step_table.specs.declared.marks.Mark.{Mark}
 use Rattle.step_table.specs.declared.marks.Mark.TheVariants.{DuplicateOneSide, ImplicitManyToOne}
 use Rattle.step_table.specs.declared.step.Row.{Row}
-use Rattle.xfrac.specs.declared.value.PairOp.{PairOp}
-use Rattle.op_match.specs.Apart.{AreApart, IsClear, IsPairByPair, PairsAreTaken, pairs_left}
+use Rattle.op_match.specs.Apart.{AreApart, PairsAreTaken, pairs_left}
+use Rattle.op_match.proofs.Lists.{none_behind}
 
 -- ---- groups of one item
 
@@ -97,10 +95,6 @@ uncrowded_all card left a =
 keyed_values : (rows : List Row) → values_of (keyed rows) ≡ rows
 keyed_values [] = refl
 keyed_values (row ∷ rows) = ap (λ rs. row ∷ rs) (keyed_values rows)
-
-none_behind : {A : Type 0} (xs : List A) → xs ++ [] ≡ xs
-none_behind [] = refl
-none_behind (x ∷ xs) = ap (λ ys. x ∷ ys) (none_behind xs)
 
 only_marks : (a b c d : List Mark) → a ≡ [] → c ≡ [] → d ≡ [] → a ++ b ++ c ++ d ≡ b
 only_marks a b c d e f g = (λ i. e i ++ b ++ f i ++ g i) ∙ none_behind (b ++ []) ∙ none_behind b

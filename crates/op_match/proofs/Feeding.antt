@@ -1,5 +1,5 @@
 -- Steps that are fed one after another, in pairs of one instant.
-use Rattle.std.proofs.Common.{◌≡◌, ◌∙◌, ◌+◌, ◌<◌, ◌≤◌, ℕ, zero, suc, arith, List, [], ◌∷◌, ◌++◌, length, slice_get, take, drop, map, refl, sym, ap, subst, Some}
+use Rattle.std.proofs.Common.{◌≡◌, ◌∙◌, ◌+◌, ◌<◌, ℕ, zero, suc, arith, List, [], ◌∷◌, ◌++◌, length, slice_get, take, drop, map, refl, sym, ap, subst, Some}
 use Rattle.std.specs.Prelude.{◌<ℤ◌, ⊤}
 use Rattle.std.specs.Option.{option_map}
 use Rattle.step_batch.specs.Lent.{InstantsRise, IsLater, LaterThanLast, Lent, entries_of, stage_of, step_of}
@@ -12,6 +12,8 @@ use Rattle.ticks.specs.declared.moment.Ms.{Ms}
 use Rattle.label_set.specs.declared.rules.Pairing.{Pairing}
 use Rattle.xfrac.specs.declared.value.PairOp.{PairOp}
 use Rattle.op_match.specs.Joins.{joined, joined_at}
+use Rattle.op_match.proofs.Keeping.{some_is}
+use Rattle.op_match.proofs.Lists.{some_there}
 
 -- ---- instants
 
@@ -42,24 +44,21 @@ time_some (s ∷ steps) (suc i) l = time_some steps i (omega arith)
 
 -- ---- stages
 
-unsome : {A : Type 0} (a b : A) → Some a ≡ Some b → a ≡ b
-unsome a b e = cc
-
 -- a stage by what is told of its step
 pub step_here : (labels : List Names) (steps : List PlacedStep) (i : ℕ) (slots : List Slot) (marks : Marks) (f : StepAt)
     → option_map (λ (s : PlacedStep). s.slots) (slice_get steps i) ≡ Some slots → option_map (λ (s : PlacedStep). s.marks) (slice_get steps i) ≡ Some marks
     → slice_get (map (stage_of labels) steps) i ≡ Some f → f.step ≡ step_of (entries_of labels slots) marks
 step_here labels [] i slots marks f b c e = absurd (cc)
 step_here labels (s ∷ steps) zero slots marks f b c e =
-    let slots_are : s.slots ≡ slots = unsome s.slots slots b in
-    let marks_are : s.marks ≡ marks = unsome s.marks marks c in
+    let slots_are : s.slots ≡ slots = some_is s.slots slots b in
+    let marks_are : s.marks ≡ marks = some_is s.marks marks c in
     let told : step_of (entries_of labels s.slots) s.marks ≡ step_of (entries_of labels slots) marks = λ j. step_of (entries_of labels (slots_are j)) (marks_are j) in
-    ap (λ (z : StepAt). z.step) (sym (unsome (stage_of labels s) f e)) ∙ told
+    ap (λ (z : StepAt). z.step) (sym (some_is (stage_of labels s) f e)) ∙ told
 step_here labels (s ∷ steps) (suc i) slots marks f b c e = step_here labels steps i slots marks f b c e
 
 pub time_here : (labels : List Names) (steps : List PlacedStep) (i : ℕ) (t : Ms) (f : StepAt) → option_map (λ (s : PlacedStep). s.at) (slice_get steps i) ≡ Some t → slice_get (map (stage_of labels) steps) i ≡ Some f → f.at ≡ t
 time_here labels [] i t f b e = absurd (cc)
-time_here labels (s ∷ steps) zero t f b e = ap (λ (z : StepAt). z.at) (sym (unsome (stage_of labels s) f e)) ∙ unsome s.at t b
+time_here labels (s ∷ steps) zero t f b e = ap (λ (z : StepAt). z.at) (sym (some_is (stage_of labels s) f e)) ∙ some_is s.at t b
 time_here labels (s ∷ steps) (suc i) t f b e = time_here labels steps i t f b e
 
 pub stage_here : (labels : List Names) (steps : List PlacedStep) (i : ℕ) (t : Ms) (slots : List Slot) (marks : Marks) (f : StepAt)
@@ -69,11 +68,6 @@ stage_here labels steps i t slots marks f a b c e =
     let at : f.at ≡ t = time_here labels steps i t f a e in
     let step : f.step ≡ step_of (entries_of labels slots) marks = step_here labels steps i slots marks f b c e in
     λ j. record { at = at j; step = step j }
-
-pub some_here : {A : Type 0} (xs : List A) (i : ℕ) → i < length xs → (x : A) × (slice_get xs i ≡ Some x)
-some_here [] i l = absurd (omega arith)
-some_here (x ∷ xs) zero l = (x, refl)
-some_here (x ∷ xs) (suc i) l = some_here xs i (omega arith)
 
 -- ---- what is joined
 
@@ -91,19 +85,13 @@ joined_more op p (a ∷ ls) (b ∷ rs) (suc i) l r x y =
 pub lent_more : (op : PairOp) (p : Pairing) (ls rs old new : List StepAt) (i : ℕ) → i < length ls → i < length rs → old ≡ joined op p (take i ls) (take i rs)
     → ((l r : StepAt) → slice_get ls i ≡ Some l → slice_get rs i ≡ Some r → new ≡ old ++ joined_at op p l r ∷ []) → new ≡ joined op p (take (i + 1) ls) (take (i + 1) rs)
 lent_more op p ls rs old new i x y o n =
-    let l = some_here ls i x in
-    let r = some_here rs i y in
+    let l = some_there ls i x in
+    let r = some_there rs i y in
     n l.0 r.0 l.1 r.1 ∙ ap (λ (w : List StepAt). w ++ joined_at op p l.0 r.0 ∷ []) o ∙ sym (joined_more op p ls rs i l.0 r.0 l.1 r.1)
 
 pub count_of : {A B : Type 0} (f : A → B) (xs : List A) → length (map f xs) ≡ length xs
 count_of f [] = refl
 count_of f (x ∷ xs) = ap suc (count_of f xs)
-
-pub whole : {A : Type 0} (xs : List A) (i : ℕ) → length xs ≤ i → take i xs ≡ xs
-whole [] zero l = refl
-whole [] (suc i) l = refl
-whole (x ∷ xs) zero l = absurd (omega arith)
-whole (x ∷ xs) (suc i) l = ap (λ r. x ∷ r) (whole xs i (omega arith))
 
 -- ---- both sides at one instant
 

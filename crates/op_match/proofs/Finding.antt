@@ -1,8 +1,8 @@
 -- The pairs that are found, row by row of the many side.
-use Rattle.std.proofs.Common.{◌≡◌, ◌∙◌, ◌<◌, ◌≤◌, ◌+◌, ℕ, zero, suc, arith, Bool, true, false, cond, List, [], ◌∷◌, ◌++◌, map, length, get_or, take, refl, sym, ap, subst, Option, Some, None}
+use Rattle.std.proofs.Common.{◌≡◌, ◌∙◌, ◌<◌, ◌≤◌, ◌+◌, ℕ, zero, suc, arith, true, false, List, [], ◌∷◌, ◌++◌, map, length, get_or, take, refl, sym, ap, subst, Option, Some, None}
 use Rattle.std.specs.Prelude.{⊤, Result, Ok, Err, slice_get}
 use Rattle.std.specs.BTreeMap.{is_at}
-use Rattle.std.specs.List.{AllByRecursion, IsDistinct, cons_option, filter_map}
+use Rattle.std.specs.List.{AllByRecursion, IsDistinct, cons_option}
 use Rattle.std.specs.Map.{keys_of, values_of}
 use Rattle.std.specs.Ordering.{is_eq}
 use Rattle.std.specs.Option.{option_map, option_to_list}
@@ -13,7 +13,7 @@ use Rattle.label_set.specs.LabelOrder.{labels_cmp_total, labels_eq_at, labels_eq
 use Rattle.label_set.specs.Labels.{labels_cmp, signature}
 use Rattle.label_set.specs.declared.rules.Pairing.{Pairing}
 use Rattle.std.proofs.lemmas.Cmp.{tied_itself}
-use Rattle.step_batch.specs.Lent.{SlotsRise, entries_of, entry_of, row_of}
+use Rattle.step_batch.specs.Lent.{SlotsRise, entries_of, row_of}
 use Rattle.step_batch.specs.declared.steps.Slot.{Slot}
 use Rattle.step_put.specs.Puts.{AreAt}
 use Rattle.step_table.specs.Groups.{Names, alone, items_of}
@@ -33,7 +33,7 @@ use Rattle.op_match.specs.Noted.{AreBelow, IsNoted}
 use Rattle.op_match.specs.Places.{AreFound, ArePairs, ArePut, IsAdded, IsAt, IsNumbered, Stays, names_fed, rows_in}
 use Rattle.op_match.specs.declared.meeting.Found.{Found}
 use Rattle.op_match.specs.declared.sides.Fed.{Fed}
-use Rattle.op_match.proofs.Lists.{there, within}
+use Rattle.op_match.proofs.Lists.{none_behind, there, within}
 
 -- ---- places of labels that are apart
 
@@ -151,10 +151,6 @@ matches_more op p done row ones = filter_map-append (match_of op p ones) done (r
     alone_is (Some m) = refl
 
 -- ---- what is found
-
-none_behind : {A : Type 0} (xs : List A) → xs ++ [] ≡ xs
-none_behind [] = refl
-none_behind (x ∷ xs) = ap (λ ys. x ∷ ys) (none_behind xs)
 
 pub put_stays : (before after : List Names) (slots : List Slot) (rows : List Row) → Stays before after → ArePut before slots rows → ArePut after slots rows
 put_stays before after [] [] s a = tt

@@ -1,5 +1,5 @@
 -- Labels of pairs that are kept, while labels are added.
-use Rattle.std.proofs.Common.{◌≡◌, ◌∙◌, ◌<◌, ℕ, zero, suc, arith, Bool, true, false, List, [], ◌∷◌, map, length, get_or, refl, sym, ap, subst, Option, Some, None}
+use Rattle.std.proofs.Common.{◌≡◌, ◌∙◌, ◌<◌, ℕ, zero, suc, Bool, true, false, List, [], ◌∷◌, length, get_or, refl, sym, ap, subst, Option, Some, None}
 use Rattle.std.specs.Prelude.{slice_get, if◌then◌else◌, IsTrue}
 use Rattle.std.proofs.Math.ListN.{set}
 use Rattle.label_set.specs.declared.rules.Pairing.{Pairing}

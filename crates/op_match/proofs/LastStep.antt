@@ -16,7 +16,7 @@ use Rattle.step_batch.specs.declared.steps.PlacedStep.{PlacedStep}
 use Rattle.step_batch.specs.declared.steps.Slot.{Slot}
 use Rattle.step_table.specs.Groups.{Names}
 use Rattle.step_table.specs.Laws.{PairedIsWellFormed}
-use Rattle.step_table.specs.Matching.{is_empty, many_side, one_side, pair_marks, pair_rows, paired}
+use Rattle.step_table.specs.Matching.{is_empty, paired}
 use Rattle.step_table.specs.Shuffles.{AreAlike, PairedIgnoresOrder, Shuffled, TableIsOneOrder, joined}
 use Rattle.step_table.specs.Shuffling.{turned_back}
 use Rattle.step_table.specs.Timed.{StepAt}
@@ -36,7 +36,7 @@ use Rattle.op_match.specs.declared.renewal.Matching.{Matching}
 use Rattle.op_match.specs.declared.sides.Fed.{Fed}
 use Rattle.op_match.proofs.Keeping.{keeps_on}
 use Rattle.op_match.proofs.Rising.{more_room}
-use Rattle.op_match.proofs.Lists.{there, took}
+use Rattle.op_match.proofs.Lists.{there}
 
 -- ---- values in the last step
 

@@ -1,5 +1,5 @@
 -- Lists by their places, and pairs that are put one after another.
-use Rattle.std.proofs.Common.{◌≡◌, ◌∙◌, ◌<◌, ◌+◌, ℕ, zero, suc, arith, Bool, true, false, List, [], ◌∷◌, ◌++◌, length, get_or, take, drop, refl, sym, ap, subst, add-one, Option, Some, None}
+use Rattle.std.proofs.Common.{◌≡◌, ◌∙◌, ◌<◌, ◌≤◌, ◌+◌, ℕ, zero, suc, arith, Bool, true, false, List, [], ◌∷◌, ◌++◌, length, get_or, take, drop, refl, sym, ap, subst, add-one, Option, Some, None}
 use Rattle.std.specs.Prelude.{◌&&◌, slice_get, is_some, IsTrue, Result, Ok, Err, IfOk, OnOk}
 use Rattle.std.proofs.Math.ListN.{set}
 use Rattle.label_set.specs.Labels.{put_refusal, with_pair}
@@ -40,6 +40,16 @@ took [] i d h = absurd (omega arith)
 took (x ∷ xs) zero d h = refl
 took (x ∷ xs) (suc i) d h = let e : suc i + 1 ≡ suc (i + 1) = omega arith in rw e (ap (λ rs. x ∷ rs) (took xs i d (omega arith)))
 
+pub whole : {A : Type 0} (xs : List A) (i : ℕ) → length xs ≤ i → take i xs ≡ xs
+whole [] zero l = refl
+whole [] (suc i) l = refl
+whole (x ∷ xs) zero l = absurd (omega arith)
+whole (x ∷ xs) (suc i) l = ap (λ r. x ∷ r) (whole xs i (omega arith))
+
+pub none_behind : {A : Type 0} (xs : List A) → xs ++ [] ≡ xs
+none_behind [] = refl
+none_behind (x ∷ xs) = ap (λ ys. x ∷ ys) (none_behind xs)
+
 -- ---- what holds of each item by its place
 
 module _ {A : Type 0} where
@@ -61,18 +71,11 @@ module _ {A : Type 0} where
   stays_more (z ∷ xs) y zero x e = e
   stays_more (z ∷ xs) y (suc j) x e = stays_more xs y j x e
 
-  -- of a front, and of a list with its front
   pub from_front : (n : ℕ) (xs : List A) (j : ℕ) (x : A) → slice_get (take n xs) j ≡ Some x → slice_get xs j ≡ Some x
   from_front zero xs j x e = absurd (cc)
   from_front (suc n) [] j x e = absurd (cc)
   from_front (suc n) (y ∷ xs) zero x e = e
   from_front (suc n) (y ∷ xs) (suc j) x e = from_front n xs j x e
-
-  pub in_front : (n : ℕ) (xs : List A) (j : ℕ) (x : A) → j < n → slice_get xs j ≡ Some x → slice_get (take n xs) j ≡ Some x
-  in_front zero xs j x l e = absurd (omega arith)
-  in_front (suc n) [] j x l e = absurd (cc)
-  in_front (suc n) (y ∷ xs) zero x l e = e
-  in_front (suc n) (y ∷ xs) (suc j) x l e = in_front n xs j x (omega arith) e
 
 pub is_none : {A : Type 0} (o : Option A) → is_some o ≡ false → o ≡ None
 is_none None e = refl

@@ -1,5 +1,5 @@
 -- Labels that are fed, with the numbers of their signatures.
-use Rattle.std.proofs.Common.{◌≡◌, ◌∙◌, ◌<◌, ◌≤◌, ◌+◌, ℕ, zero, suc, arith, List, [], ◌∷◌, ◌++◌, map, length, get_or, take, refl, sym, ap, subst, Some, None}
+use Rattle.std.proofs.Common.{◌≡◌, ◌∙◌, ◌<◌, ◌≤◌, ◌+◌, ℕ, zero, suc, arith, List, [], ◌∷◌, ◌++◌, length, take, refl, sym, ap, subst, Some}
 use Rattle.std.specs.Option.{option_map}
 use Rattle.std.specs.Prelude.{slice_get}
 use Rattle.std.proofs.Math.ListN.{set}
@@ -8,7 +8,7 @@ use Rattle.label_set.specs.declared.rules.Pairing.{Pairing}
 use Rattle.step_table.specs.Groups.{Names}
 use Rattle.op_match.specs.Places.{IsNumbered, Stays, names_fed}
 use Rattle.op_match.specs.declared.sides.Fed.{Fed}
-use Rattle.op_match.proofs.Lists.{each_more, each_set, stays_more, took}
+use Rattle.op_match.proofs.Lists.{each_more, each_set, stays_more, from_front, whole}
 
 abbrev HasNumber : List Names → Pairing → Fed → Type 0
 HasNumber set p f = slice_get set f.number ≡ Some (signature p.on p.names f.labels)
@@ -56,16 +56,4 @@ fed_stays side f j names e = subst (λ (ns : List Names). slice_get ns j ≡ Som
 
 -- the labels that are fed are a front
 pub front_stays : (labels : List Names) (side : List Fed) (i : ℕ) → length labels ≤ i → take i (names_fed side) ≡ take i labels → Stays labels (names_fed side)
-front_stays labels side i l e j names h = from i (names_fed side) j names (subst (λ (ns : List Names). slice_get ns j ≡ Some names) (sym (e ∙ whole labels i l)) h)
-  where
-    from : (n : ℕ) (xs : List Names) (j : ℕ) (x : Names) → slice_get (take n xs) j ≡ Some x → slice_get xs j ≡ Some x
-    from zero xs j x e = absurd (cc)
-    from (suc n) [] j x e = absurd (cc)
-    from (suc n) (y ∷ xs) zero x e = e
-    from (suc n) (y ∷ xs) (suc j) x e = from n xs j x e
-
-    whole : (xs : List Names) (i : ℕ) → length xs ≤ i → take i xs ≡ xs
-    whole [] zero l = refl
-    whole [] (suc i) l = refl
-    whole (x ∷ xs) zero l = absurd (omega arith)
-    whole (x ∷ xs) (suc i) l = ap (λ r. x ∷ r) (whole xs i (omega arith))
+front_stays labels side i l e j names h = from_front i (names_fed side) j names (subst (λ (ns : List Names). slice_get ns j ≡ Some names) (sym (e ∙ whole labels i l)) h)

@@ -1,10 +1,9 @@
 -- Numbers that are noted by where they stand.
-use Rattle.std.proofs.Common.{◌≡◌, ◌∙◌, ◌<◌, ◌≤◌, ◌+◌, ℕ, zero, suc, arith, List, [], ◌∷◌, ◌++◌, length, get_or, take, refl, sym, ap, subst, Some, None}
+use Rattle.std.proofs.Common.{◌≡◌, ◌∙◌, ◌<◌, ◌≤◌, ◌+◌, ℕ, zero, suc, arith, List, [], ◌∷◌, ◌++◌, length, get_or, take, refl, sym, ap, subst, Some}
 use Rattle.std.specs.Prelude.{slice_get}
-use Rattle.std.specs.List.{AllByRecursion}
 use Rattle.std.proofs.Math.ListN.{set}
 use Rattle.op_match.specs.Noted.{AreBelow, IsNoted}
-use Rattle.op_match.proofs.Lists.{from_front, took, within}
+use Rattle.op_match.proofs.Lists.{from_front, took, within, whole}
 
 pub below : (bound : ℕ) (keys : List ℕ) (i k : ℕ) → AreBelow bound keys → slice_get keys i ≡ Some k → k < bound
 below bound [] i k a e = absurd (cc)
@@ -46,9 +45,3 @@ note_more at keys i key d l is room none noted j k e =
 
 pub noted_whole : (at keys : List ℕ) (i : ℕ) → length keys ≤ i → IsNoted at (take i keys) → IsNoted at keys
 noted_whole at keys i l = subst (IsNoted at) (whole keys i l)
-  where
-    whole : (xs : List ℕ) (i : ℕ) → length xs ≤ i → take i xs ≡ xs
-    whole [] zero l = refl
-    whole [] (suc i) l = refl
-    whole (x ∷ xs) zero l = absurd (omega arith)
-    whole (x ∷ xs) (suc i) l = ap (λ r. x ∷ r) (whole xs i (omega arith))

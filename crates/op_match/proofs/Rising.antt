@@ -1,5 +1,5 @@
 -- Values at rising places.
-use Rattle.std.proofs.Common.{◌≡◌, ◌∙◌, ◌+◌, ◌<◌, ◌≤◌, ℕ, zero, suc, arith, Bool, true, false, List, [], ◌∷◌, length, get_or, take, drop, refl, sym, ap, subst, Option, Some, None}
+use Rattle.std.proofs.Common.{◌≡◌, ◌∙◌, ◌+◌, ◌<◌, ◌≤◌, ℕ, zero, suc, arith, Bool, true, false, List, [], ◌∷◌, length, get_or, drop, refl, sym, ap, subst, Option, Some}
 use Rattle.std.specs.Prelude.{◌&&◌, IsTrue, nat_lt, slice_get}
 use Rattle.std.specs.List.{AllByRecursion}
 use Rattle.step_batch.specs.Lent.{SlotsRise}
@@ -30,12 +30,6 @@ rise_below low high last [] a w t = tt
 rise_below low high last (s ∷ slots) a w t =
     let both = parts (is_behind last s.place) (do_rise (Some s.place) slots) t in
     (w s.place both.0, a.0, rise_below (s.place + 1) high (Some s.place) slots a.1 (λ n h. behind_is s.place n h) both.1)
-
-pub whole : {A : Type 0} (xs : List A) (i : ℕ) → length xs ≤ i → take i xs ≡ xs
-whole [] zero l = refl
-whole [] (suc i) l = refl
-whole (x ∷ xs) zero l = absurd (omega arith)
-whole (x ∷ xs) (suc i) l = ap (λ r. x ∷ r) (whole xs i (omega arith))
 
 pub place_within : (low high : ℕ) (slots : List Slot) (i : ℕ) (s : Slot) → i < length slots → s ≡ get_or slots i s → SlotsRise low high slots → s.place < high
 place_within low high slots i s l is r = subst (λ (z : Slot). z.place < high) (sym is) (at low slots i l r)

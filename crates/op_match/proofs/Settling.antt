@@ -1,8 +1,8 @@
 -- What is found is what the operator makes of both sides.
-use Rattle.std.proofs.Common.{◌≡◌, ◌∙◌, ◌<◌, ◌≤◌, ◌+◌, ℕ, zero, suc, arith, Bool, true, false, cond, List, [], ◌∷◌, ◌++◌, map, length, get_or, refl, sym, ap, subst, Option, Some, None}
-use Rattle.std.specs.Prelude.{◌||◌, ⊤, IsTrue, slice_get, if◌then◌else◌}
+use Rattle.std.proofs.Common.{◌≡◌, ◌∙◌, ◌<◌, ◌+◌, ℕ, arith, Bool, true, false, List, [], ◌∷◌, map, length, refl, sym, ap, subst, Option, None}
+use Rattle.std.specs.Prelude.{◌||◌, IsTrue, if◌then◌else◌}
 use Rattle.std.specs.BTreeMap.{is_at}
-use Rattle.std.specs.List.{AllByRecursion, IsDistinct, cons_option, filter_map}
+use Rattle.std.specs.List.{AllByRecursion, IsDistinct, cons_option}
 use Rattle.std.specs.List.Sorted.{IsPermutation, IsStrictlySortedBy}
 use Rattle.std.specs.Map.{keys_of, values_of}
 use Rattle.std.specs.Option.{option_map}
@@ -17,13 +17,12 @@ use Rattle.step_put.specs.Placed.{do_rise}
 use Rattle.step_put.specs.Puts.{AreAt}
 use Rattle.step_table.specs.Gathering.{nothing_more}
 use Rattle.step_table.specs.Groups.{Names}
-use Rattle.step_table.specs.Matching.{by_signature, faults_of, is_empty, many_side, matches, one_side, pair_marks, pair_rows, paired}
+use Rattle.step_table.specs.Matching.{by_signature, is_empty, many_side, one_side, pair_marks, pair_rows, paired}
 use Rattle.step_table.specs.Operators.{is_grouped, is_left_one}
 use Rattle.step_table.specs.Outcomes.{keyed}
 use Rattle.step_table.specs.Shuffles.{Shuffled, joined, kept, none, swapped}
-use Rattle.step_table.specs.Shuffling.{chosen_shuffled, from_permutation, itself, mapped_shuffled, to_permutation, turned_back}
+use Rattle.step_table.specs.Shuffling.{chosen_shuffled, from_permutation, mapped_shuffled, to_permutation, turned_back}
 use Rattle.step_table.specs.Unions.{united, with_fatal}
-use Rattle.step_table.specs.WellFormed.{IsTable}
 use Rattle.step_table.specs.declared.marks.Mark.{Mark}
 use Rattle.step_table.specs.declared.marks.Marks.{Marks}
 use Rattle.step_table.specs.declared.step.Row.{Row}

@@ -1,6 +1,6 @@
 -- What an operator between two vectors comes to where nothing fails: no two rows of the one side share a signature, no two
 -- pairs share labels and, without a group word, none a signature. (This project's own.)
-use Rattle.std.specs.Prelude.{◌≡◌, Bool, false, List, [], ◌∷◌, ⊤}
+use Rattle.std.specs.Prelude.{◌≡◌, false, List, [], ◌∷◌, ⊤}
 use Rattle.std.specs.BTreeMap.{is_at}
 use Rattle.std.specs.List.{AllByRecursion}
 use Rattle.std.specs.Map.{keys_of, values_of}

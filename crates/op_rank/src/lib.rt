@@ -1,5 +1,5 @@
 //! The aggregations that rank rows, topk, bottomk and quantile, over steps that are lent.
-//! Its rows of tests stand in `kernel_tests`.
+//! Its rows of tests stand in `vector_tests`.
 #![tactic(auto)]
 
 mod contenders;

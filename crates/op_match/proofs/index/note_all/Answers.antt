@@ -1,5 +1,5 @@
 use Rattle.std.specs.Prelude.{slice_get}
-use Rattle.std.proofs.Common.{◌∙◌, ◌<◌, ℕ, arith, length, get_or, refl, sym, subst, ap}
+use Rattle.std.proofs.Common.{◌∙◌, ◌<◌, ℕ, length, get_or, refl, sym, subst, ap}
 use Rattle.std.proofs.lemmas.List.{length-set}
 use Rattle.op_match.proofs.Lists.{is_none, there}
 use Rattle.op_match.proofs.Numbers.{below, note_more, noted_whole}

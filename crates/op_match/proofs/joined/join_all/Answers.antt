@@ -1,10 +1,11 @@
-use Rattle.std.proofs.Common.{◌≡◌, ◌∙◌, ◌<◌, ◌≤◌, ◌++◌, ◌∷◌, [], ℕ, arith, length, map, refl, sym, ap, subst, take}
+use Rattle.std.proofs.Common.{◌∙◌, ◌<◌, ◌≤◌, ◌++◌, ◌∷◌, [], arith, length, map, refl, sym, ap, subst}
 use Rattle.label_set.specs.declared.rules.Pairing.{Pairing}
 use Rattle.step_batch.specs.Lent.{stage_of, stages}
 use Rattle.step_batch.specs.declared.steps.PlacedStep.{PlacedStep}
-use Rattle.op_match.specs.Joins.{instants, joined, joined_at}
+use Rattle.op_match.specs.Joins.{joined, joined_at}
 use Rattle.op_match.specs.Places.{IsReady, many_of, one_of}
-use Rattle.op_match.proofs.Feeding.{count_of, follow_here, follow_next, follow_none, lent_more, time_some, whole}
+use Rattle.op_match.proofs.Lists.{whole}
+use Rattle.op_match.proofs.Feeding.{count_of, follow_here, follow_next, follow_none, lent_more, time_some}
 use Rattle.op_match.proofs.joined.join_all.Goals as goal
 
 pub loop-i-init : goal.loop-i-init

@@ -1,9 +1,7 @@
-use Rattle.std.proofs.Common.{◌≡◌, ◌∙◌, ◌≤◌, ◌++◌, ◌∷◌, [], List, ℕ, Some, arith, length, sym, ap, subst}
-use Rattle.std.specs.Prelude.{slice_get}
+use Rattle.std.proofs.Common.{◌≡◌, ◌∙◌, ◌≤◌, ◌++◌, ◌∷◌, [], List, ℕ, length, sym, ap, subst}
 use Rattle.label_set.specs.declared.rules.Pairing.{Pairing}
-use Rattle.step_batch.specs.Lent.{LaterThanLast, stages}
+use Rattle.step_batch.specs.Lent.{LaterThanLast}
 use Rattle.step_batch.specs.declared.steps.PlacedStep.{PlacedStep}
-use Rattle.step_batch.specs.declared.steps.Slot.{Slot}
 use Rattle.step_table.specs.declared.step.Row.{Row}
 use Rattle.xfrac.specs.declared.value.PairOp.{PairOp}
 use Rattle.op_match.specs.Joins.{joined_at}

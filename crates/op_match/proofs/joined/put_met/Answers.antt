@@ -2,16 +2,13 @@ use Rattle.std.proofs.Common.{◌≡◌, ◌∙◌, ◌++◌, ◌∷◌, [], Lis
 use Rattle.std.specs.List.{IsDistinct}
 use Rattle.label_set.specs.LabelEquality.{labels_eq}
 use Rattle.step_batch.specs.Lent.{Lent, SlotsRise, entries_of, stages, step_of}
-use Rattle.step_batch.specs.declared.steps.PlacedStep.{PlacedStep}
-use Rattle.step_batch.specs.declared.steps.Slot.{Slot}
 use Rattle.step_table.specs.Groups.{Names}
 use Rattle.step_table.specs.Matching.{paired}
-use Rattle.step_table.specs.Timed.{StepAt}
 use Rattle.step_table.specs.Unions.{united, with_fatal}
 use Rattle.step_table.specs.WellFormed.{IsTable}
 use Rattle.step_table.specs.declared.marks.Marks.{Marks}
 use Rattle.step_table.specs.declared.step.Step.{Step}
-use Rattle.op_match.specs.Places.{IsMade, rows_in, step_with}
+use Rattle.op_match.specs.Places.{rows_in, step_with}
 use Rattle.op_match.proofs.Feeding.{stage_here, step_here}
 use Rattle.op_match.proofs.LastStep.{clear_joined, whole_joined, whole_table}
 use Rattle.op_match.proofs.joined.put_met.Goals as goal

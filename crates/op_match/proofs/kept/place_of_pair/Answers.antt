@@ -1,4 +1,4 @@
-use Rattle.std.proofs.Common.{◌≡◌, ◌∙◌, ℕ, List, Option, Some, ap, get_or, refl, sym, subst}
+use Rattle.std.proofs.Common.{◌∙◌, List, Option, ap, get_or, sym, subst}
 use Rattle.std.specs.Prelude.{slice_get}
 use Rattle.step_table.specs.Groups.{Names}
 use Rattle.step_table.specs.Operators.{pair_labels}

@@ -1,7 +1,6 @@
-use Rattle.std.proofs.Common.{◌≡◌, ◌∙◌, ◌++◌, ◌∷◌, [], List, ap, sym, refl}
+use Rattle.std.proofs.Common.{◌∙◌, ◌++◌, ◌∷◌, [], ap, sym, refl}
 use Rattle.std.specs.Prelude.{Ok, Err, Some, None}
 use Rattle.step_batch.specs.Lent.{row_of}
-use Rattle.step_table.specs.Outcomes.{fault_mark}
 use Rattle.step_table.specs.declared.marks.Mark.{Mark}
 use Rattle.op_match.specs.declared.meeting.Found.{Found}
 use Rattle.op_match.proofs.Finding.{added_as, found_none, found_fault}

@@ -1,12 +1,11 @@
-use Rattle.std.proofs.Common.{◌≡◌, ◌∙◌, ◌<◌, List, ℕ, arith, length, get_or, Some, sym, ap, subst}
+use Rattle.std.proofs.Common.{◌≡◌, ◌∙◌, ◌<◌, List, ℕ, arith, length, Some, sym, ap, subst}
 use Rattle.std.specs.Option.{option_map}
 use Rattle.std.specs.Prelude.{slice_get}
 use Rattle.op_match.specs.declared.sides.Fed.{Fed}
-use Rattle.step_batch.specs.declared.steps.Slot.{Slot}
 use Rattle.step_batch.specs.Lent.{SlotsRise}
 use Rattle.op_match.specs.Places.{names_fed}
-use Rattle.op_match.proofs.Finding.{found_on, number_below, numbers_count, slot_more, slot_on}
-use Rattle.op_match.proofs.Lists.{on_ok, there, within}
+use Rattle.op_match.proofs.Finding.{number_below, numbers_count, slot_more, slot_on}
+use Rattle.op_match.proofs.Lists.{on_ok, within}
 use Rattle.op_match.proofs.Naming.{names_count}
 use Rattle.op_match.proofs.Rising.{slot_within}
 use Rattle.op_match.proofs.meeting.join_slot.Goals as goal

@@ -1,14 +1,15 @@
-use Rattle.std.proofs.Common.{◌≡◌, ◌∙◌, ◌<◌, ◌+◌, ◌++◌, ◌∷◌, [], ℕ, List, length, take, get_or, sym, ap, refl, subst}
+use Rattle.std.proofs.Common.{◌≡◌, ◌∙◌, ◌<◌, ◌+◌, ◌++◌, ◌∷◌, [], ℕ, List, length, take, sym, ap, subst}
 use Rattle.label_set.specs.declared.rules.Pairing.{Pairing}
 use Rattle.step_batch.specs.Lent.{Lent, SlotsRise}
 use Rattle.step_batch.specs.declared.steps.Slot.{Slot}
 use Rattle.step_table.specs.declared.step.Row.{Row}
 use Rattle.xfrac.specs.declared.value.PairOp.{PairOp}
-use Rattle.op_match.specs.Places.{ArePairs, ArePut, IsOneSide, names_fed, rows_in}
+use Rattle.op_match.specs.Places.{ArePairs, IsOneSide, names_fed, rows_in}
 use Rattle.op_match.specs.declared.sides.Fed.{Fed}
+use Rattle.op_match.proofs.Lists.{whole}
 use Rattle.op_match.proofs.Finding.{none_found, rows_more}
 use Rattle.op_match.proofs.Keeping.{after_both, after_itself, said_after, said_before}
-use Rattle.op_match.proofs.Rising.{place_within, whole}
+use Rattle.op_match.proofs.Rising.{place_within}
 use Rattle.op_match.proofs.meeting.join_slots.Goals as goal
 
 pub loop-slot-init : goal.loop-slot-init

@@ -1,4 +1,4 @@
-use Rattle.std.proofs.Common.{ℕ, Option, Some, None, subst, refl}
+use Rattle.std.proofs.Common.{subst, refl}
 use Rattle.step_table.specs.Operators.{pair_labels}
 use Rattle.op_match.specs.Places.{IsAt}
 use Rattle.op_match.specs.declared.meeting.Found.{Found}

@@ -1,9 +1,8 @@
-use Rattle.std.proofs.Common.{◌≡◌, ◌∙◌, ◌≤◌, ℕ, List, length, sym, ap, subst}
+use Rattle.std.proofs.Common.{◌∙◌, ◌≤◌, ℕ, List, length, sym, ap, subst}
 use Rattle.std.specs.List.{IsDistinct}
 use Rattle.std.specs.Map.{keys_of}
 use Rattle.label_set.specs.LabelEquality.{labels_eq}
 use Rattle.label_set.specs.declared.rules.Pairing.{Pairing}
-use Rattle.step_table.specs.Groups.{Names}
 use Rattle.step_table.specs.Matching.{by_signature}
 use Rattle.step_table.specs.Operators.{is_grouped}
 use Rattle.op_match.specs.Apart.{pairs_left}

@@ -1,11 +1,12 @@
-use Rattle.std.proofs.Common.{◌∙◌, ◌+◌, ◌++◌, ◌∷◌, [], List, ℕ, length, take, sym, ap, subst}
+use Rattle.std.proofs.Common.{◌+◌, [], List, length, take, sym, subst}
 use Rattle.std.specs.Map.{keys_of}
 use Rattle.step_put.specs.Puts.{AreAt}
 use Rattle.step_batch.specs.declared.steps.Slot.{Slot}
 use Rattle.step_table.specs.Matching.{by_signature}
-use Rattle.op_match.specs.Places.{IsNumbered, names_fed, rows_in}
+use Rattle.op_match.specs.Places.{names_fed, rows_in}
+use Rattle.op_match.proofs.Lists.{whole}
 use Rattle.op_match.proofs.Finding.{numbers_are}
-use Rattle.op_match.proofs.Rising.{place_within, whole}
+use Rattle.op_match.proofs.Rising.{place_within}
 use Rattle.op_match.proofs.meeting.take_numbers.Goals as goal
 
 pub loop-slot-init : goal.loop-slot-init

@@ -1,10 +1,10 @@
-use Rattle.std.proofs.Common.{◌≡◌, ◌∙◌, ◌+◌, ◌<◌, ◌++◌, ◌∷◌, [], ℕ, List, length, take, drop, refl, sym, ap, subst}
+use Rattle.std.proofs.Common.{◌∙◌, ◌+◌, ◌<◌, ◌++◌, ◌∷◌, [], List, length, refl, sym, ap, subst}
 use Rattle.std.specs.Prelude.{slice_get}
-use Rattle.step_batch.specs.Lent.{SlotsRise, entries_of, stages, step_of}
+use Rattle.step_batch.specs.Lent.{entries_of, stages, step_of}
 use Rattle.step_batch.specs.declared.steps.Slot.{Slot}
 use Rattle.step_table.specs.Groups.{Names}
+use Rattle.op_match.proofs.Lists.{whole}
 use Rattle.op_match.proofs.LastStep.{rise_on, value_put}
-use Rattle.op_match.proofs.Rising.{whole}
 use Rattle.op_match.proofs.putting.put_values.Goals as goal
 
 pub loop-slot-init : goal.loop-slot-init

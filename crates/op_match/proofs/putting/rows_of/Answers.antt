@@ -1,10 +1,11 @@
-use Rattle.std.proofs.Common.{◌∙◌, ◌+◌, ◌++◌, ◌∷◌, [], List, length, take, sym, ap}
+use Rattle.std.proofs.Common.{◌∙◌, ◌++◌, ◌∷◌, [], List, length, take, sym, ap}
 use Rattle.step_batch.specs.Lent.{row_of}
 use Rattle.step_batch.specs.declared.steps.Slot.{Slot}
 use Rattle.step_table.specs.declared.step.Row.{Row}
 use Rattle.op_match.specs.Places.{rows_in}
+use Rattle.op_match.proofs.Lists.{whole}
 use Rattle.op_match.proofs.Finding.{row_at, rows_more}
-use Rattle.op_match.proofs.Rising.{place_within, whole}
+use Rattle.op_match.proofs.Rising.{place_within}
 use Rattle.op_match.proofs.putting.rows_of.Goals as goal
 
 pub copy_at-requires : goal.copy_at-requires

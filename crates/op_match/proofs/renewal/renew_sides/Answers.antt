@@ -1,11 +1,11 @@
-use Rattle.std.proofs.Common.{◌≡◌, ◌∙◌, List, Option, Some, [], ap, refl, sym, subst}
-use Rattle.std.specs.Prelude.{◌&&◌, slice_get, if◌then◌else◌}
+use Rattle.std.proofs.Common.{◌∙◌, List, Option, ap, sym, subst}
+use Rattle.std.specs.Prelude.{◌&&◌, slice_get}
 use Rattle.label_set.specs.declared.rules.Pairing.{Pairing}
 use Rattle.xfrac.specs.declared.value.PairOp.{PairOp}
 use Rattle.step_batch.specs.Lent.{has_few_rows}
 use Rattle.op_match.specs.Places.{AreKept, names_fed}
 use Rattle.op_match.specs.declared.kept.Kept.{Kept}
-use Rattle.op_match.proofs.Keeping.{kept_again, labels_stay, set_aside}
+use Rattle.op_match.proofs.Keeping.{kept_again, labels_stay}
 use Rattle.op_match.proofs.Lists.{both_true}
 use Rattle.op_match.proofs.renewal.renew_sides.Goals as goal
 

@@ -1,4 +1,4 @@
-use Rattle.std.proofs.Common.{◌∙◌, ◌≡◌, ◌<◌, ◌++◌, ◌∷◌, ◌+◌, [], List, arith, length, ap, sym, subst, take}
+use Rattle.std.proofs.Common.{◌∙◌, ◌<◌, ◌+◌, List, arith, length, ap, sym, subst, take}
 use Rattle.std.specs.Option.{option_map}
 use Rattle.std.specs.Prelude.{slice_get}
 use Rattle.op_match.specs.Places.{IsNumbered, Stays, names_fed}

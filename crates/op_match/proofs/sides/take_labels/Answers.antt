@@ -1,6 +1,5 @@
-use Rattle.std.proofs.Common.{◌∙◌, ◌≡◌, ◌≤◌, ◌<◌, ◌++◌, ◌+◌, ◌∷◌, [], List, arith, length, ap, sym, refl, subst, take, drop}
+use Rattle.std.proofs.Common.{◌∙◌, ◌++◌, ◌∷◌, [], List, arith, ap, sym, refl, take}
 use Rattle.step_table.specs.Groups.{Names}
-use Rattle.op_match.specs.Places.{names_fed}
 use Rattle.op_match.proofs.Lists.{both_true, took}
 use Rattle.op_match.proofs.Naming.{front_stays}
 use Rattle.op_match.proofs.sides.take_labels.Goals as goal
