@@ -1,0 +1,11 @@
+pub mod Fed
+pub mod Feeding
+pub mod Handing
+pub mod Items
+pub mod Lending
+pub mod Marking
+pub mod Placing
+pub mod Raising
+pub mod Readiness
+pub mod Under
+pub mod Walking

@@ -1,0 +1,4 @@
+pub mod Kept
+pub mod Raised
+pub mod Rings
+pub mod Walked
