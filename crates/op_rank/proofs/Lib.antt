@@ -3,5 +3,11 @@ pub mod Feeding
 pub mod Firsts
 pub mod FirstsMade
 pub mod LabelsInOrder
+pub mod PutCounts
 pub mod QuantilesMade
+pub mod Runs
+pub mod Spelled
 pub mod Splitting
+pub mod Steps
+pub mod Sums
+pub mod ValuesCounted

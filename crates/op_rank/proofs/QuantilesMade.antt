@@ -52,8 +52,9 @@ use Rattle.window_fn.specs.Laws.{OrderDoesntMatter}
 use Rattle.xfrac.specs.Laws.{IsNumber}
 use Rattle.xfrac.specs.declared.value.XFrac.{XFrac}
 use Rattle.op_rank.specs.Contenders.{number_at}
-use Rattle.op_rank.specs.Quantiles.{AreMade, AreNumberEntries, GroupsRise, ended, entry_of, group_made, is_end, made_until, marks_noted, quantile_at, value_asked, values_in}
-use Rattle.op_rank.specs.declared.quantiles.Entry.{Entry}
+use Rattle.op_rank.specs.Entries.{AreNumberEntries, entry_of}
+use Rattle.op_rank.specs.Quantiles.{AreMade, GroupsRise, ended, group_made, is_end, made_until, marks_noted, quantile_at, value_asked, values_in}
+use Rattle.op_rank.specs.declared.entries.Entry.{Entry}
 use Rattle.op_rank.proofs.FirstsMade.{AreWithin, get_some, map_there, map_count, one_place, placed_there, row_at, rows_are, rows_at, same_some, at_same, within_all}
 use Rattle.op_rank.proofs.Splitting.{ends_from, strictly_above}
 
@@ -98,10 +99,10 @@ module _ {K : Type 0} {R : K → K → Ordering} (o : IsTotalOrder R) (ties : (x
 
 -- ---- names
 
-abbrev name : List Names → ℕ → Names
+abbrev pub name : List Names → ℕ → Names
 name names g = get_or names g []
 
-name_same : (names : List Names) (i j : ℕ) → IsDistinct labels_eq names → i < length names → j < length names → is_at (labels_cmp (name names i)) (name names j) ≡ (i == j)
+pub name_same : (names : List Names) (i j : ℕ) → IsDistinct labels_eq names → i < length names → j < length names → is_at (labels_cmp (name names i)) (name names j) ≡ (i == j)
 name_same names i j d l m = pick (i == j) refl (is_at (labels_cmp (name names i)) (name names j)) refl
   where
     tied : (n : Names) → is_at (labels_cmp n) n ≡ true
@@ -249,24 +250,24 @@ theirs_named law q names es items a s = each (names_among items) ∙ ap (map (λ
     each [] = refl
     each (n ∷ ns) = λ j. record { labels = n; value = some_value (one n j) } ∷ each ns j
 
-named_labels : (f : Names → Outcome) (same : (n : Names) → (f n).labels ≡ n) (ns : List Names) → map (λ (o : Outcome). o.labels) (map f ns) ≡ ns
+pub named_labels : (f : Names → Outcome) (same : (n : Names) → (f n).labels ≡ n) (ns : List Names) → map (λ (o : Outcome). o.labels) (map f ns) ≡ ns
 named_labels f same [] = refl
 named_labels f same (n ∷ ns) = λ j. same n j ∷ named_labels f same ns j
 
 -- ---- slots and entries
 
-some_get : (names : List Names) (p : ℕ) (n : Names) → slice_get names p ≡ Some n → (p < length names) × (get_or names p [] ≡ n)
+pub some_get : (names : List Names) (p : ℕ) (n : Names) → slice_get names p ≡ Some n → (p < length names) × (get_or names p [] ≡ n)
 some_get [] p n e = absurd (cc)
 some_get (x ∷ names) zero n e = (omega arith, same_some x n e)
 some_get (x ∷ names) (suc p) n e = let r = some_get names p n e in (omega (arith, r.0), r.1)
 
 module _ (by : Grouping) (fed names : List Names) (places : List ℕ) (a : AreAt names (map (kept_labels by) fed) places) where
-  group_named : (s : Slot) → s.place < length fed → (number_at places s < length names) × (name names (number_at places s) ≡ kept_labels by (get_or fed s.place []))
+  pub group_named : (s : Slot) → s.place < length fed → (number_at places s < length names) × (name names (number_at places s) ≡ kept_labels by (get_or fed s.place []))
   group_named s l =
       let n = map_count (kept_labels by) fed in
       some_get names (number_at places s) (kept_labels by (get_or fed s.place [])) (placed_there names (map (kept_labels by) fed) places s.place a (omega (arith, n, l)) ∙ ap (λ (z : Names). Some z) (map_there (kept_labels by) fed s.place l))
 
-  entries_in : (slots : List Slot) → AreWithin (length fed) slots → AreIn (length names) (map (entry_of places) slots)
+  pub entries_in : (slots : List Slot) → AreWithin (length fed) slots → AreIn (length names) (map (entry_of places) slots)
   entries_in [] w = tt
   entries_in (s ∷ slots) w = ((group_named s w.0).0, entries_in slots w.1)
 

@@ -13,8 +13,9 @@ use Rattle.step_table.specs.Operators.{some_value}
 use Rattle.window_fn.specs.Aggregates.{quantile_of}
 use Rattle.xfrac.specs.Laws.{IsNumber}
 use Rattle.xfrac.specs.declared.value.XFrac.{XFrac}
-use Rattle.op_rank.specs.Quantiles.{AreNumberEntries, GroupsRise, ended, entry_of, group_made, is_end, is_end_at, made_until, values_in}
-use Rattle.op_rank.specs.declared.quantiles.Entry.{Entry}
+use Rattle.op_rank.specs.Entries.{AreNumberEntries, entry_of}
+use Rattle.op_rank.specs.Quantiles.{GroupsRise, ended, group_made, is_end, is_end_at, made_until, values_in}
+use Rattle.op_rank.specs.declared.entries.Entry.{Entry}
 
 pub strictly_above : (a b : ℕ) → a ≤ b → (b == a) ≡ false → a < b
 strictly_above a b l e = pick (nat_lt a b) refl

@@ -1,5 +1,7 @@
 pub mod Contenders
+pub mod Entries
 pub mod Groups
 pub mod LabelOrders
 pub mod Quantiles
 pub mod Rules
+pub mod ValueCounts

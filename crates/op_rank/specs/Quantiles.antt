@@ -13,21 +13,13 @@ use Rattle.step_table.specs.Operators.{some_value}
 use Rattle.step_table.specs.Timed.{StepAt}
 use Rattle.step_table.specs.declared.marks.Marks.{Marks}
 use Rattle.window_fn.specs.Aggregates.{quantile_of}
-use Rattle.xfrac.specs.Laws.{IsNumber}
 use Rattle.xfrac.specs.declared.value.XFrac.{XFrac}
-use Rattle.op_rank.specs.Contenders.{number_at}
-use Rattle.op_rank.specs.declared.quantiles.Entry.{Entry}
+use Rattle.op_rank.specs.Entries.{AreNumberEntries, entry_of}
+use Rattle.op_rank.specs.declared.entries.Entry.{Entry}
 
 -- the quantile of each group of a step, as the parameter asks for
 abbrev pub quantile_at : Grouping → StepAt → StepAt → StepAt
 quantile_at by parameter s = record { at = s.at; step = with_scalar (λ q. summarised Quantile by q) parameter.step s.step }
-
--- a value beside the place of its group
-abbrev pub entry_of : List ℕ → Slot → Entry
-entry_of groups slot = record { group = number_at groups slot; value = slot.value }
-
-abbrev pub AreNumberEntries : List Entry → Type 0
-AreNumberEntries entries = AllByRecursion (λ (e : Entry). IsNumber e.value) entries
 
 -- the groups don't fall
 abbrev pub GroupsRise : List Entry → Type 0

@@ -1,9 +1,9 @@
--- topk, bottomk and quantile over steps, each with its parameter beside it. (Prometheus querying, "Aggregation operators": the rule is
+-- topk, bottomk, quantile and count_values over steps, each with its parameter beside it. (Prometheus querying, "Aggregation operators": the rule is
 -- that of the meaning.)
 use Rattle.std.specs.Prelude.{◌≤◌, ℕ, Bool, true, false, List, [], ◌∷◌, length, Option, Some, is_some, if◌then◌else◌}
 use Rattle.std.specs.List.{AllByRecursion}
 use Rattle.func_table.specs.declared.table.Aggregate.{Aggregate}
-use Rattle.func_table.specs.declared.table.Aggregate.TheVariants.{TopK, BottomK, Quantile}
+use Rattle.func_table.specs.declared.table.Aggregate.TheVariants.{TopK, BottomK, Quantile, CountValues}
 use Rattle.label_set.specs.declared.rules.Grouping.{Grouping}
 use Rattle.promql_meaning.specs.Givens.{with_scalar}
 use Rattle.promql_meaning.specs.Meaning.{aggregated_with}
@@ -24,6 +24,7 @@ abbrev pub is_ranking : Aggregate → Bool
 is_ranking TopK = true
 is_ranking BottomK = true
 is_ranking Quantile = true
+is_ranking CountValues = true
 is_ranking _ = false
 
 -- an aggregation, its groups, and the label that it sets
@@ -71,10 +72,11 @@ pub record GroupedSteps : Type 0 where
   pub left : Left
   pub lent : Lent
 
--- what is lent: quantiles, or first rows
-abbrev pub lent_of : Aggregate → Lent → Lent → Lent
-lent_of Quantile first quantiles = quantiles
-lent_of _ first quantiles = first
+-- what is lent: quantiles, counts of values, or first rows
+abbrev pub lent_of : Aggregate → Lent → Lent → Lent → Lent
+lent_of Quantile first quantiles counts = quantiles
+lent_of CountValues first quantiles counts = counts
+lent_of _ first quantiles counts = first
 
 -- an aggregation, and what is lent
 pub record Ranks : Type 0 where

@@ -1,12 +1,15 @@
-//! The aggregations that rank rows, topk, bottomk and quantile, over steps that are lent.
+//! The aggregations that read a parameter or a label, topk, bottomk, quantile and count_values, over steps that are lent.
 //! Its rows of tests stand in `vector_tests`.
 #![tactic(auto)]
 
 mod contenders;
+mod entries;
 mod first_rows;
 mod groups;
 mod label_order;
 mod quantiles;
 mod ranked;
+mod value_counts;
+mod value_labels;
 
 pub use ranked::{Ranked, is_ranking};

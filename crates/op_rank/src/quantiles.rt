@@ -1,6 +1,7 @@
 //! The quantile of each group.
 ghost use Rattle.label_set.specs.LabelEquality.{labels_eq};
-ghost use Rattle.op_rank.specs.Quantiles.{AreMade, AreNumberEntries, AreSplit, GroupsRise, entry_of, is_end_at, made_until, marks_noted as marks_of_noted, quantile_at, value_asked as value_of_slots};
+ghost use Rattle.op_rank.specs.Entries.{AreNumberEntries};
+ghost use Rattle.op_rank.specs.Quantiles.{AreMade, AreSplit, GroupsRise, is_end_at, made_until, marks_noted as marks_of_noted, quantile_at, value_asked as value_of_slots};
 ghost use Rattle.op_rank.specs.Groups.{left_by};
 ghost use Rattle.op_rank.specs.Rules.{IsScalar, made_of_each};
 ghost use Rattle.promql_meaning.specs.Ranks.{kept_labels};
@@ -14,7 +15,7 @@ ghost use Rattle.step_put.specs.declared.labels_left.Left.TheVariants as kind;
 ghost use Rattle.step_table.specs.Operators.{some_value as value_or_fault};
 ghost use Rattle.window_fn.specs.Aggregates.{quantile_of};
 
-use crate::contenders::number_at;
+use crate::entries::{Entry, list};
 use crate::groups::Groups;
 use label_set::Grouping;
 use promql_meaning::{range_notes_of, with_notes};
@@ -28,7 +29,6 @@ use step_table::laws::steps_are_well_formed;
 use step_table::order_laws::rows_ignore_order;
 use window_fn::laws::order_doesnt_matter;
 use window_fn::{WindowFault, quantile};
-use xfrac::laws::is_number;
 use xfrac::{NumFault, XFrac};
 
 /// The quantile of each group, as a parameter asks for.
@@ -184,13 +184,6 @@ fn marks_noted(
     }
 }
 
-/// A value beside the place of its group.
-#[derive(Clone, Copy, Debug)]
-struct Entry {
-    pub group: usize,
-    pub value: XFrac,
-}
-
 /// The memory that is kept for the groups of a step.
 #[derive(Drop)]
 struct Split {
@@ -251,25 +244,6 @@ impl Split {
         )?;
         Ok(())
     }
-}
-
-/// Lists the values beside the places of their groups, in the place of what was listed.
-fn list(entries: &mut Vec<Entry>, groups: &[usize], slots: &[Slot]) -> Result<(), AllocError>
-    requires { SlotsRise 0 (length groups.now) slots.now }
-    ensures list { OnOk result (entries.new.items ≡ map (entry_of groups.now) slots.now) }
-    ensures numbers { OnOk result (AreNumberEntries entries.new.items) }
-{
-    entries.clear();
-    for i in 0..slots.len() {
-        let slot = &slots[i];
-        is_number(&slot.value);
-        let group = number_at(groups, slot);
-        entries.push(Entry {
-            group,
-            value: slot.value,
-        })?;
-    }
-    Ok(())
 }
 
 /// Sorts entries by their groups.

@@ -1,6 +1,6 @@
 use Rattle.std.proofs.Common.{rules}
 use Rattle.std.proofs.lemmas.List.Sorted.{IsNonDecreasingBy-from_sort_by_key}
-use Rattle.op_rank.specs.declared.quantiles.Entry.{Entry}
+use Rattle.op_rank.specs.declared.entries.Entry.{Entry}
 use Rattle.op_rank.proofs.Splitting.{groups_rise, numbers_moved}
 use Rattle.op_rank.proofs.quantiles.sort.Goals as goal
 

@@ -1,9 +1,9 @@
 use Rattle.std.proofs.Common.{◌≡◌, ◌∙◌, ◌++◌, ◌∷◌, [], List, length, sym, ap}
-use Rattle.op_rank.specs.Quantiles.{entry_of}
-use Rattle.op_rank.specs.declared.quantiles.Entry.{Entry}
+use Rattle.op_rank.specs.Entries.{entry_of}
+use Rattle.op_rank.specs.declared.entries.Entry.{Entry}
 use Rattle.op_rank.proofs.Choosing.{place_within}
 use Rattle.op_rank.proofs.Splitting.{listed_more, numbers_more}
-use Rattle.op_rank.proofs.quantiles.list.Goals as goal
+use Rattle.op_rank.proofs.entries.list.Goals as goal
 
 pub number_at-group-requires : goal.number_at-group-requires
 number_at-group-requires c = place_within 0 (length c.args.groups.now) c.args.slots.now c.loop-i.i c.index-slots-i.result c.loop-i-test.true c.index-slots-i.is c.requires

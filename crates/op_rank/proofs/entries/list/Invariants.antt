@@ -1,6 +1,6 @@
 use Rattle.std.proofs.Common.{◌≡◌, map, take}
-use Rattle.op_rank.specs.Quantiles.{AreNumberEntries, entry_of}
-use Rattle.op_rank.proofs.quantiles.list.Given as goal
+use Rattle.op_rank.specs.Entries.{AreNumberEntries, entry_of}
+use Rattle.op_rank.proofs.entries.list.Given as goal
 
 abbrev pub invariant-loop-i : goal.invariant-loop-i
 invariant-loop-i l = record {
