@@ -1,0 +1,10 @@
+pub mod Agreeing
+pub mod CellsUnder
+pub mod Extremes
+pub mod Itself
+pub mod LeftOut
+pub mod Merges
+pub mod Orders
+pub mod Reordered
+pub mod SameNames
+pub mod Sound
