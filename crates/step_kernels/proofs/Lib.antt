@@ -1,0 +1,3 @@
+pub mod MarkSets
+pub mod Scalars
+pub mod Sides

@@ -1,0 +1,3 @@
+pub mod Binaries
+pub mod Laws
+pub mod Unaries
