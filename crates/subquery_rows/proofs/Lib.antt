@@ -1,0 +1,5 @@
+pub mod Alike
+pub mod Giving
+pub mod Lending
+pub mod Reordered
+pub mod Standing
