@@ -1,0 +1,6 @@
+//! Averages as sums divided by counts.
+#![tactic(auto)]
+
+mod averages;
+
+pub use averages::apply;
