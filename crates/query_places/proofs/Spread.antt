@@ -1,8 +1,8 @@
 -- The calls of a query begin where lexemes of it do, each at one of its own.
-use Rattle.std.proofs.Common.{◌≡◌, ◌∙◌, ℕ, zero, suc, ◌+◌, ◌<◌, ◌≤◌, List, [], ◌∷◌, ◌++◌, map, refl, sym, subst, ap, arith, append-nil, append-assoc, Option, Some, None}
+use Rattle.std.proofs.Common.{◌≡◌, ◌∙◌, ℕ, ◌+◌, ◌<◌, ◌≤◌, List, [], ◌∷◌, ◌++◌, map, refl, sym, subst, ap, arith, append-nil, append_assoc, Option, Some, None}
 use Rattle.std.specs.List.{AllByRecursion}
 use Rattle.std.specs.Prelude.{⊤}
-use Rattle.holders.specs.Joins.{back_of, both_of, front_of}
+use Rattle.holders.specs.Joins.{both_of}
 use Rattle.func_table.specs.declared.table.Aggregate.{Aggregate}
 use Rattle.func_table.specs.declared.table.Func.{Func}
 use Rattle.func_table.specs.declared.table.Func.TheVariants as func
@@ -206,7 +206,7 @@ AllOver low high es = Spread low high (all_calls es)
 
 one_more : (es : List Expr) (e : Expr) → all_calls (es ++ e ∷ []) ≡ all_calls es ++ calls_of e
 one_more [] e = append-nil (calls_of e)
-one_more (f ∷ es) e = ap (λ (rs : List Replacement). calls_of f ++ rs) (one_more es e) ∙ sym (append-assoc (calls_of f) (all_calls es) (calls_of e))
+one_more (f ∷ es) e = ap (λ (rs : List Replacement). calls_of f ++ rs) (one_more es e) ∙ sym (append_assoc (calls_of f) (all_calls es) (calls_of e))
 
 one_over : (low high : ℕ) (e : Expr) → Over low high e → AllOver low high (e ∷ [])
 one_over low high e s = subst (Spread low high) (sym (append-nil (calls_of e))) s
@@ -278,27 +278,27 @@ mutual
   primary_over (Primary.words l text is) = λ low high lie. over low high _ [] (words_calls l.at text) (nothing low high)
   primary_over (Primary.paren {us = us} {xs = xs} {e = e} begin close opens p closes split) =
       λ low high lie. over low high _ (calls_of e) (paren_calls begin.at e) (in_middle low high us xs begin close (calls_of e) split lie (λ a c m. phrase_over p a c m))
-  primary_over (Primary.call {xs = xs} {es = es} l name f is known body) =
+  primary_over (Primary.call {xs = xs} {es = es} l name f is known within) =
       λ low high lie.
       over low high _ (all_calls es ++ pattern_of f (judgements es) l.at) (call_calls l.at f es)
-      (own_spread low l.at high f (judgements es) lie.0 (lie_le (l.at + 1) xs high lie.1) (body_over body (l.at + 1) high lie.1))
+      (own_spread low l.at high f (judgements es) lie.0 (lie_le (l.at + 1) xs high lie.1) (body_over within (l.at + 1) high lie.1))
   primary_over (Primary.call_of_none l begin close name f is known opens closes) =
       λ low high lie.
       over low high _ (all_calls [] ++ pattern_of f (judgements []) l.at) (call_calls l.at f [])
       (own_spread low l.at high f [] lie.0 (lie_le (l.at + 1) (begin ∷ close ∷ []) high lie.1) (nothing (l.at + 1) high))
-  primary_over (Primary.aggregate {xs = xs} {es = es} l f word body) =
+  primary_over (Primary.aggregate {xs = xs} {es = es} l f word within) =
       λ low high lie.
       let k = lie.0 in
-      over low high _ (all_calls es) (aggregate_calls l.at f no_grouping es) (wider (l.at + 1) high low high (all_calls es) (omega (arith, k)) (omega arith) (body_over body (l.at + 1) high lie.1))
-  primary_over (Primary.grouped_before {us = us} {xs = xs} {ys = ys} {es = es} {grouping = grouping} l f word is body split) =
+      over low high _ (all_calls es) (aggregate_calls l.at f no_grouping es) (wider (l.at + 1) high low high (all_calls es) (omega (arith, k)) (omega arith) (body_over within (l.at + 1) high lie.1))
+  primary_over (Primary.grouped_before {us = us} {xs = xs} {ys = ys} {es = es} {grouping = grouping} l f word is within split) =
       λ low high lie.
       over low high _ (all_calls es) (aggregate_calls l.at f grouping es)
-      (in_back low high (l ∷ xs) ys (all_calls es) (lies low high us (l ∷ xs ++ ys) split lie) (λ a m. body_over body a high m))
-  primary_over (Primary.grouped_behind {us = us} {xs = xs} {ys = ys} {es = es} {grouping = grouping} l f word body is split) =
+      (in_back low high (l ∷ xs) ys (all_calls es) (lies low high us (l ∷ xs ++ ys) split lie) (λ a m. body_over within a high m))
+  primary_over (Primary.grouped_behind {us = us} {xs = xs} {ys = ys} {es = es} {grouping = grouping} l f word within is split) =
       λ low high lie.
       over low high _ (all_calls es) (aggregate_calls l.at f grouping es)
       (in_front low high (l ∷ xs) ys (all_calls es) (lies low high us (l ∷ xs ++ ys) split lie)
-      (λ c m. let k = m.0 in wider (l.at + 1) c low c (all_calls es) (omega (arith, k)) (omega arith) (body_over body (l.at + 1) c m.1)))
+      (λ c m. let k = m.0 in wider (l.at + 1) c low c (all_calls es) (omega (arith, k)) (omega arith) (body_over within (l.at + 1) c m.1)))
 
   body_over : {b d : ℕ} {us : List Lexeme} {es : List Expr} → Body b us es d → (low high : ℕ) → Lie low us high → AllOver low high es
   body_over (Body.body {us = us} {xs = xs} {es = es} begin close opens p closes split) =
