@@ -1,0 +1,5 @@
+pub mod Counted
+pub mod Placing
+pub mod Sorted
+pub mod Taking
+pub mod Under

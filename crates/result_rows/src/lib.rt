@@ -1,0 +1,9 @@
+//! The result of a query over a grid, collected from steps that are lent in batches.
+#![tactic(auto)]
+
+mod collected;
+mod found;
+pub mod laws;
+mod series;
+
+pub use collected::Collected;
