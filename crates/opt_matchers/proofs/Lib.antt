@@ -1,0 +1,6 @@
+mod Handed
+mod Ordered
+mod Orders
+mod Partners
+mod Propagates
+mod Signed

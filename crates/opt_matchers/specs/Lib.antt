@@ -1,0 +1,4 @@
+pub mod Handing
+pub mod Keys
+pub mod RuleOrder
+pub mod Sides
