@@ -62,12 +62,12 @@ module _ (both : JoinedStandsForBoth) (overflows : PartOverflowsWhole) (least : 
   positive_denominator NegInf r = omega arith
   positive_denominator NaN r = omega arith
 
-  totals_positive : (xs : List XFrac) → AreNumbers xs → 0 < (totals xs).multiple
+  pub totals_positive : (xs : List XFrac) → AreNumbers xs → 0 < (totals xs).multiple
   unfolding totals
   totals_positive [] a = omega arith
   totals_positive (x ∷ xs) a = lcm_positive (denominator_of x) (multiple_of xs) (positive_denominator x a.0) (totals_positive xs a.1)
 
-  joined_totals : (xs ys : List XFrac) → AreNumbers xs → AreNumbers ys → joined (totals xs) (totals ys) ≡ totals (xs ++ ys)
+  pub joined_totals : (xs ys : List XFrac) → AreNumbers xs → AreNumbers ys → joined (totals xs) (totals ys) ≡ totals (xs ++ ys)
   joined_totals xs ys a b = both (totals xs) (totals ys) xs ys (totals_positive xs a) (totals_positive ys b) refl refl
 
   -- a part that doesn't fit leaves the whole without a sum

@@ -35,7 +35,7 @@ use Rattle.promql_meaning.specs.Givens.{no_marks}
 use Rattle.step_cells.specs.CellLaws.{AreSound, HaveSets, IsPartial, IsSound, PartialsIgnoreOrder, RowsIgnoreOrder, WindowsIgnoreOrder}
 use Rattle.step_cells.specs.Joined.{all_cells, all_marks, cell_row, count_in_cell, counted_in, finished, finished_outcome, keyed_cells, marks_with, mean_in, merged, rows_in, totals_in_cell, value_in_cell, window_under, windows_in}
 use Rattle.step_cells.proofs.Merges.{AreNumbers, flat, mean_merged, total_merged}
-use Rattle.step_cells.proofs.SameNames.{each_under, groups_alike}
+use Rattle.step_cells.proofs.SameNames.{all_kept, each_under, groups_alike}
 
 -- ---- lists of lists
 
@@ -54,13 +54,6 @@ cells_shuffled _ _ none = none
 cells_shuffled _ _ (kept x xs ys s) = front_kept x.rows (all_cells xs) (all_cells ys) (cells_shuffled xs ys s)
 cells_shuffled _ _ (swapped x y xs) = blocks_swapped x.rows y.rows (all_cells xs)
 cells_shuffled _ _ (joined xs ys zs s t) = joined (all_cells xs) (all_cells ys) (all_cells zs) (cells_shuffled xs ys s) (cells_shuffled ys zs t)
-
-module _ {A : Type 0} (P : A → Type 0) where
-  all_kept : (xs ys : List A) → Shuffled xs ys → AllByRecursion P xs → AllByRecursion P ys
-  all_kept _ _ none a = a
-  all_kept _ _ (kept x xs ys s) a = (a.0, all_kept xs ys s a.1)
-  all_kept _ _ (swapped x y xs) a = (a.1.0, (a.0, a.1.1))
-  all_kept _ _ (joined xs ys zs s t) a = all_kept ys zs t (all_kept xs ys s a)
 
 -- lists that a function makes, in another order, are made of the same in another order
 module _ {A B : Type 0} (f : A → B) where

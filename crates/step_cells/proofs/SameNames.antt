@@ -11,6 +11,7 @@ use Rattle.std.specs.declared.cmp.Ordering.TheVariants.{Less, Equal}
 use Rattle.label_set.specs.LabelOrder.{labels_cmp_ties, labels_cmp_total}
 use Rattle.step_table.specs.Alike.{any_name, has_some, same_sets}
 use Rattle.step_table.specs.Gathering.{names_sorted}
+use Rattle.step_table.specs.Shuffles.{Shuffled, none, kept, swapped, joined}
 use Rattle.step_table.specs.Groups.{Names, items_of, names_among}
 
 module _ {K : Type 0} {R : K → K → Ordering} (o : IsTotalOrder R) (ties : (x y : K) → R x y ≡ Equal → x ≡ y) where
@@ -37,3 +38,11 @@ each_under P (item ∷ items) names a =
       | true ↦ (a.0, each_under P items names a.1)
       | false ↦ each_under P items names a.1
     ]
+
+-- what holds of each item of a list holds of each in another order
+module _ {A : Type 0} (P : A → Type 0) where
+  pub all_kept : (xs ys : List A) → Shuffled xs ys → AllByRecursion P xs → AllByRecursion P ys
+  all_kept _ _ none a = a
+  all_kept _ _ (kept x xs ys s) a = (a.0, all_kept xs ys s a.1)
+  all_kept _ _ (swapped x y xs) a = (a.1.0, (a.0, a.1.1))
+  all_kept _ _ (joined xs ys zs s t) a = all_kept ys zs t (all_kept xs ys s a)

@@ -29,7 +29,7 @@ use Rattle.step_table.specs.declared.windows.WindowRow.{WindowRow}
 use Rattle.step_batch.specs.LentWindows.{WindowsAt, names_of}
 use Rattle.promql_meaning.specs.Aggregations.{aggregated}
 use Rattle.step_cells.specs.Joined.{counted_in, finished, joined_partials, joined_rows, joined_windows, rows_in, windows_in}
-use Rattle.step_cells.specs.Owed.{partial_cells, row_cells, window_cells}
+use Rattle.step_cells.specs.Owed.{partial_cell, partial_cells, row_cells, window_cells}
 
 -- the aggregations that are asked of engines
 pub data IsPartial : Aggregate → Type 0 where
@@ -113,6 +113,10 @@ PartialsIgnoreOrder =
     → AllByRecursion AreSound steps
     → Shuffled steps others
     → joined_partials f steps ≡ joined_partials f others
+
+-- the cell of a group doesn't depend on the order of its values
+abbrev pub CellIgnoresOrder : Type 0
+CellIgnoresOrder = (f : Aggregate) (xs ys : List XFrac) → All IsNumber xs → Shuffled xs ys → partial_cell f xs ≡ partial_cell f ys
 
 -- the cells that an engine owes of numbers are sound
 abbrev pub OwedIsSound : Type 0

@@ -1,5 +1,5 @@
 //! Laws of the cells that engines owe. The functions do nothing: each stands for what its contract says.
-ghost use Rattle.step_cells.specs.CellLaws.{CountsAreAdded, OneEngineAgrees, OneEnginesRows, OneEnginesWindows, OwedIsSound, PartialsAgree, PartialsIgnoreOrder, RowsIgnoreOrder, RowsOfTwoAreLeftOut, SharedRowsAreLeftOut, SharedWindowsAreLeftOut, WindowsIgnoreOrder, WindowsOfTwoAreLeftOut};
+ghost use Rattle.step_cells.specs.CellLaws.{CellIgnoresOrder, CountsAreAdded, OneEngineAgrees, OneEnginesRows, OneEnginesWindows, OwedIsSound, PartialsAgree, PartialsIgnoreOrder, RowsIgnoreOrder, RowsOfTwoAreLeftOut, SharedRowsAreLeftOut, SharedWindowsAreLeftOut, WindowsIgnoreOrder, WindowsOfTwoAreLeftOut};
 
 use step_table::laws::unions_are_sets;
 use window_fn::laws::order_doesnt_matter;
@@ -55,4 +55,14 @@ pub fn engines_order_doesnt_matter()
     order_is_total();
     order_doesnt_matter();
     unions_are_sets();
+}
+
+/// The cell of a group doesn't depend on the order of its values.
+pub fn cells_ignore_order()
+    ensures { CellIgnoresOrder }
+{
+    joined_sums_stand_for_both();
+    part_overflows_whole();
+    lcm_is_least();
+    order_doesnt_matter();
 }

@@ -1,0 +1,5 @@
+use Rattle.step_cells.proofs.CellsOrder.{cell_alike}
+use Rattle.step_cells.proofs.laws.cells_ignore_order.Goals as goal
+
+pub returns : goal.returns
+returns c = cell_alike c.joined_sums_stand_for_both.ensures.joined c.part_overflows_whole.ensures.overflow c.lcm_is_least.ensures.multiple c.lcm_is_least.ensures.least c.order_doesnt_matter.ensures
