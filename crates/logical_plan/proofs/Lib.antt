@@ -2,6 +2,8 @@ pub mod Knowing
 pub mod Lasts
 pub mod Lowered
 pub mod Lowers
+pub mod Placements
 pub mod Placing
 pub mod Showing
 pub mod Steady
+pub mod Typings

@@ -1,6 +1,6 @@
 -- The plan of a tree means what the tree means.
 use Rattle.std.proofs.Common.{◌≡◌, ◌∙◌, ℕ, zero, suc, List, [], ◌∷◌, ◌++◌, map, drop, ap, ap₂, sym, refl, subst, Some, None, Bool, true, false}
-use Rattle.std.specs.Prelude.{ℤ, Option, Result, Ok, Err, slice_get}
+use Rattle.std.specs.Prelude.{ℤ, ◌&&◌, Option, Result, Ok, Err, slice_get}
 use Rattle.std.specs.List.{AllByRecursion, filter_map}
 use Rattle.func_table.specs.declared.table.Element.{Element as ElementFunction}
 use Rattle.func_table.specs.declared.table.Element.TheVariants as element
@@ -37,6 +37,7 @@ use Rattle.promql_meaning.specs.Elements.{at_instant, mapped, nameless, row_by_r
 use Rattle.promql_meaning.specs.Givens.{barren, no_marks, step_of, with_scalar, words_of}
 use Rattle.promql_meaning.specs.Meaning.{absent, aggregation, applied, argument, as_scalar, completed, given_at, meaning, negation, node_meaning, operation, over_windows, over_windows_with, step_at, windowed_by, windowed_with, words_at, zero_number}
 use Rattle.promql_meaning.specs.Ranges.{windowed}
+use Rattle.promql_meaning.specs.Results.{call_gives_scalar}
 use Rattle.promql_meaning.specs.Relabels.{label_joined, label_replaced}
 use Rattle.promql_meaning.specs.Selecting.{Asked, moment_of, selected}
 use Rattle.promql_meaning.specs.Subqueries.{as_times, multiples, points_of, rows_over}
@@ -48,13 +49,13 @@ use Rattle.logical_plan.specs.declared.nodes.Plan.{Plan}
 use Rattle.logical_plan.specs.declared.nodes.PlanNode.{PlanNode}
 use Rattle.logical_plan.specs.declared.nodes.PlanNode.TheVariants as node
 use Rattle.logical_plan.specs.declared.nodes.PlanNode.TheOpen.{PlanNode-F}
-use Rattle.logical_plan.specs.Lowering.{HasItsPlace, Low, Replacing, absent_over_node, all_calls, all_words, call_node, element_node, group_node, low, low_node, lowered, nothing_node, own_call, pattern_or, plan_at, planned, plans_of, rules_or, selects_or, simple, stamp_node, window_node, windows_or, words_in}
+use Rattle.logical_plan.specs.Lowering.{HasItsPlace, Low, Replacing, absent_over_node, all_calls, all_words, call_node, element_node, group_node, low, low_node, lowered, minus_node, nothing_node, own_call, pattern_or, plan_at, planned, plans_of, rules_or, scalar_or, selects_or, simple, stamp_node, window_node, windows_or, words_in}
 use Rattle.logical_plan.specs.PlanFolds.{of-Number, of-Time, of-Select, of-Range, of-Subquery, of-Element, of-Stamp, of-Window, of-Absent, of-Buckets, of-Relabel, of-Sort, of-ScalarOf, of-VectorOf, of-Group, of-Pair, of-Set}
 use Rattle.logical_plan.specs.PlanMeaning.{Meant, element_given, givens_at, node_meant, plan_meant, window_given}
 use Rattle.logical_plan.specs.PlanRules.{absent_under, own_outcome, pattern_text, stamp, time_outcome}
 use Rattle.logical_plan.specs.Shown.{rules_of, shown}
 use Rattle.logical_plan.proofs.Lasts.{IsWindowed, gathered_are, last_absent, range_windows}
-use Rattle.logical_plan.proofs.Showing.{IsPlain, absent_shown, aggregation_shown, applied_first, applied_shown, negation_plain, negation_shown, operation_plain, operation_shown, over_shown, over_with_shown, step_shown}
+use Rattle.logical_plan.proofs.Showing.{IsPlain, IsUnscalar, absent_shown, aggregation_shown, applied_first, applied_shown, negation_plain, negation_shown, negation_unscalar, operation_plain, operation_shown, over_shown, over_with_shown, step_shown, unscalar_negation, unscalar_operation}
 
 -- ---- the samples' own times
 
@@ -126,6 +127,7 @@ module _ (asked : Asked) (placed : List Placed) where
     selects : (t : ℤ) → SelectsAs l.selects (g t) t
     words : (t : ℤ) → l.words ≡ words_of (g t)
     windowed : (t : ℤ) → l.windows ≡ true → IsWindowed (g t)
+    unscalar : (t : ℤ) → l.scalar ≡ false → IsUnscalar (g t)
 
   abbrev ArePlaced : List Replacing → Type 0
   ArePlaced calls = AllByRecursion (HasItsPlace asked.kept placed) calls
@@ -165,12 +167,14 @@ module _ (asked : Asked) (placed : List Placed) where
   alike p g h good is = record { gives = λ t. good.gives t ∙ ap shown (is t); own = good.own }
 
   -- a tree that is neither a string nor a selector
-  plain_told : (at : ℕ) (n : List Placed → PlanNode) (calls : List Replacing) (g : ℤ → Given) → ((t : ℤ) → IsPlain (g t) t) → IsTold (simple at n calls) g
-  plain_told at n calls g is = record {
+  plain_told : (scalar : Bool) (at : ℕ) (n : List Placed → PlanNode) (calls : List Replacing) (g : ℤ → Given) → ((t : ℤ) → IsPlain (g t) t)
+      → ((t : ℤ) → scalar ≡ false → IsUnscalar (g t)) → IsTold (simple scalar at n calls) g
+  plain_told scalar at n calls g is unscalar = record {
     rules = λ t. sym ((is t).0);
     words = λ t. sym ((is t).1);
     selects = λ t. (is t).2;
     windowed = λ t on. absurd (cc);
+    unscalar = unscalar;
   }
 
   -- ---- arguments
@@ -216,6 +220,10 @@ module _ (asked : Asked) (placed : List Placed) where
   arg_windowed : (items : List Whole) (t : ℤ) → windows_or (slice_get (lows items) 0) ≡ true → IsWindowed (argument (givens items t) 0)
   arg_windowed [] t on = absurd (cc)
   arg_windowed (e ∷ es) t on = e.1.told.windowed t on
+
+  arg_unscalar : (items : List Whole) (t : ℤ) → scalar_or (slice_get (lows items) 0) ≡ false → IsUnscalar (argument (givens items t) 0)
+  arg_unscalar [] t off = record {}
+  arg_unscalar (e ∷ es) t off = e.1.told.unscalar t off
 
   arg_words : (items : List Whole) (i : ℕ) (t : ℤ) → words_in (lows items) i ≡ words_at (givens items t) i
   arg_words [] zero t = refl
@@ -275,6 +283,18 @@ module _ (asked : Asked) (placed : List Placed) where
       made _ _ _ (of-VectorOf (node_meant asked) (λ p. p.node) at (planned at node.Time))
       (λ t. ap (λ (m : Meant). given.Vector (step_of (m.gives t))) (of-Time (node_meant asked) (λ p. p.node) at))
 
+  -- minus as a function gives a vector
+  minus_kept : (scalar : Bool) (at : ℕ) (inner : Plan) (g : ℤ → Given) → Good (M inner) g → ((t : ℤ) → scalar ≡ false → IsUnscalar (g t))
+      → Good (M (planned at (minus_node scalar at inner))) (λ t. given.Vector (mapped element.Neg zero_number zero_number (step_of (g t))))
+  minus_kept true at inner g good unscalar =
+      made _ _ _ (of-VectorOf (node_meant asked) (λ p. p.node) at (planned at (node.Element element.Neg inner [])))
+      (λ t. ap (λ (m : Meant). given.Vector (step_of (m.gives t))) (of-Element (node_meant asked) (λ p. p.node) at element.Neg inner [])
+      ∙ ap (λ (x : Given). given.Vector (step_of (negation x))) (good.gives t)
+      ∙ ap given.Vector (ap step_of (negation_shown (g t)) ∙ step_shown (negation (g t)) ∙ negated_step (g t)))
+  minus_kept false at inner g good unscalar =
+      made _ _ _ (of-Element (node_meant asked) (λ p. p.node) at element.Neg inner [])
+      (λ t. ap negation (good.gives t) ∙ negation_shown (g t) ∙ ap shown (negation_unscalar (g t) (unscalar t refl)))
+
   element_kept : (f : ElementFunction) (at : ℕ) (items : List Whole) → CallMeans (func.Element f) items (element_node f at (lows items) placed) at
   element_kept element.Abs at items = simple_element element.Abs at items (λ gs x. refl) (λ gs t. refl)
   element_kept element.Ceil at items = simple_element element.Ceil at items (λ gs x. refl) (λ gs t. refl)
@@ -288,11 +308,7 @@ module _ (asked : Asked) (placed : List Placed) where
       element_means (element.Calendar part) at _ [] (λ t. given.Vector (time_step t)) (λ t. []) (λ gs x. refl) (instant_good at) (λ t. refl)
   element_kept (element.Calendar part) at (e ∷ es) =
       element_means (element.Calendar part) at _ _ (meaning asked e.0) (givens es) (λ gs x. refl) e.1.plan (all_plans es)
-  element_kept element.Neg at items =
-      made _ _ _ (of-VectorOf (node_meant asked) (λ p. p.node) at (planned at (node.Element element.Neg (plan_at at placed (lows items) 0) [])))
-      (λ t. ap (λ (m : Meant). given.Vector (step_of (m.gives t))) (of-Element (node_meant asked) (λ p. p.node) at element.Neg (plan_at at placed (lows items) 0) [])
-      ∙ ap (λ (g : Given). given.Vector (step_of (negation g))) ((arg_plan at items 0).gives t)
-      ∙ ap given.Vector (ap step_of (negation_shown (argument (givens items t) 0)) ∙ step_shown (negation (argument (givens items t) 0)) ∙ negated_step (argument (givens items t) 0)))
+  element_kept element.Neg at items = minus_kept (scalar_or (slice_get (lows items) 0)) at _ _ (arg_plan at items 0) (λ t. arg_unscalar items t)
 
   -- ---- functions of windows
 
@@ -433,6 +449,21 @@ module _ (asked : Asked) (placed : List Placed) where
   call_plain func.Timestamp gs t = (refl, refl, refl)
   call_plain func.Vector gs t = (refl, refl, refl)
 
+  call_unscalar : (f : Func) (gs : List (ℤ → Given)) (t : ℤ) → call_gives_scalar f ≡ false → IsUnscalar (node_meaning asked (Node-F.Call f gs) t)
+  call_unscalar (func.Element f) gs t off = record {}
+  call_unscalar (func.Window f) gs t off = record {}
+  call_unscalar func.Absent gs t off = record {}
+  call_unscalar func.AbsentOver gs t off = record {}
+  call_unscalar func.HistogramQuantile gs t off = record {}
+  call_unscalar func.LabelJoin gs t off = record {}
+  call_unscalar func.LabelReplace gs t off = record {}
+  call_unscalar func.Scalar gs t off = absurd (cc)
+  call_unscalar func.Sort gs t off = record {}
+  call_unscalar func.SortDesc gs t off = record {}
+  call_unscalar func.Time gs t off = absurd (cc)
+  call_unscalar func.Timestamp gs t off = record {}
+  call_unscalar func.Vector gs t off = record {}
+
   -- ---- aggregations
 
   abbrev GroupMeans : AggregateFunction → Grouping → List Whole → PlanNode → ℕ → Type 0
@@ -515,21 +546,21 @@ module _ (asked : Asked) (placed : List Placed) where
       → IsLow (low_node (map-Node Node Expr (ℕ → Low) Low (fold-Node (ℕ → Low) Low low_node (λ e. e.node e.at)) low (bare y)) at)
       (node_meaning asked (map-Node Node Expr (ℤ → Given) (ℤ → Given) node_given (meaning asked) (bare y)))
   level (Node-F.Number value) at = record {
-    told = plain_told at _ [] _ (λ t. (refl, refl, refl));
+    told = plain_told true at _ [] _ (λ t. (refl, refl, refl)) (λ t off. absurd (cc));
     plan = λ a. from _ _ _ (number_means at value) (record { gives = λ t. refl; own = refl });
   }
   level (Node-F.Words text) at = record {
-    told = record { rules = λ t. refl; selects = λ t. refl; words = λ t. refl; windowed = λ t on. absurd (cc) };
+    told = record { rules = λ t. refl; selects = λ t. refl; words = λ t. refl; windowed = λ t on. absurd (cc); unscalar = λ t off. record {} };
     plan = λ a. record { gives = (nothing_good at).gives; own = (nothing_good at).own };
   }
   level (Node-F.Paren e) at = e.1
   level (Node-F.Negate e) at = record {
-    told = plain_told at _ _ _ (λ t. negation_plain (meaning asked e.0 t) t);
+    told = plain_told (low e.0).scalar at _ _ _ (λ t. negation_plain (meaning asked e.0 t) t) (λ t off. unscalar_negation (meaning asked e.0 t) (e.1.told.unscalar t off));
     plan = λ a. made _ _ _ (of-Element (node_meant asked) (λ p. p.node) at element.Neg ((low e.0).plan placed) [])
         (λ t. ap negation ((e.1.plan a).gives t) ∙ negation_shown (meaning asked e.0 t));
   }
   level (Node-F.Select selector) at = record {
-    told = record { rules = λ t. refl; selects = λ t. refl; words = λ t. refl; windowed = λ t on. absurd (cc) };
+    told = record { rules = λ t. refl; selects = λ t. refl; words = λ t. refl; windowed = λ t on. absurd (cc); unscalar = λ t off. record {} };
     plan = λ a. made _ _ _ (of-Select (node_meant asked) (λ p. p.node) at selector.rules selector.moment false) (λ t. refl);
   }
   level (Node-F.Range selector range) at = record {
@@ -538,6 +569,7 @@ module _ (asked : Asked) (placed : List Placed) where
       selects = λ t. refl;
       words = λ t. refl;
       windowed = λ t on. range_windows asked selector.rules selector.moment.closed (moment_of asked selector.moment t) range.0;
+      unscalar = λ t off. record {};
     };
     plan = λ a. made _ _ _ (of-Range (node_meant asked) (λ p. p.node) at selector.rules selector.moment range) (λ t. refl);
   }
@@ -547,20 +579,22 @@ module _ (asked : Asked) (placed : List Placed) where
       selects = λ t. refl;
       words = λ t. refl;
       windowed = λ t on. gathered_are (rows_over (λ u. step_of (meaning asked e.0 u)) (as_times (multiples moment.closed (moment_of asked moment t) range.0 step.0)));
+      unscalar = λ t off. record {};
     };
     plan = λ a. made _ _ _ (of-Subquery (node_meant asked) (λ p. p.node) at ((low e.0).plan placed) range step moment)
         (λ t. ap (λ f. given.Windows (points_of moment.closed f range step (moment_of asked moment t))) (λ i. λ (u : ℤ). good_step (M ((low e.0).plan placed)) (meaning asked e.0) u (e.1.plan a) i));
   }
   level (Node-F.Call f items) at = record {
-    told = plain_told at _ _ _ (call_plain f (map (meaning asked) (map (λ e. e.0) items)));
+    told = plain_told (call_gives_scalar f) at _ _ _ (call_plain f (map (meaning asked) (map (λ e. e.0) items))) (call_unscalar f (map (meaning asked) (map (λ e. e.0) items)));
     plan = placed_call f at items;
   }
   level (Node-F.Aggregate f by items) at = record {
-    told = plain_told at _ _ _ (λ t. (refl, refl, refl));
+    told = plain_told false at _ _ _ (λ t. (refl, refl, refl)) (λ t off. record {});
     plan = placed_group f by at items;
   }
   level (Node-F.Pair op l r pairing) at = record {
-    told = plain_told at _ _ _ (λ t. operation_plain op pairing (meaning asked l.0 t) (meaning asked r.0 t) t);
+    told = plain_told ((low l.0).scalar && (low r.0).scalar) at _ _ _ (λ t. operation_plain op pairing (meaning asked l.0 t) (meaning asked r.0 t) t)
+        (λ t. unscalar_operation op pairing (low l.0).scalar (low r.0).scalar (meaning asked l.0 t) (meaning asked r.0 t) (l.1.told.unscalar t) (r.1.told.unscalar t));
     plan = λ a.
         let left = l.1.plan (front (HasItsPlace asked.kept placed) (low l.0).calls (low r.0).calls a) in
         let right = r.1.plan (behind (HasItsPlace asked.kept placed) (low l.0).calls (low r.0).calls a) in
@@ -568,7 +602,7 @@ module _ (asked : Asked) (placed : List Placed) where
         (λ t. ap₂ (operation op pairing) (left.gives t) (right.gives t) ∙ operation_shown op pairing (meaning asked l.0 t) (meaning asked r.0 t));
   }
   level (Node-F.Set op l r pairing) at = record {
-    told = plain_told at _ _ _ (λ t. (refl, refl, refl));
+    told = plain_told false at _ _ _ (λ t. (refl, refl, refl)) (λ t off. record {});
     plan = λ a.
         let left = l.1.plan (front (HasItsPlace asked.kept placed) (low l.0).calls (low r.0).calls a) in
         let right = r.1.plan (behind (HasItsPlace asked.kept placed) (low l.0).calls (low r.0).calls a) in

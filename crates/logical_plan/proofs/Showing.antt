@@ -1,6 +1,6 @@
 -- What is shown of what is given: each rule over what is shown gives what is shown of the rule.
-use Rattle.std.proofs.Common.{◌≡◌, ◌∙◌, ℕ, zero, suc, List, [], ◌∷◌, map, drop, ap, ap₂, refl}
-use Rattle.std.specs.Prelude.{ℤ}
+use Rattle.std.proofs.Common.{◌≡◌, ◌∙◌, ℕ, zero, suc, List, [], ◌∷◌, map, drop, ap, ap₂, refl, Bool, true, false}
+use Rattle.std.specs.Prelude.{ℤ, ◌&&◌, ⊤}
 use Rattle.func_table.specs.declared.table.Element.{Element as ElementFunction}
 use Rattle.func_table.specs.declared.table.Element.TheVariants as element
 use Rattle.func_table.specs.declared.table.Window.{Window as WindowFunction}
@@ -53,6 +53,81 @@ negation_plain (given.Vector step) t = (refl, refl, refl)
 negation_plain (given.Selected selection) t = (refl, refl, refl)
 negation_plain (given.Windows windows) t = (refl, refl, refl)
 negation_plain (given.Words text) t = (refl, refl, refl)
+
+-- ---- what is no scalar
+
+abbrev pub IsUnscalar : Given → Type 0
+IsUnscalar (given.Scalar step) = ⊥
+IsUnscalar (given.Vector step) = ⊤
+IsUnscalar (given.Selected selection) = ⊤
+IsUnscalar (given.Windows windows) = ⊤
+IsUnscalar (given.Words text) = ⊤
+
+pub negation_unscalar : (g : Given) → IsUnscalar g → negation g ≡ given.Vector (mapped element.Neg zero_number zero_number (step_of g))
+negation_unscalar (given.Scalar step) is = absurd is
+negation_unscalar (given.Vector step) is = refl
+negation_unscalar (given.Selected selection) is = refl
+negation_unscalar (given.Windows windows) is = refl
+negation_unscalar (given.Words text) is = refl
+
+pub unscalar_negation : (g : Given) → IsUnscalar g → IsUnscalar (negation g)
+unscalar_negation (given.Scalar step) is = absurd is
+unscalar_negation (given.Vector step) is = record {}
+unscalar_negation (given.Selected selection) is = record {}
+unscalar_negation (given.Windows windows) is = record {}
+unscalar_negation (given.Words text) is = record {}
+
+unscalar_left : (op : PairOp) (p : Pairing) (l r : Given) → IsUnscalar l → IsUnscalar (operation op p l r)
+unscalar_left op p (given.Scalar a) r is = absurd is
+unscalar_left op p (given.Vector a) (given.Scalar b) is = record {}
+unscalar_left op p (given.Vector a) (given.Vector b) is = record {}
+unscalar_left op p (given.Vector a) (given.Selected b) is = record {}
+unscalar_left op p (given.Vector a) (given.Windows b) is = record {}
+unscalar_left op p (given.Vector a) (given.Words b) is = record {}
+unscalar_left op p (given.Selected a) (given.Scalar b) is = record {}
+unscalar_left op p (given.Selected a) (given.Vector b) is = record {}
+unscalar_left op p (given.Selected a) (given.Selected b) is = record {}
+unscalar_left op p (given.Selected a) (given.Windows b) is = record {}
+unscalar_left op p (given.Selected a) (given.Words b) is = record {}
+unscalar_left op p (given.Windows a) (given.Scalar b) is = record {}
+unscalar_left op p (given.Windows a) (given.Vector b) is = record {}
+unscalar_left op p (given.Windows a) (given.Selected b) is = record {}
+unscalar_left op p (given.Windows a) (given.Windows b) is = record {}
+unscalar_left op p (given.Windows a) (given.Words b) is = record {}
+unscalar_left op p (given.Words a) (given.Scalar b) is = record {}
+unscalar_left op p (given.Words a) (given.Vector b) is = record {}
+unscalar_left op p (given.Words a) (given.Selected b) is = record {}
+unscalar_left op p (given.Words a) (given.Windows b) is = record {}
+unscalar_left op p (given.Words a) (given.Words b) is = record {}
+
+unscalar_right : (op : PairOp) (p : Pairing) (l r : Given) → IsUnscalar r → IsUnscalar (operation op p l r)
+unscalar_right op p l (given.Scalar b) is = absurd is
+unscalar_right op p (given.Scalar a) (given.Vector b) is = record {}
+unscalar_right op p (given.Scalar a) (given.Selected b) is = record {}
+unscalar_right op p (given.Scalar a) (given.Windows b) is = record {}
+unscalar_right op p (given.Scalar a) (given.Words b) is = record {}
+unscalar_right op p (given.Vector a) (given.Vector b) is = record {}
+unscalar_right op p (given.Vector a) (given.Selected b) is = record {}
+unscalar_right op p (given.Vector a) (given.Windows b) is = record {}
+unscalar_right op p (given.Vector a) (given.Words b) is = record {}
+unscalar_right op p (given.Selected a) (given.Vector b) is = record {}
+unscalar_right op p (given.Selected a) (given.Selected b) is = record {}
+unscalar_right op p (given.Selected a) (given.Windows b) is = record {}
+unscalar_right op p (given.Selected a) (given.Words b) is = record {}
+unscalar_right op p (given.Windows a) (given.Vector b) is = record {}
+unscalar_right op p (given.Windows a) (given.Selected b) is = record {}
+unscalar_right op p (given.Windows a) (given.Windows b) is = record {}
+unscalar_right op p (given.Windows a) (given.Words b) is = record {}
+unscalar_right op p (given.Words a) (given.Vector b) is = record {}
+unscalar_right op p (given.Words a) (given.Selected b) is = record {}
+unscalar_right op p (given.Words a) (given.Windows b) is = record {}
+unscalar_right op p (given.Words a) (given.Words b) is = record {}
+
+pub unscalar_operation : (op : PairOp) (p : Pairing) (a b : Bool) (l r : Given) → (a ≡ false → IsUnscalar l) → (b ≡ false → IsUnscalar r) → (a && b) ≡ false
+    → IsUnscalar (operation op p l r)
+unscalar_operation op p false b l r left right off = unscalar_left op p l r (left refl)
+unscalar_operation op p true false l r left right off = unscalar_right op p l r (right refl)
+unscalar_operation op p true true l r left right off = absurd (cc)
 
 pub operation_shown : (op : PairOp) (p : Pairing) (l r : Given) → operation op p (shown l) (shown r) ≡ shown (operation op p l r)
 operation_shown op p (given.Scalar a) (given.Scalar b) = refl

@@ -1,8 +1,10 @@
 pub mod Laws
 pub mod Lowering
 pub mod Onces
+pub mod Placements
 pub mod PlanFolds
 pub mod PlanMeaning
 pub mod PlanRules
+pub mod PlanTypes
 pub mod Shown
 pub mod Steadiness

@@ -1,5 +1,5 @@
 -- The plan of a typed tree: a node for each node, parentheses dropped. (This project's own.)
-use Rattle.std.specs.Prelude.{◌≡◌, ℕ, Bool, true, false, List, [], ◌∷◌, ◌++◌, map, drop, slice_get, Option, None, Some}
+use Rattle.std.specs.Prelude.{◌≡◌, ℕ, Bool, true, false, ◌&&◌, List, [], ◌∷◌, ◌++◌, map, drop, slice_get, Option, None, Some}
 use Rattle.std.specs.List.{AllByRecursion}
 use Rattle.func_table.specs.declared.table.Func.{Func}
 use Rattle.func_table.specs.declared.table.Func.TheVariants as func
@@ -22,6 +22,7 @@ use Rattle.promql_type.specs.declared.replace.Placed.{Placed}
 use Rattle.step_table.specs.Groups.{Names}
 use Rattle.promql_meaning.specs.Absences.{absent_labels}
 use Rattle.promql_meaning.specs.Meaning.{zero_number}
+use Rattle.promql_meaning.specs.Results.{call_gives_scalar}
 use Rattle.logical_plan.specs.PlanRules.{pattern_text}
 use Rattle.logical_plan.specs.declared.nodes.Plan.{Plan}
 use Rattle.logical_plan.specs.declared.nodes.PlanNode.{PlanNode}
@@ -38,14 +39,15 @@ pub record Replacing : Type 0 where
   pub text : List ℕ
 
 -- What is known of a tree: its plan, by the numbers of the patterns at their places; parentheses dropped, the string that it is,
--- the rules of the selector that it is, and the instant selector that it is with its place; whether it gives windows; and its
--- label_replace calls, in the order of the text.
+-- the rules of the selector that it is, and the instant selector that it is with its place; whether it gives windows, and whether a
+-- scalar; and its label_replace calls, in the order of the text.
 pub record Low : Type 0 where
   pub plan : List Placed → Plan
   pub words : List ℕ
   pub rules : List Rule
   pub selects : Option (ℕ × Selector)
   pub windows : Bool
+  pub scalar : Bool
   pub calls : List Replacing
 
 -- ---- arguments
@@ -83,6 +85,10 @@ abbrev pub windows_or : Option Low → Bool
 windows_or None = false
 windows_or (Some low) = low.windows
 
+abbrev pub scalar_or : Option Low → Bool
+scalar_or None = false
+scalar_or (Some low) = low.scalar
+
 abbrev pub plans_of : List Placed → List Low → List Plan
 plans_of placed lows = map (λ (low : Low). low.plan placed) lows
 
@@ -101,8 +107,12 @@ instant_or at placed None = planned at (node.VectorOf (planned at node.Time))
 instant_or at placed (Some low) = low.plan placed
 
 -- minus keeps a scalar a scalar, and as a function gives a vector
+abbrev pub minus_node : Bool → ℕ → Plan → PlanNode
+minus_node true at inner = node.VectorOf (planned at (node.Element Neg inner []))
+minus_node false at inner = node.Element Neg inner []
+
 abbrev pub element_node : Element → ℕ → List Low → List Placed → PlanNode
-element_node Neg at lows placed = node.VectorOf (planned at (node.Element Neg (plan_at at placed lows 0) []))
+element_node Neg at lows placed = minus_node (scalar_or (slice_get lows 0)) at (plan_at at placed lows 0)
 element_node (Calendar part) at lows placed = node.Element (Calendar part) (instant_or at placed (slice_get lows 0)) (plans_of placed (drop 1 lows))
 element_node f at lows placed = node.Element f (plan_at at placed lows 0) (plans_of placed (drop 1 lows))
 
@@ -160,27 +170,28 @@ group_node f by at lows placed = node.Group f by (plans_of placed lows) []
 
 -- ---- the plan
 
--- a tree that is neither a string nor a selector, and gives no windows
-abbrev pub simple : ℕ → (List Placed → PlanNode) → List Replacing → Low
-simple at n calls = record { plan = λ placed. planned at (n placed); words = []; rules = []; selects = None; windows = false; calls = calls }
+-- a tree that is neither a string nor a selector, and gives no windows; it may give a scalar
+abbrev pub simple : Bool → ℕ → (List Placed → PlanNode) → List Replacing → Low
+simple scalar at n calls =
+    record { plan = λ placed. planned at (n placed); words = []; rules = []; selects = None; windows = false; scalar = scalar; calls = calls }
 
 abbrev pub low_node : Node-F (ℕ → Low) Low → ℕ → Low
-low_node (Node-F.Number value) at = simple at (λ placed. node.Number value) []
-low_node (Node-F.Words text) at = record (simple at (λ placed. nothing_node at) []) { words = text }
+low_node (Node-F.Number value) at = simple true at (λ placed. node.Number value) []
+low_node (Node-F.Words text) at = record (simple false at (λ placed. nothing_node at) []) { words = text }
 low_node (Node-F.Paren inner) at = inner
-low_node (Node-F.Negate inner) at = simple at (λ placed. node.Element Neg (inner.plan placed) []) inner.calls
+low_node (Node-F.Negate inner) at = simple inner.scalar at (λ placed. node.Element Neg (inner.plan placed) []) inner.calls
 low_node (Node-F.Select selector) at =
-    record (simple at (λ placed. node.Select selector.rules selector.moment false) []) { rules = selector.rules; selects = Some (at, selector) }
+    record (simple false at (λ placed. node.Select selector.rules selector.moment false) []) { rules = selector.rules; selects = Some (at, selector) }
 low_node (Node-F.Range selector range) at =
-    record (simple at (λ placed. node.Range selector.rules selector.moment range) []) { rules = selector.rules; windows = true }
+    record (simple false at (λ placed. node.Range selector.rules selector.moment range) []) { rules = selector.rules; windows = true }
 low_node (Node-F.Subquery inner range step moment) at =
-    record (simple at (λ placed. node.Subquery (inner.plan placed) range step moment) inner.calls) { windows = true }
-low_node (Node-F.Call f lows) at = simple at (call_node f at lows) (all_calls lows ++ own_call f at lows)
-low_node (Node-F.Aggregate f by lows) at = simple at (group_node f by at lows) (all_calls lows)
+    record (simple false at (λ placed. node.Subquery (inner.plan placed) range step moment) inner.calls) { windows = true }
+low_node (Node-F.Call f lows) at = simple (call_gives_scalar f) at (call_node f at lows) (all_calls lows ++ own_call f at lows)
+low_node (Node-F.Aggregate f by lows) at = simple false at (group_node f by at lows) (all_calls lows)
 low_node (Node-F.Pair op left right pairing) at =
-    simple at (λ placed. node.Pair op (left.plan placed) (right.plan placed) pairing) (left.calls ++ right.calls)
+    simple (left.scalar && right.scalar) at (λ placed. node.Pair op (left.plan placed) (right.plan placed) pairing) (left.calls ++ right.calls)
 low_node (Node-F.Set op left right pairing) at =
-    simple at (λ placed. node.Set op (left.plan placed) (right.plan placed) pairing) (left.calls ++ right.calls)
+    simple false at (λ placed. node.Set op (left.plan placed) (right.plan placed) pairing) (left.calls ++ right.calls)
 
 abbrev pub low : Expr → Low
 low = fold-Expr (ℕ → Low) Low low_node (λ e. e.node e.at)

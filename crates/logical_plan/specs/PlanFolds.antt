@@ -18,8 +18,8 @@ use Rattle.label_set.specs.declared.rules.Relabel.{Relabel as Relabelling}
 use Rattle.logical_plan.specs.declared.nodes.PlanNode.{PlanNode}
 use Rattle.logical_plan.specs.declared.nodes.PlanNode.TheVariants as node
 use Rattle.logical_plan.specs.declared.nodes.PlanNode.TheOpen.{PlanNode-F, Plan-F}
-use Rattle.logical_plan.specs.declared.nodes.PlanNode.TheViews.{roll-Plan, outs-Number, outs-Time, outs-Select, outs-Range, outs-Subquery, outs-Element, outs-Stamp, outs-Window, outs-Absent, outs-Buckets, outs-Relabel, outs-Sort, outs-ScalarOf, outs-VectorOf, outs-Group, outs-Pair, outs-Set, outs-Filter, outs-Ratio, outs-Once}
-use Rattle.logical_plan.specs.declared.nodes.PlanNode.TheFolds.{fold-Plan, fold-PlanNode, fold_out-PlanNode, fold-roll-Plan}
+use Rattle.logical_plan.specs.declared.nodes.PlanNode.TheViews.{out-PlanNode, roll-Plan, outs-Number, outs-Time, outs-Select, outs-Range, outs-Subquery, outs-Element, outs-Stamp, outs-Window, outs-Absent, outs-Buckets, outs-Relabel, outs-Sort, outs-ScalarOf, outs-VectorOf, outs-Group, outs-Pair, outs-Set, outs-Filter, outs-Ratio, outs-Once}
+use Rattle.logical_plan.specs.declared.nodes.PlanNode.TheFolds.{fold-Plan, fold-PlanNode, fold_out-Plan, fold_out-PlanNode, map-PlanNode, fold-roll-Plan}
 
 module _ {A B : Type 0} (node_step : PlanNode-F A B → A) (plan_step : Plan-F A B → B) where
   abbrev pub of : Plan → B
@@ -34,6 +34,14 @@ module _ {A B : Type 0} (node_step : PlanNode-F A B → A) (plan_step : Plan-F A
 
   pub rolled : (at : ℕ) (n : PlanNode) → of (roll-Plan (record { at = at; node = n })) ≡ made at (at_node n)
   rolled at n = fold-roll-Plan A B node_step plan_step (record { at = at; node = n })
+
+  -- a node with what a fold makes of each child in the child's place
+  abbrev pub layer_of : Plan → PlanNode-F A B
+  layer_of p = map-PlanNode PlanNode Plan A B at_node of (out-PlanNode p.node)
+
+  -- the result of any plan
+  pub by_node : (p : Plan) → of p ≡ made p.at (node_step (layer_of p))
+  by_node p = fold_out-Plan A B node_step plan_step p ∙ ap (made p.at) (fold_out-PlanNode A B node_step plan_step p.node)
 
   pub of-Number : (at : ℕ) (value : XFrac) → of (roll-Plan (record { at = at; node = node.Number value })) ≡ made at (node_step (PlanNode-F.Number value))
   of-Number at value = rolled at (node.Number value) ∙ ap (made at) (fold_out-PlanNode A B node_step plan_step (node.Number value) ∙ rw outs-Number refl)

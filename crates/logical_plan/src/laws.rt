@@ -1,7 +1,10 @@
 //! Laws of plans. The functions do nothing: each stands for what its contract says.
 ghost use Rattle.logical_plan.specs.Laws.{PlanMeansItsTree};
+ghost use Rattle.logical_plan.specs.Placements.{KeptPatternsArePlaced};
 ghost use Rattle.logical_plan.specs.Onces.{OncesKeepMeanings, OncesStandOverSteady};
 ghost use Rattle.logical_plan.specs.Steadiness.{SteadyPlanStays};
+
+use promql_type::typed_trees_fit;
 
 /// The plan of a tree means what the tree means, on every list of samples, at every instant and under every grid.
 pub fn plans_mean_their_trees()
@@ -18,3 +21,11 @@ pub fn onces_keep_meanings()
     ensures meanings { OncesKeepMeanings }
     ensures steady { OncesStandOverSteady }
 {}
+
+/// The patterns that checking a tree keeps are found at the places of its label_replace calls, where calls at one place have
+/// one pattern.
+pub fn kept_patterns_are_placed()
+    ensures { KeptPatternsArePlaced }
+{
+    typed_trees_fit();
+}

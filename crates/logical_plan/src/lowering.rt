@@ -1,11 +1,13 @@
 //! The plan of a tree, node by node.
 ghost use Rattle.std.specs.Prelude.{◌≡◌, ◌∷◌, [], map, drop, slice_get, IfOk};
-ghost use Rattle.logical_plan.specs.Lowering.{absent_over_node as node_of_absent_over, call_node, element_node, group_node, instant_or, join_node, low, nothing_node as node_of_nothing, pattern_or, plan_at, planned as planned_at, plans_of, replace_node, rules_or, selects_or, stamp_node, window_node, windows_or, all_words as words_of_all};
+ghost use Rattle.logical_plan.specs.Lowering.{absent_over_node as node_of_absent_over, call_node, element_node, group_node, instant_or, join_node, low, minus_node as minus_of, nothing_node as node_of_nothing, pattern_or, plan_at, planned as planned_at, plans_of, replace_node, rules_or, selects_or, stamp_node, window_node, windows_or, all_words as words_of_all};
 ghost use Rattle.promql_meaning.specs.Absences.{absent_labels as labels_of_absent};
 ghost use Rattle.promql_type.specs.TypedTrees.{pattern_at, placed_of};
 
 use crate::nodes::{Plan, PlanNode};
-use crate::parts::{first_gives_windows, first_rules, first_selector, words, words_in};
+use crate::parts::{
+    first_gives_scalar, first_gives_windows, first_rules, first_selector, words, words_in,
+};
 use func_table::{Aggregate, Element, Func, Window};
 use holders::{Boxed, Items, Text};
 use label_set::{Grouping, PatternId, Relabel};
@@ -220,6 +222,22 @@ fn lower_call(
     }
 }
 
+/// Minus as a function, of a scalar or of anything else.
+fn minus_node(
+    alloc: Global,
+    scalar: bool,
+    at: u32,
+    inner: Boxed<Plan>,
+) -> Result<PlanNode, AllocError>
+    ensures { IfOk result (λ n. n ≡ minus_of scalar at inner) }
+{
+    let minus = PlanNode::Element(Element::Neg, inner, Items::new(alloc));
+    if scalar {
+        return Ok(PlanNode::VectorOf(boxed(alloc, at, minus)?));
+    }
+    Ok(minus)
+}
+
 #[cycle(lowering)]
 fn lower_element(
     alloc: Global,
@@ -233,8 +251,7 @@ fn lower_element(
     match f {
         Element::Neg => {
             let inner = lower_at(alloc, typed, at, all, 0)?;
-            let minus = PlanNode::Element(Element::Neg, inner, Items::new(alloc));
-            Ok(PlanNode::VectorOf(boxed(alloc, at, minus)?))
+            minus_node(alloc, first_gives_scalar(all), at, inner)
         }
         Element::Calendar(part) => {
             let inner = lower_instant(alloc, typed, at, all)?;

@@ -1,7 +1,9 @@
 //! What the plan of a tree reads of its parts.
 ghost use Rattle.std.specs.Prelude.{◌≡◌, map, slice_get, option_map};
-ghost use Rattle.logical_plan.specs.Lowering.{low, rules_or, selects_or, windows_or, words_in};
+ghost use Rattle.logical_plan.specs.Lowering.{low, rules_or, scalar_or, selects_or, windows_or, words_in};
+ghost use Rattle.promql_meaning.specs.Results.{call_gives_scalar};
 
+use func_table::Func;
 use label_set::Rule;
 use promql_ast::{Expr, Node, Selector};
 
@@ -86,6 +88,38 @@ pub fn first_gives_windows(all: &[Expr]) -> bool
 {
     match all.get(0) {
         Some(e) => gives_windows(e),
+        None => false,
+    }
+}
+
+const fn call_gives_scalar(f: Func) -> bool
+    ensures { result ≡ call_gives_scalar f }
+{
+    match f {
+        Func::Scalar | Func::Time => true,
+        _ => false,
+    }
+}
+
+/// Whether a tree gives a scalar.
+fn gives_scalar(e: &Expr) -> bool
+    ensures { result ≡ (low e.now).scalar }
+{
+    match &e.node {
+        Node::Number(_) => true,
+        Node::Paren(inner) | Node::Negate(inner) => gives_scalar(inner.get()),
+        Node::Call(f, _) => call_gives_scalar(*f),
+        Node::Pair(_, left, right, _) => gives_scalar(left.get()) && gives_scalar(right.get()),
+        _ => false,
+    }
+}
+
+/// Whether the first argument gives a scalar.
+pub fn first_gives_scalar(all: &[Expr]) -> bool
+    ensures { result ≡ scalar_or (slice_get (map low all.now) 0) }
+{
+    match all.get(0) {
+        Some(e) => gives_scalar(e),
         None => false,
     }
 }

@@ -2,6 +2,7 @@
 ghost use Rattle.logical_plan.specs.Lowering.{PatternsArePlaced, lowered};
 ghost use Rattle.logical_plan.specs.Onces.{with_onces as plan_with_onces};
 ghost use Rattle.logical_plan.specs.PlanMeaning.{plan_meaning};
+ghost use Rattle.logical_plan.specs.PlanTypes.{IsTyped};
 ghost use Rattle.logical_plan.specs.Shown.{shown};
 ghost use Rattle.logical_plan.specs.Steadiness.{OncesAreSteady};
 ghost use Rattle.promql_meaning.specs.Meaning.{meaning};
@@ -12,12 +13,12 @@ ghost use Rattle.std.specs.Prelude.{◌≡◌, ℤ, IfOk};
 use crate::lowering::lower_part;
 use crate::nodes::Plan;
 use crate::onces::with_onces;
-use promql_type::Typed;
+use promql_type::{Typed, typed_trees_fit};
 use std::alloc::{AllocError, Global};
 
 /// The plan of a typed tree: a node for each of its nodes, parentheses dropped, and a Once node over each largest part that has
 /// a selector and is the same at each instant. It means what the tree means, rows, notes and marks, on every list of samples,
-/// at every instant and under every grid. The only error is want of memory. (This project's own; the meaning is that of
+/// at every instant and under every grid. Each of its nodes is typed. The only error is want of memory. (This project's own; the meaning is that of
 /// Prometheus querying.)
 #[tactic(auto, using(crate::proofs::Lowered::plan_is_steady))]
 pub fn lower(alloc: Global, e: &Typed) -> Result<Plan, AllocError>
@@ -25,7 +26,9 @@ pub fn lower(alloc: Global, e: &Typed) -> Result<Plan, AllocError>
     // where the pattern that stands at the place of a label_replace call is that call's own
     ensures means { IfOk result (λ p. (asked : Asked) (t : ℤ) → PatternsArePlaced asked.kept (placed_of e.now) (tree_of e.now) → plan_meaning asked p t ≡ shown (meaning asked (tree_of e.now) t)) }
     ensures onces { IfOk result OncesAreSteady }
+    ensures typed { IfOk result IsTyped }
 {
+    typed_trees_fit();
     let plain = lower_part(alloc, e, e.expr())?;
     let p = with_onces(alloc, plain)?;
     Ok(p)
