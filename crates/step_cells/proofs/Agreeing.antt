@@ -46,7 +46,7 @@ use Rattle.promql_meaning.specs.Aggregations.{aggregate_of, aggregated, group_ou
 use Rattle.promql_meaning.specs.Givens.{no_marks}
 use Rattle.promql_meaning.specs.Outcomes.{with_notes}
 use Rattle.promql_meaning.specs.Ranks.{kept_labels}
-use Rattle.step_cells.specs.CellLaws.{Agree, HaveNumbers, IsPartial, PartialsAgree, has_overflow, rows_of_all}
+use Rattle.step_cells.specs.CellLaws.{Agree, HaveNumbers, PartialsAgree, has_overflow, rows_of_all}
 use Rattle.step_cells.specs.Joined.{all_cells, cell_row, finished, finished_outcome, joined_partials, joined_rows, keyed_cells, marks_with}
 use Rattle.step_cells.specs.Owed.{lost_mark, partial_cell, partial_cells, row_cells, value_cell}
 use Rattle.step_cells.proofs.CellsUnder.{all_under, cell_pair, cells_all, items_append, cells_of_parts, flat_parts, keyed_rows, parts_have_cells, some_alike, values_under}
@@ -54,6 +54,7 @@ use Rattle.step_cells.proofs.Merges.{AreNumbers, Extremes, HasCell, flat, group_
 use Rattle.step_table.specs.Alike.{any_name, has_some}
 use Rattle.step_cells.proofs.SameNames.{each_under, groups_alike, names_alike}
 use Rattle.step_cells.proofs.Orders.{lone_rows, numbers_of, outcomes_shuffled}
+use Rattle.step_cells.proofs.Asked.{IsAsked, asked}
 
 -- ---- which groups have a cell
 
@@ -82,13 +83,13 @@ nothing_in [] e = refl
 nothing_in (x ∷ xs) e = absurd (cc)
 
 -- no values have a cell
-empty_cell : (f : Aggregate) → IsPartial f → HasCell f []
-empty_cell f IsPartial.sum = rw nothing_fits refl
-empty_cell f IsPartial.avg = rw nothing_fits refl
-empty_cell f IsPartial.count = refl
-empty_cell f IsPartial.group = refl
-empty_cell f IsPartial.min = refl
-empty_cell f IsPartial.max = refl
+empty_cell : (f : Aggregate) → IsAsked f → HasCell f []
+empty_cell f IsAsked.sum = rw nothing_fits refl
+empty_cell f IsAsked.avg = rw nothing_fits refl
+empty_cell f IsAsked.count = refl
+empty_cell f IsAsked.group = refl
+empty_cell f IsAsked.min = refl
+empty_cell f IsAsked.max = refl
 
 module _ (f : Aggregate) (h : Names → List XFrac) where
   abbrev Scanned : List Names → Type 0
@@ -107,7 +108,7 @@ module _ (f : Aggregate) (h : Names → List XFrac) where
   scan [] = inl (tt, refl)
   scan (m ∷ ms) = scan_one m ms (scan ms) (partial_cell f (h m)) refl
 
-engine_scan : (f : Aggregate) → IsPartial f → (vs : List (Names × XFrac)) → IsKept f vs ⊎ IsLost f vs
+engine_scan : (f : Aggregate) → IsAsked f → (vs : List (Names × XFrac)) → IsKept f vs ⊎ IsLost f vs
 unfolding gathered
 engine_scan f is vs = by (scan f (items_of vs) (names_among vs))
   where
@@ -142,13 +143,13 @@ sum_fails q ys e = ap (λ b. some_value (ok_or (if b then Some (value_of (totals
 avg_fails : (q : XFrac) → Fails Avg q
 avg_fails q ys e = ap (λ b. some_value (ok_or (option_and_then (λ (s : XFrac). quotient s (whole_number (length ys))) (if b then Some (value_of (totals ys)) else None)) fault.Overflow)) e
 
-lost_is : (f : Aggregate) (q : XFrac) (xs : List XFrac) → IsPartial f → partial_cell f xs ≡ None → (fits (totals xs) ≡ false) × Fails f q
-lost_is f q xs IsPartial.sum e = (no_cell (fits (totals xs)) _ e, sum_fails q)
-lost_is f q xs IsPartial.avg e = (no_cell (fits (totals xs)) _ e, avg_fails q)
-lost_is f q xs IsPartial.count e = absurd (cc)
-lost_is f q xs IsPartial.group e = absurd (cc)
-lost_is f q xs IsPartial.min e = absurd (cc)
-lost_is f q xs IsPartial.max e = absurd (cc)
+lost_is : (f : Aggregate) (q : XFrac) (xs : List XFrac) → IsAsked f → partial_cell f xs ≡ None → (fits (totals xs) ≡ false) × Fails f q
+lost_is f q xs IsAsked.sum e = (no_cell (fits (totals xs)) _ e, sum_fails q)
+lost_is f q xs IsAsked.avg e = (no_cell (fits (totals xs)) _ e, avg_fails q)
+lost_is f q xs IsAsked.count e = absurd (cc)
+lost_is f q xs IsAsked.group e = absurd (cc)
+lost_is f q xs IsAsked.min e = absurd (cc)
+lost_is f q xs IsAsked.max e = absurd (cc)
 
 -- ---- marks
 
@@ -191,13 +192,13 @@ fails_at f q h n (m ∷ ms) e o =
 no_notes : (marks : Marks) → with_notes marks [] ≡ marks
 no_notes marks = λ i. record { fatal = merged-nil mark_cmp marks.fatal i; notes = merged-nil note_cmp marks.notes i }
 
-aggregated_is : (f : Aggregate) (q : XFrac) (by : Grouping) (label : List ℕ) (step : Step) → IsPartial f → aggregated f by q label step ≡ taken step.marks (map (group_outcome f q) (gathered (keyed_values by step.table.rows)))
-aggregated_is f q by label step IsPartial.sum = ap (λ m. taken m (map (group_outcome Sum q) (gathered (keyed_values by step.table.rows)))) (no_notes step.marks)
-aggregated_is f q by label step IsPartial.avg = ap (λ m. taken m (map (group_outcome Avg q) (gathered (keyed_values by step.table.rows)))) (no_notes step.marks)
-aggregated_is f q by label step IsPartial.count = ap (λ m. taken m (map (group_outcome Count q) (gathered (keyed_values by step.table.rows)))) (no_notes step.marks)
-aggregated_is f q by label step IsPartial.group = ap (λ m. taken m (map (group_outcome Group q) (gathered (keyed_values by step.table.rows)))) (no_notes step.marks)
-aggregated_is f q by label step IsPartial.min = ap (λ m. taken m (map (group_outcome Min q) (gathered (keyed_values by step.table.rows)))) (no_notes step.marks)
-aggregated_is f q by label step IsPartial.max = ap (λ m. taken m (map (group_outcome Max q) (gathered (keyed_values by step.table.rows)))) (no_notes step.marks)
+aggregated_is : (f : Aggregate) (q : XFrac) (by : Grouping) (label : List ℕ) (step : Step) → IsAsked f → aggregated f by q label step ≡ taken step.marks (map (group_outcome f q) (gathered (keyed_values by step.table.rows)))
+aggregated_is f q by label step IsAsked.sum = ap (λ m. taken m (map (group_outcome Sum q) (gathered (keyed_values by step.table.rows)))) (no_notes step.marks)
+aggregated_is f q by label step IsAsked.avg = ap (λ m. taken m (map (group_outcome Avg q) (gathered (keyed_values by step.table.rows)))) (no_notes step.marks)
+aggregated_is f q by label step IsAsked.count = ap (λ m. taken m (map (group_outcome Count q) (gathered (keyed_values by step.table.rows)))) (no_notes step.marks)
+aggregated_is f q by label step IsAsked.group = ap (λ m. taken m (map (group_outcome Group q) (gathered (keyed_values by step.table.rows)))) (no_notes step.marks)
+aggregated_is f q by label step IsAsked.min = ap (λ m. taken m (map (group_outcome Min q) (gathered (keyed_values by step.table.rows)))) (no_notes step.marks)
+aggregated_is f q by label step IsAsked.max = ap (λ m. taken m (map (group_outcome Max q) (gathered (keyed_values by step.table.rows)))) (no_notes step.marks)
 
 -- ---- all engines
 
@@ -258,7 +259,7 @@ module _ (f : Aggregate) (q : XFrac) (by : Grouping) where
   abbrev Numbers : List (Names × XFrac) → Type 0
   Numbers vs = AllByRecursion (λ (p : Names × XFrac). IsNumber p.1) vs
 
-  module _ (both : JoinedStandsForBoth) (overflows : PartOverflowsWhole) (least : LcmIsLeast) (order : OrderDoesntMatter) (unions : UnionHasMarks) (ends : Extremes) (is : IsPartial f) where
+  module _ (both : JoinedStandsForBoth) (overflows : PartOverflowsWhole) (least : LcmIsLeast) (order : OrderDoesntMatter) (unions : UnionHasMarks) (ends : Extremes) (is : IsAsked f) where
     kept_value : (steps : List StepAt) → Numbers (flat (all_values steps)) → AllKept steps → (n : Names) → finished f (items_of (cells_all f (all_values steps)) n) ≡ aggregate_of f q (items_of (flat (all_values steps)) n)
     kept_value steps numbers a n =
         let xss : List (List XFrac) = map (λ vs. items_of vs n) (all_values steps) in
@@ -362,4 +363,4 @@ module _ (f : Aggregate) (q : XFrac) (by : Grouping) where
         (scan_steps steps numbers)
 
 pub partials : JoinedStandsForBoth → PartOverflowsWhole → LcmIsLeast → OrderDoesntMatter → UnionHasMarks → Extremes → PartialsAgree
-partials both overflows least order unions ends f by arg label steps is shared n = agree f arg by both overflows least order unions ends is label steps shared n
+partials both overflows least order unions ends f by arg label steps is shared n = agree f arg by both overflows least order unions ends (asked f is) label steps shared n

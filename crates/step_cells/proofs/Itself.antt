@@ -2,11 +2,8 @@
 use Rattle.std.proofs.Common.{◌≡◌, ◌∙◌, ℕ, ◌+◌, List, [], ◌∷◌, ◌++◌, map, refl, sym, ap, subst, arith, append-nil, Some}
 use Rattle.std.specs.Prelude.{Ok}
 use Rattle.std.specs.List.{filter_map}
-use Rattle.std.specs.List.Sorted.{IsStrictlySortedBy}
-use Rattle.std.specs.Map.{keys_of}
-use Rattle.label_set.specs.Labels.{labels_cmp}
-use Rattle.step_table.specs.Gathering.{gathered_single, nothing_more, settled_table, single}
-use Rattle.step_table.specs.Groups.{Names, alone, gathered, shared_names, shared_of}
+use Rattle.step_table.specs.Gathering.{nothing_more, settled_table}
+use Rattle.step_table.specs.Groups.{Names, shared_names}
 use Rattle.step_table.specs.Outcomes.{keyed, keyed_by, lone_by, settled}
 use Rattle.step_table.specs.Sets.{step_of_rows}
 use Rattle.step_table.specs.Unions.{with_fatal}
@@ -21,6 +18,7 @@ use Rattle.promql_meaning.specs.Aggregations.{aggregated}
 use Rattle.step_cells.specs.CellLaws.{Agree, CountsAreAdded, HaveNumbers, OneEngineAgrees, OneEnginesRows, OneEnginesWindows, PartialsAgree, rows_of_all}
 use Rattle.step_cells.specs.Joined.{cell_row, counted_in, joined_partials, window_under}
 use Rattle.step_cells.specs.Owed.{partial_cells, value_cell, window_cell}
+use Rattle.step_cells.specs.InOrder.{all_lone, none_share}
 
 -- ---- rows
 
@@ -30,30 +28,6 @@ rows_back (row ∷ rows) = ap (λ (rs : List Row). row ∷ rs) (rows_back rows)
 
 pub one_engines_rows : OneEnginesRows
 one_engines_rows s is = ap (λ (rows : List Row). settled (step_of_rows rows s.step.marks)) (rows_back s.step.table.rows) ∙ settled_table s.step is
-
--- ---- items in order, no two with equal labels
-
-module _ {T : Type 0} (labels : T → Names) where
-  keys_are : (items : List T) → keys_of (keyed_by labels items) ≡ map labels items
-  keys_are [] = refl
-  keys_are (item ∷ items) = ap (λ ks. labels item ∷ ks) (keys_are items)
-
-  singles_share : (items : List T) → filter_map shared_of (map single (keyed_by labels items)) ≡ []
-  singles_share [] = refl
-  singles_share (item ∷ items) = singles_share items
-
-  lone_singles : (items : List T) → filter_map (λ (group : Names × List T). alone group.1) (map single (keyed_by labels items)) ≡ items
-  lone_singles [] = refl
-  lone_singles (item ∷ items) = ap (λ r. item ∷ r) (lone_singles items)
-
-  groups_are : (items : List T) → IsStrictlySortedBy labels_cmp (map labels items) → gathered (keyed_by labels items) ≡ map single (keyed_by labels items)
-  groups_are items s = gathered_single (keyed_by labels items) (subst (IsStrictlySortedBy labels_cmp) (sym (keys_are items)) s)
-
-  pub none_share : (items : List T) → IsStrictlySortedBy labels_cmp (map labels items) → shared_names (keyed_by labels items) ≡ []
-  none_share items s = ap (filter_map shared_of) (groups_are items s) ∙ singles_share items
-
-  pub all_lone : (items : List T) → IsStrictlySortedBy labels_cmp (map labels items) → lone_by labels items ≡ items
-  all_lone items s = ap (filter_map (λ (group : Names × List T). alone group.1)) (groups_are items s) ∙ lone_singles items
 
 -- ---- windows
 

@@ -1,4 +1,5 @@
 pub mod Agreeing
+pub mod Asked
 pub mod CellsOrder
 pub mod CellsUnder
 pub mod Extremes

@@ -20,11 +20,11 @@ use Rattle.xfrac.specs.declared.value.XFrac.TheVariants.{Fin, PosInf, NegInf, Na
 use Rattle.step_table.specs.Operators.{some_value}
 use Rattle.step_table.specs.declared.cells.Cell.{Cell}
 use Rattle.promql_meaning.specs.Aggregations.{aggregate_of}
-use Rattle.step_cells.specs.CellLaws.{IsPartial}
 use Rattle.step_table.specs.declared.cells.Cell.TheVariants as cell
 use Rattle.window_fn.specs.Aggregates.{average, greatest, least as least_of, total}
 use Rattle.step_cells.specs.Joined.{counted_in, finished, mean_in, merged, merged_with, totals_in_cell, value_in_cell}
 use Rattle.step_cells.specs.Owed.{partial_cell, sum_cell}
+use Rattle.step_cells.proofs.Asked.{IsAsked}
 
 abbrev pub flat : {X : Type 0} → List (List X) → List X
 flat [] = []
@@ -150,10 +150,10 @@ module _ (both : JoinedStandsForBoth) (overflows : PartOverflowsWhole) (least : 
       ap (λ ts. some_value (ok_or (option_and_then mean_in (merged ts)) Overflow)) (sums_of_cells parts a) ∙ ap some_value (mean_merged parts n)
 
   module _ (ends : Extremes) where
-    pub group_finished : (f : Aggregate) (q : XFrac) (parts : List (List XFrac)) → IsPartial f → AreNumbers (flat parts) → AllByRecursion (HasCell f) parts → finished f (filter_map (partial_cell f) parts) ≡ aggregate_of f q (flat parts)
-    group_finished f q parts IsPartial.sum n a = sum_finished q parts n a
-    group_finished f q parts IsPartial.avg n a = avg_finished q parts n a
-    group_finished f q parts IsPartial.count n a = ap (λ k. Ok (Some (whole_number k))) (counts parts)
-    group_finished f q parts IsPartial.group n a = refl
-    group_finished f q parts IsPartial.min n a = ap (λ vs. Ok (Some (least_of vs))) (values_of_cells least_of parts) ∙ ap (λ v. Ok (Some v)) (ends.least_parts parts n)
-    group_finished f q parts IsPartial.max n a = ap (λ vs. Ok (Some (greatest vs))) (values_of_cells greatest parts) ∙ ap (λ v. Ok (Some v)) (ends.greatest_parts parts n)
+    pub group_finished : (f : Aggregate) (q : XFrac) (parts : List (List XFrac)) → IsAsked f → AreNumbers (flat parts) → AllByRecursion (HasCell f) parts → finished f (filter_map (partial_cell f) parts) ≡ aggregate_of f q (flat parts)
+    group_finished f q parts IsAsked.sum n a = sum_finished q parts n a
+    group_finished f q parts IsAsked.avg n a = avg_finished q parts n a
+    group_finished f q parts IsAsked.count n a = ap (λ k. Ok (Some (whole_number k))) (counts parts)
+    group_finished f q parts IsAsked.group n a = refl
+    group_finished f q parts IsAsked.min n a = ap (λ vs. Ok (Some (least_of vs))) (values_of_cells least_of parts) ∙ ap (λ v. Ok (Some v)) (ends.least_parts parts n)
+    group_finished f q parts IsAsked.max n a = ap (λ vs. Ok (Some (greatest vs))) (values_of_cells greatest parts) ∙ ap (λ v. Ok (Some v)) (ends.greatest_parts parts n)

@@ -18,9 +18,10 @@ use Rattle.step_table.specs.Shuffling.{from_permutation, items_shuffled, names_s
 use Rattle.step_table.specs.declared.step.Row.{Row}
 use Rattle.promql_meaning.specs.Aggregations.{aggregate_of, group_outcome, keyed_values}
 use Rattle.label_set.specs.declared.rules.Grouping.{Grouping}
-use Rattle.step_cells.specs.CellLaws.{HaveNumbers, IsPartial}
+use Rattle.step_cells.specs.CellLaws.{HaveNumbers}
 use Rattle.step_cells.proofs.Merges.{AreNumbers}
 use Rattle.step_cells.proofs.SameNames.{each_under, groups_alike}
+use Rattle.step_cells.proofs.Asked.{IsAsked}
 
 -- ---- rows
 
@@ -47,19 +48,19 @@ numbers_of by [] n = tt
 numbers_of by (row ∷ rows) n = (n.0, numbers_of by rows n.1)
 
 -- an aggregation of values in another order
-pub aggregate_shuffled : OrderDoesntMatter → (f : Aggregate) (q : XFrac) (xs ys : List XFrac) → IsPartial f → AreNumbers xs → Shuffled xs ys → aggregate_of f q ys ≡ aggregate_of f q xs
+pub aggregate_shuffled : OrderDoesntMatter → (f : Aggregate) (q : XFrac) (xs ys : List XFrac) → IsAsked f → AreNumbers xs → Shuffled xs ys → aggregate_of f q ys ≡ aggregate_of f q xs
 aggregate_shuffled order f q xs ys is n s = one f is (order xs ys (All-from_recursion IsNumber xs n) (to_permutation xs ys s))
   where
-    one : (f : Aggregate) → IsPartial f → AreAggregatedAlike xs ys → aggregate_of f q ys ≡ aggregate_of f q xs
-    one f IsPartial.sum same = ap some_value same.sum
-    one f IsPartial.avg same = ap some_value same.avg
-    one f IsPartial.count same = ap (λ (v : XFrac). Ok (Some v)) same.count
-    one f IsPartial.group same = refl
-    one f IsPartial.min same = ap (λ (v : XFrac). Ok (Some v)) same.min
-    one f IsPartial.max same = ap (λ (v : XFrac). Ok (Some v)) same.max
+    one : (f : Aggregate) → IsAsked f → AreAggregatedAlike xs ys → aggregate_of f q ys ≡ aggregate_of f q xs
+    one f IsAsked.sum same = ap some_value same.sum
+    one f IsAsked.avg same = ap some_value same.avg
+    one f IsAsked.count same = ap (λ (v : XFrac). Ok (Some v)) same.count
+    one f IsAsked.group same = refl
+    one f IsAsked.min same = ap (λ (v : XFrac). Ok (Some v)) same.min
+    one f IsAsked.max same = ap (λ (v : XFrac). Ok (Some v)) same.max
 
 -- what comes of the groups of items in another order
-pub outcomes_shuffled : OrderDoesntMatter → (f : Aggregate) (q : XFrac) (xs ys : List (Names × XFrac)) → IsPartial f → AllByRecursion (λ (p : Names × XFrac). IsNumber p.1) xs → Shuffled xs ys
+pub outcomes_shuffled : OrderDoesntMatter → (f : Aggregate) (q : XFrac) (xs ys : List (Names × XFrac)) → IsAsked f → AllByRecursion (λ (p : Names × XFrac). IsNumber p.1) xs → Shuffled xs ys
     → map (group_outcome f q) (gathered ys) ≡ map (group_outcome f q) (gathered xs)
 unfolding gathered
 outcomes_shuffled order f q xs ys is n s =

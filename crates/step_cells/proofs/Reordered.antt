@@ -32,10 +32,11 @@ use Rattle.step_table.specs.declared.marks.Marks.{Marks}
 use Rattle.step_table.specs.declared.step.Row.{Row}
 use Rattle.step_table.specs.declared.windows.WindowRow.{WindowRow}
 use Rattle.promql_meaning.specs.Givens.{no_marks}
-use Rattle.step_cells.specs.CellLaws.{AreSound, HaveSets, IsPartial, IsSound, PartialsIgnoreOrder, RowsIgnoreOrder, WindowsIgnoreOrder}
+use Rattle.step_cells.specs.CellLaws.{AreSound, HaveSets, IsSound, PartialsIgnoreOrder, RowsIgnoreOrder, WindowsIgnoreOrder}
 use Rattle.step_cells.specs.Joined.{all_cells, all_marks, cell_row, count_in_cell, counted_in, finished, finished_outcome, keyed_cells, marks_with, mean_in, merged, rows_in, totals_in_cell, value_in_cell, window_under, windows_in}
 use Rattle.step_cells.proofs.Merges.{AreNumbers, flat, mean_merged, total_merged}
 use Rattle.step_cells.proofs.SameNames.{all_kept, each_under, groups_alike}
+use Rattle.step_cells.proofs.Asked.{IsAsked, asked}
 
 -- ---- lists of lists
 
@@ -181,25 +182,25 @@ module _ (sets : UnionIsSet) (marks_of : UnionHasMarks) (notes_of : UnionHasNote
     alike_in : (xs ys : List XFrac) → AreNumbers xs → Shuffled xs ys → AreAggregatedAlike xs ys
     alike_in xs ys n s = order xs ys (All-from_recursion IsNumber xs n) (to_permutation xs ys s)
 
-    finished_shuffled : (f : Aggregate) (xs ys : List Cell) → IsPartial f → AllByRecursion IsSound xs → Shuffled xs ys → finished f xs ≡ finished f ys
-    finished_shuffled f xs ys IsPartial.sum a s =
+    finished_shuffled : (f : Aggregate) (xs ys : List Cell) → IsAsked f → AllByRecursion IsSound xs → Shuffled xs ys → finished f xs ≡ finished f ys
+    finished_shuffled f xs ys IsAsked.sum a s =
         let front = sums_sound xs a in
         let back = made_of totals (filter_map totals_in_cell xs) (filter_map totals_in_cell ys) (chosen_shuffled totals_in_cell xs ys s) front.lists front.are in
         let all = flat_shuffled front.lists back.items back.shuffled in
         ap (λ ts. some_value (ok_or (option_map value_of (merged ts)) Overflow)) front.are
         ∙ ap some_value (total_merged both overflows least front.lists front.numbers ∙ sym (alike_in (flat front.lists) (flat back.items) front.numbers all).sum ∙ sym (total_merged both overflows least back.items (all_kept IsNumber (flat front.lists) (flat back.items) all front.numbers)))
         ∙ ap (λ ts. some_value (ok_or (option_map value_of (merged ts)) Overflow)) (sym back.made)
-    finished_shuffled f xs ys IsPartial.avg a s =
+    finished_shuffled f xs ys IsAsked.avg a s =
         let front = sums_sound xs a in
         let back = made_of totals (filter_map totals_in_cell xs) (filter_map totals_in_cell ys) (chosen_shuffled totals_in_cell xs ys s) front.lists front.are in
         let all = flat_shuffled front.lists back.items back.shuffled in
         ap (λ ts. some_value (ok_or (option_and_then mean_in (merged ts)) Overflow)) front.are
         ∙ ap some_value (mean_merged both overflows least front.lists front.numbers ∙ sym (alike_in (flat front.lists) (flat back.items) front.numbers all).avg ∙ sym (mean_merged both overflows least back.items (all_kept IsNumber (flat front.lists) (flat back.items) all front.numbers)))
         ∙ ap (λ ts. some_value (ok_or (option_and_then mean_in (merged ts)) Overflow)) (sym back.made)
-    finished_shuffled f xs ys IsPartial.count a s = ap (λ n. Ok (Some (whole_number n))) (counted_shuffled xs ys s)
-    finished_shuffled f xs ys IsPartial.group a s = refl
-    finished_shuffled f xs ys IsPartial.min a s = ap (λ v. Ok (Some v)) (sym (alike_in (filter_map value_in_cell xs) (filter_map value_in_cell ys) (values_sound xs a) (chosen_shuffled value_in_cell xs ys s)).min)
-    finished_shuffled f xs ys IsPartial.max a s = ap (λ v. Ok (Some v)) (sym (alike_in (filter_map value_in_cell xs) (filter_map value_in_cell ys) (values_sound xs a) (chosen_shuffled value_in_cell xs ys s)).max)
+    finished_shuffled f xs ys IsAsked.count a s = ap (λ n. Ok (Some (whole_number n))) (counted_shuffled xs ys s)
+    finished_shuffled f xs ys IsAsked.group a s = refl
+    finished_shuffled f xs ys IsAsked.min a s = ap (λ v. Ok (Some v)) (sym (alike_in (filter_map value_in_cell xs) (filter_map value_in_cell ys) (values_sound xs a) (chosen_shuffled value_in_cell xs ys s)).min)
+    finished_shuffled f xs ys IsAsked.max a s = ap (λ v. Ok (Some v)) (sym (alike_in (filter_map value_in_cell xs) (filter_map value_in_cell ys) (values_sound xs a) (chosen_shuffled value_in_cell xs ys s)).max)
 
     -- the cells of all engines are sound
     all_sound : (steps : List StepCells) → AllByRecursion AreSound steps → AllByRecursion (λ (row : CellRow). IsSound row.cell) (all_cells steps)
@@ -224,6 +225,6 @@ module _ (sets : UnionIsSet) (marks_of : UnionHasMarks) (notes_of : UnionHasNote
         let sound : AllByRecursion (λ (item : Names × Cell). IsSound item.1) front = keyed_sound (all_cells steps) (all_sound steps a) in
         let outcomes : map (finished_outcome f) (gathered front) ≡ map (finished_outcome f) (gathered back) =
         groups_alike (finished_outcome f) (finished_outcome f) (items_of front) (items_of back)
-        (λ n i. record { labels = n; value = finished_shuffled f (items_of front n) (items_of back n) is (each_under IsSound front n sound) (items_shuffled front back turned n) i }) (names_among front)
+        (λ n i. record { labels = n; value = finished_shuffled f (items_of front n) (items_of back n) (asked f is) (each_under IsSound front n sound) (items_shuffled front back turned n) i }) (names_among front)
         ∙ ap (λ ns. map (finished_outcome f) (map (λ n. (n, items_of back n)) ns)) (names_shuffled front back turned) in
         λ i. taken (marks i) (outcomes i)

@@ -1,9 +1,9 @@
 -- What users of cells rely on. (This project's own.)
-use Rattle.std.specs.Prelude.{◌≡◌, ℕ, ◌+◌, ◌⊎◌, Bool, true, List, [], ◌∷◌, ◌++◌, map, Ok, Some, ⊤}
+use Rattle.std.specs.Prelude.{◌≡◌, ℕ, ◌+◌, ◌⊎◌, Bool, true, List, [], ◌∷◌, ◌++◌, map, Ok, Some, IsTrue, ⊤}
 use Rattle.std.specs.List.{All, AllByRecursion}
 use Rattle.std.specs.List.Sorted.{IsStrictlySortedBy}
 use Rattle.func_table.specs.declared.table.Aggregate.{Aggregate}
-use Rattle.func_table.specs.declared.table.Aggregate.TheVariants.{Sum, Avg, Min, Max, Count, Group}
+use Rattle.func_table.specs.declared.table.Aggregate.TheVariants.{Count}
 use Rattle.label_set.specs.Labels.{labels_cmp}
 use Rattle.label_set.specs.declared.rules.Grouping.{Grouping}
 use Rattle.ticks.specs.declared.moment.Ms.{Ms}
@@ -29,16 +29,7 @@ use Rattle.step_table.specs.declared.windows.WindowRow.{WindowRow}
 use Rattle.step_batch.specs.LentWindows.{WindowsAt, names_of}
 use Rattle.promql_meaning.specs.Aggregations.{aggregated}
 use Rattle.step_cells.specs.Joined.{counted_in, finished, joined_partials, joined_rows, joined_windows, rows_in, windows_in}
-use Rattle.step_cells.specs.Owed.{partial_cell, partial_cells, row_cells, window_cells}
-
--- the aggregations that are asked of engines
-pub data IsPartial : Aggregate → Type 0 where
-  sum : IsPartial Sum
-  avg : IsPartial Avg
-  count : IsPartial Count
-  group : IsPartial Group
-  min : IsPartial Min
-  max : IsPartial Max
+use Rattle.step_cells.specs.Owed.{is_partial, partial_cell, partial_cells, row_cells, window_cells}
 
 -- ---- what is joined agrees with the aggregation
 
@@ -64,7 +55,7 @@ HaveNumbers rows = AllByRecursion (λ (row : Row). IsNumber row.value) rows
 abbrev pub PartialsAgree : Type 0
 PartialsAgree =
     (f : Aggregate) (by : Grouping) (arg : XFrac) (label : List ℕ) (steps : List StepAt)
-    → IsPartial f
+    → IsTrue (is_partial f)
     → shared_names (keyed (rows_of_all steps)) ≡ []
     → HaveNumbers (rows_of_all steps)
     → Agree (joined_partials f (map (partial_cells f by) steps)) (aggregated f by arg label (joined_rows (map row_cells steps)))
@@ -73,7 +64,7 @@ PartialsAgree =
 abbrev pub OneEngineAgrees : Type 0
 OneEngineAgrees =
     (f : Aggregate) (by : Grouping) (arg : XFrac) (label : List ℕ) (s : StepAt)
-    → IsPartial f
+    → IsTrue (is_partial f)
     → IsTable s.step.table.rows
     → HaveNumbers s.step.table.rows
     → Agree (joined_partials f (partial_cells f by s ∷ [])) (aggregated f by arg label s.step)
@@ -109,7 +100,7 @@ WindowsIgnoreOrder =
 abbrev pub PartialsIgnoreOrder : Type 0
 PartialsIgnoreOrder =
     (f : Aggregate) (steps others : List StepCells)
-    → IsPartial f
+    → IsTrue (is_partial f)
     → AllByRecursion AreSound steps
     → Shuffled steps others
     → joined_partials f steps ≡ joined_partials f others

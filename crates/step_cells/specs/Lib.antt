@@ -1,3 +1,4 @@
 pub mod CellLaws
+pub mod InOrder
 pub mod Joined
 pub mod Owed

@@ -1,6 +1,6 @@
 -- What an engine owes at one instant: its rows, its windows, or for each group what an aggregation makes of its values before it is
 -- finished. (This project's own.)
-use Rattle.std.specs.Prelude.{List, [], map, length, is_some, Option, None, Some, if◌then◌else◌}
+use Rattle.std.specs.Prelude.{Bool, true, false, List, [], map, length, is_some, Option, None, Some, if◌then◌else◌}
 use Rattle.std.specs.List.{filter_map}
 use Rattle.std.specs.Option.{option_map}
 use Rattle.func_table.specs.declared.table.Aggregate.{Aggregate}
@@ -48,6 +48,16 @@ abbrev pub window_cells : WindowsAt → StepCells
 window_cells w = record { at = w.at; rows = map window_cell w.rows; marks = w.marks }
 
 -- ---- groups
+
+-- whether an aggregation is one that engines are asked for
+abbrev pub is_partial : Aggregate → Bool
+is_partial Sum = true
+is_partial Avg = true
+is_partial Min = true
+is_partial Max = true
+is_partial Count = true
+is_partial Group = true
+is_partial _ = false
 
 -- the sum of values before it is finished; there is none where it overflows
 abbrev pub sum_cell : List XFrac → Option Cell
