@@ -9,7 +9,7 @@ use func_table::Aggregate;
 use holders::{Boxed, Items, Text};
 use label_set::Grouping;
 use logical_plan::{Plan, PlanNode};
-use plan_rewrite::{Rewrite, copied, rewritten};
+use plan_rewrite::{Rewrite, rewritten};
 use std::alloc::{AllocError, Global};
 
 /// Each average becomes a sum divided by a count.
@@ -33,7 +33,7 @@ fn all_copied(alloc: Global, plans: &Items<Plan>) -> Result<Items<Plan>, AllocEr
 {
     let mut copies = Items::new(alloc);
     for p in plans.as_slice() {
-        copies.push(copied(p)?)?;
+        copies.push(p.copy()?)?;
     }
     Ok(copies)
 }
