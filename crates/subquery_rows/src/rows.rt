@@ -4,7 +4,7 @@ ghost use Rattle.op_window.specs.Rules.{HasScalars, fed_by, windowed_at};
 ghost use Rattle.std.specs.Prelude.{◌≡◌, ◌<◌, ◌≤ℤ◌, ◌∷◌, [], ℤ, Option, None, Some, map, IfNone, IfOk, IfSome, OnOk};
 ghost use Rattle.step_batch.specs.Lent.{stages};
 ghost use Rattle.step_table.specs.declared.step.Step.{Step};
-ghost use Rattle.subquery_rows.specs.Rings.{IsAsked, IsNextStep, Stands, time_left, windows_of_points};
+ghost use Rattle.subquery_rows.specs.Rings.{IsAsked, IsNextAfter, IsNextStep, Stands, time_left, windows_of_points};
 ghost use Rattle.ticks.specs.Listed.{IsNext};
 ghost use Rattle.ticks.specs.Walks.{IsTime, LeadsToTimes, moment_at};
 ghost use Rattle.ticks.specs.declared.walk.Walk.TheVariants.{Multiples};
@@ -91,6 +91,7 @@ impl SubqueryRows {
         ensures moment { IfOk result (λ k. k.points.moment ≡ moment) }
         ensures range { IfOk result (λ k. k.points.range ≡ range) }
         ensures step { IfOk result (λ k. k.points.step ≡ step) }
+        ensures next { IfOk result (λ k. IsNextAfter k.walk None k.next) }
         ensures stands { IfOk result (λ k. (inner : ℤ → Step) → Stands k outer.now inner None) }
         ensures lent { IfOk result (λ k. stages k.buffer ≡ []) }
     {
@@ -151,6 +152,7 @@ impl SubqueryRows {
         requires scalars { HasScalars self.old.f (t ∷ []) scalar.now }
         ensures f { self.new.f ≡ self.old.f }
         ensures walk { self.new.walk ≡ self.old.walk }
+        ensures next { self.new.next ≡ self.old.next }
         ensures moment { self.new.points.moment ≡ self.old.points.moment }
         ensures range { self.new.points.range ≡ self.old.points.range }
         ensures step { self.new.points.step ≡ self.old.points.step }
