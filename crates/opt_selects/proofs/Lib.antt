@@ -1,0 +1,4 @@
+mod Lasts
+mod Merges
+mod Orders
+mod Parts

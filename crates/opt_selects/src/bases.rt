@@ -1,0 +1,132 @@
+//! The base of a selector.
+ghost use Rattle.opt_selects.specs.Bases.{base_among, is_base, is_equality, names_metric, same_fixed, same_flag, same_moment, same_range, share_metric};
+ghost use Rattle.plan_rewrite.specs.RuleLists.{is_part as is_part_of, lacking as lacking_of};
+ghost use Rattle.std.specs.Prelude.{◌≡◌, false, option_map, IfOk, IsTrue};
+
+use crate::found::Found;
+use holders::Items;
+use label_set::{METRIC_NAME, Rule, RuleKind};
+use plan_rewrite::{has_rule, is_part};
+use promql_ast::{Fixed, Moment};
+use std::alloc::{AllocError, Global};
+use ticks::Ms;
+
+fn same_fixed(a: Option<Fixed>, b: Option<Fixed>) -> bool
+    ensures { result ≡ same_fixed a b }
+{
+    match (a, b) {
+        (None, None) => true,
+        (Some(Fixed::At(a)), Some(Fixed::At(b))) => a.0 == b.0,
+        (Some(Fixed::Start), Some(Fixed::Start)) => true,
+        (Some(Fixed::End), Some(Fixed::End)) => true,
+        _ => false,
+    }
+}
+
+fn same_flag(a: bool, b: bool) -> bool
+    ensures { result ≡ same_flag a b }
+{
+    a == b
+}
+
+fn same_moment(a: &Moment, b: &Moment) -> bool
+    ensures { result ≡ same_moment a.now b.now }
+{
+    same_fixed(a.fixed, b.fixed) && a.offset.0 == b.offset.0 && same_flag(a.closed, b.closed)
+}
+
+fn same_range(a: Option<Ms>, b: Option<Ms>) -> bool
+    ensures { result ≡ same_range a b }
+{
+    match (a, b) {
+        (None, None) => true,
+        (Some(a), Some(b)) => a.0 == b.0,
+        _ => false,
+    }
+}
+
+fn is_equality(kind: &RuleKind) -> bool
+    ensures { result ≡ is_equality kind.now }
+{
+    match kind {
+        RuleKind::Eq(_) => true,
+        _ => false,
+    }
+}
+
+fn names_metric(rule: &Rule) -> bool
+    ensures { result ≡ names_metric rule.now }
+{
+    rule.label.as_str() == METRIC_NAME && is_equality(&rule.kind)
+}
+
+fn share_metric(a: &[Rule], b: &[Rule]) -> bool
+    ensures { result ≡ share_metric a.now b.now }
+{
+    for rule in a {
+        if names_metric(rule) && has_rule(b, rule) {
+            return true;
+        }
+    }
+    false
+}
+
+/// Whether the last rule of the first list isn't among those of the second, which is asked first since it tells most lists apart.
+#[tactic(auto, using(crate::proofs::Lasts::no_part))]
+fn lacks_last(a: &[Rule], b: &[Rule]) -> bool
+    ensures { IsTrue result → is_part_of a.now b.now ≡ false }
+{
+    if a.is_empty() {
+        return false;
+    }
+    let rule = &a[a.len() - 1];
+    !has_rule(b, rule)
+}
+
+#[tactic(auto, using(crate::proofs::Lasts::no_base))]
+fn is_base(a: &Found, rules: &[Rule], moment: &Moment, range: Option<Ms>) -> bool
+    ensures { result ≡ is_base rules.now moment.now range a.now }
+{
+    if lacks_last(a.rules.as_slice(), rules) {
+        return false;
+    }
+    same_moment(&a.moment, moment)
+        && same_range(a.range, range)
+        && share_metric(a.rules.as_slice(), rules)
+        && is_part(a.rules.as_slice(), rules)
+        && !is_part(rules, a.rules.as_slice())
+}
+
+/// The rules of the first selector that is a base for rules at a moment and over a range.
+pub(crate) fn base_among<'f>(
+    found: &'f [Found],
+    rules: &[Rule],
+    moment: &Moment,
+    range: Option<Ms>,
+) -> Option<&'f Items<Rule>>
+    ensures { option_map (λ base. base.now) result ≡ base_among found.now rules.now moment.now range }
+{
+    for a in found {
+        if is_base(a, rules, moment, range) {
+            return Some(&a.rules);
+        }
+    }
+    None
+}
+
+/// The rules of the second list that the first one lacks.
+pub(crate) fn lacking(
+    alloc: Global,
+    base: &[Rule],
+    rules: Items<Rule>,
+) -> Result<Items<Rule>, AllocError>
+    ensures { IfOk result (λ more. more ≡ lacking_of base.now rules) }
+{
+    let mut more = Items::new(alloc);
+    for rule in rules.into_vec() {
+        if !has_rule(base, &rule) {
+            more.push(rule)?;
+        }
+    }
+    Ok(more)
+}
