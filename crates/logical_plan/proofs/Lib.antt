@@ -1,5 +1,9 @@
+pub mod Crowding
+pub mod Depths
+pub mod Fronts
 pub mod Knowing
 pub mod Lasts
+pub mod Limits
 pub mod Lowered
 pub mod Lowers
 pub mod Placements
@@ -7,3 +11,4 @@ pub mod Placing
 pub mod Showing
 pub mod Steady
 pub mod Typings
+pub mod Valid

@@ -54,6 +54,7 @@ use Rattle.logical_plan.specs.PlanFolds.{of-Number, of-Time, of-Select, of-Range
 use Rattle.logical_plan.specs.PlanMeaning.{Meant, element_given, givens_at, node_meant, plan_meant, window_given}
 use Rattle.logical_plan.specs.PlanRules.{absent_under, own_outcome, pattern_text, stamp, time_outcome}
 use Rattle.logical_plan.specs.Shown.{rules_of, shown}
+use Rattle.logical_plan.proofs.Fronts.{behind, front}
 use Rattle.logical_plan.proofs.Lasts.{IsWindowed, gathered_are, last_absent, range_windows}
 use Rattle.logical_plan.proofs.Showing.{IsPlain, IsUnscalar, absent_shown, aggregation_shown, applied_first, applied_shown, negation_plain, negation_shown, negation_unscalar, operation_plain, operation_shown, over_shown, over_with_shown, step_shown, unscalar_negation, unscalar_operation}
 
@@ -97,16 +98,6 @@ negated_step (given.Vector step) = refl
 negated_step (given.Selected s) = refl
 negated_step (given.Windows w) = refl
 negated_step (given.Words text) = refl
-
--- ---- facts of lists in two parts
-
-front : {A : Type 0} (P : A → Type 0) (xs ys : List A) → AllByRecursion P (xs ++ ys) → AllByRecursion P xs
-front P [] ys a = tt
-front P (x ∷ xs) ys a = (a.0, front P xs ys a.1)
-
-behind : {A : Type 0} (P : A → Type 0) (xs ys : List A) → AllByRecursion P (xs ++ ys) → AllByRecursion P ys
-behind P [] ys a = a
-behind P (x ∷ xs) ys a = behind P xs ys a.1
 
 module _ (asked : Asked) (placed : List Placed) where
   abbrev M : Plan → Meant

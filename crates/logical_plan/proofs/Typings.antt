@@ -42,12 +42,9 @@ use Rattle.logical_plan.specs.declared.nodes.PlanNode.TheVariants as node
 use Rattle.logical_plan.specs.Lowering.{Low, Replacing, absent_over_node, all_calls, call_node, group_node, low, low_node, lowered, minus_node, nothing_node, own_call, plan_at, planned, plans_of, stamp_node, windows_or}
 use Rattle.logical_plan.specs.PlanFolds.{of-Number, of-Time, of-Select, of-Range, of-Subquery, of-Element, of-Stamp, of-Window, of-Absent, of-Buckets, of-Relabel, of-Sort, of-ScalarOf, of-VectorOf, of-Group, of-Pair, of-Set}
 use Rattle.logical_plan.specs.PlanTypes.{IsTyped, Typing, are_sound, element_kind, has_none, is_element, is_filled, is_group, is_of, is_pair, is_relabel, is_sound, is_stamped, is_window, kinds_of, node_typing, operand_of, typing}
+use Rattle.logical_plan.proofs.Fronts.{back_none, both_true, front_none}
 
 -- ---- truths
-
-both_true : (a b : Bool) → a ≡ true → b ≡ true → (a && b) ≡ true
-both_true true b h i = i
-both_true false b h i = absurd (cc)
 
 three_true : (a b c : Bool) → a ≡ true → b ≡ true → c ≡ true → (a && b && c) ≡ true
 three_true a b c h i j = both_true (a && b) c (both_true a b h i) j
@@ -228,7 +225,7 @@ paired op p l r at hl hr matching comparison =
 
 -- ---- what calls give
 
-call_kind : (f : Func) → (call_gives_scalar f ≡ is_scalar (signature (Function f)).gives) × (is_number (signature (Function f)).gives ≡ true)
+pub call_kind : (f : Func) → (call_gives_scalar f ≡ is_scalar (signature (Function f)).gives) × (is_number (signature (Function f)).gives ≡ true)
 call_kind (func.Element f) = of_element f
   where
     of_element : (f : ElementFunction) → (false ≡ is_scalar (signature (Function (func.Element f))).gives) × (is_number (signature (Function (func.Element f))).gives ≡ true)
@@ -306,7 +303,7 @@ number_kind Words is = absurd (cc)
 not_words : (k : Kind) → is_number k ≡ true → k ≡ Words → ⊥
 not_words k is same = absurd (true≢false (sym is ∙ ap is_number same))
 
-not_windows : (k : Kind) → is_number k ≡ true → k ≡ Windows → ⊥
+pub not_windows : (k : Kind) → is_number k ≡ true → k ≡ Windows → ⊥
 not_windows k is same = absurd (true≢false (sym is ∙ ap is_number same))
 
 record IsString (literal : Option Literal) (words : List ℕ) : Type 0 where
@@ -339,14 +336,6 @@ unnamed_words false x is = refl
 
 unnamed : (o : Option Literal) (words : List ℕ) → IsString o words → template_refusals o ≡ [] → not (is_named words) ≡ true
 unnamed o words string is = unnamed_words (is_named words) _ (ap template_refusals (sym string.is) ∙ is)
-
-front_none : (xs ys : List QueryRefusal) → xs ++ ys ≡ [] → xs ≡ []
-front_none [] ys is = refl
-front_none (r ∷ rs) ys is = absurd (omega (arith, ap length is))
-
-back_none : (xs ys : List QueryRefusal) → xs ++ ys ≡ [] → ys ≡ []
-back_none [] ys is = is
-back_none (r ∷ rs) ys is = absurd (omega (arith, ap length is))
 
 -- ---- more arguments than are taken
 
@@ -390,6 +379,24 @@ own_replacing : (at : ℕ) (a b c d j : Judgement) (words : List ℕ) → IsStri
 own_replacing at a b c d j words string =
     sym (ap (λ (o : Option Literal). map replacing (pattern_of func.LabelReplace (a ∷ b ∷ c ∷ d ∷ record j { literal = o } ∷ []) at)) string.is)
 
+-- ---- nodes that fit
+
+abbrev At : Type 0
+At = ℕ → Judgement
+
+abbrev node_judged : Node → At
+node_judged = fold-Node At Judgement node_step expr_step
+
+-- a node without refusals fits
+pub fits_of : TypedTreesFit → (z : Node-F Node Expr) (at : ℕ) → (node_step (map-Node Node Expr At Judgement node_judged judged z) at).refusals ≡ []
+    → Fits (map-Node Node Expr At Judgement node_judged judged z) at
+fits_of fit z at none =
+    subst (λ x. Fits (map-Node Node Expr At Judgement node_judged judged x) at) (out-roll-Node z)
+    (fit (roll-Expr (record { at = at; node = roll-Node z }))
+    (ap (λ (j : Judgement). j.refusals)
+    (fold-roll-Expr At Judgement node_step expr_step (record { at = at; node = roll-Node z })
+    ∙ ap (λ (f : At). f at) (fold-roll-Node At Judgement node_step expr_step z)) ∙ none))
+
 module _ (fit : TypedTreesFit) (placed : List Placed) where
   -- the plan of a tree without refusals
   record IsGood (l : Low) (j : Judgement) : Type 0 where
@@ -406,12 +413,6 @@ module _ (fit : TypedTreesFit) (placed : List Placed) where
 
   abbrev Kept : Type 0
   Kept = (e : Expr) × IsKept e
-
-  abbrev At : Type 0
-  At = ℕ → Judgement
-
-  abbrev node_judged : Node → At
-  node_judged = fold-Node At Judgement node_step expr_step
 
   abbrev low_in : Node → ℕ → Low
   low_in = fold-Node (ℕ → Low) Low low_node (λ e. e.node e.at)
@@ -694,14 +695,8 @@ module _ (fit : TypedTreesFit) (placed : List Placed) where
   abbrev low_layer : Layer → Node-F (ℕ → Low) Low
   low_layer y = map-Node Node Expr (ℕ → Low) Low low_in low (bare y)
 
-  -- a node without refusals fits
   fits_at : (y : Layer) (at : ℕ) → (node_step (judged_layer y) at).refusals ≡ [] → Fits (judged_layer y) at
-  fits_at y at none =
-      subst (λ z. Fits (map-Node Node Expr At Judgement node_judged judged z) at) (out-roll-Node (bare y))
-      (fit (roll-Expr (record { at = at; node = roll-Node (bare y) }))
-      (ap (λ (j : Judgement). j.refusals)
-      (fold-roll-Expr At Judgement node_step expr_step (record { at = at; node = roll-Node (bare y) })
-      ∙ ap (λ (f : At). f at) (fold-roll-Node At Judgement node_step expr_step (bare y))) ∙ none))
+  fits_at y at none = fits_of fit (bare y) at none
 
   told : (y : Layer) (at : ℕ) → IsTold (low_node (low_layer y) at) (node_step (judged_layer y) at)
   told (Node-F.Number value) at = number_told _ _ refl refl
@@ -779,3 +774,7 @@ lowered_typed fit placed e none = ((all_kept fit placed e).good none).child.0
 
 pub lowered_calls : TypedTreesFit → (placed : List Placed) (e : Expr) → (judged e).refusals ≡ [] → (low e).calls ≡ map replacing (judged e).replacements
 lowered_calls fit placed e none = ((all_kept fit placed e).good none).calls
+
+-- a tree that gives a vector is known to give no scalar
+pub unscalar : TypedTreesFit → (placed : List Placed) (e : Expr) → (judged e).operand.gives ≡ Vector → (low e).scalar ≡ false
+unscalar fit placed e is = (all_kept fit placed e).told.scalar ∙ ap is_scalar is

@@ -8,3 +8,4 @@ pub mod PlanRules
 pub mod PlanTypes
 pub mod Shown
 pub mod Steadiness
+pub mod Validity

@@ -3,6 +3,7 @@ ghost use Rattle.logical_plan.specs.Laws.{PlanMeansItsTree};
 ghost use Rattle.logical_plan.specs.Placements.{KeptPatternsArePlaced};
 ghost use Rattle.logical_plan.specs.Onces.{OncesKeepMeanings, OncesStandOverSteady};
 ghost use Rattle.logical_plan.specs.Steadiness.{SteadyPlanStays};
+ghost use Rattle.logical_plan.specs.Validity.{CheckedTreesAreWithinLimits, OncesKeepValidity};
 
 use promql_type::typed_trees_fit;
 
@@ -29,3 +30,13 @@ pub fn kept_patterns_are_placed()
 {
     typed_trees_fit();
 }
+
+/// The typed tree of a tree that was read and not refused is within the limits that make its plan valid.
+pub fn checked_trees_are_within_limits()
+    ensures { CheckedTreesAreWithinLimits }
+{}
+
+/// A plan with its Once nodes is valid where it is valid without them.
+pub fn onces_keep_validity()
+    ensures { OncesKeepValidity }
+{}

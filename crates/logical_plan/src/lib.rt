@@ -11,7 +11,8 @@ mod steadiness;
 mod typed_plan;
 
 pub use laws::{
-    kept_patterns_are_placed, onces_keep_meanings, plans_mean_their_trees, steady_plans_stay,
+    checked_trees_are_within_limits, kept_patterns_are_placed, onces_keep_meanings,
+    onces_keep_validity, plans_mean_their_trees, steady_plans_stay,
 };
 pub use nodes::{Plan, PlanNode};
 pub use onces::with_onces;

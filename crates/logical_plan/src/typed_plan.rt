@@ -5,10 +5,11 @@ ghost use Rattle.logical_plan.specs.PlanMeaning.{plan_meaning};
 ghost use Rattle.logical_plan.specs.PlanTypes.{IsTyped};
 ghost use Rattle.logical_plan.specs.Shown.{shown};
 ghost use Rattle.logical_plan.specs.Steadiness.{OncesAreSteady};
+ghost use Rattle.logical_plan.specs.Validity.{IsValid, IsWithinLimits};
 ghost use Rattle.promql_meaning.specs.Meaning.{meaning};
 ghost use Rattle.promql_meaning.specs.Selecting.{Asked};
 ghost use Rattle.promql_type.specs.TypedTrees.{placed_of, tree_of};
-ghost use Rattle.std.specs.Prelude.{◌≡◌, ℤ, IfOk};
+ghost use Rattle.std.specs.Prelude.{◌≡◌, ℕ, ℤ, IfOk};
 
 use crate::lowering::lower_part;
 use crate::nodes::Plan;
@@ -27,6 +28,8 @@ pub fn lower(alloc: Global, e: &Typed) -> Result<Plan, AllocError>
     ensures means { IfOk result (λ p. (asked : Asked) (t : ℤ) → PatternsArePlaced asked.kept (placed_of e.now) (tree_of e.now) → plan_meaning asked p t ≡ shown (meaning asked (tree_of e.now) t)) }
     ensures onces { IfOk result OncesAreSteady }
     ensures typed { IfOk result IsTyped }
+    // where the tree is within the limits of the language
+    ensures valid { IfOk result (λ p. (longest latest : ℕ) → IsWithinLimits longest latest (tree_of e.now) → IsValid longest latest p) }
 {
     typed_trees_fit();
     let plain = lower_part(alloc, e, e.expr())?;
