@@ -1,0 +1,10 @@
+pub mod Beside
+pub mod Chained
+pub mod Copies
+pub mod Going
+pub mod Heights
+pub mod Leaves
+pub mod Parts
+pub mod Repeats
+pub mod Rings
+pub mod Scalars

@@ -1,0 +1,5 @@
+pub mod Chains
+pub mod Feeds
+pub mod Laws
+pub mod Nodes
+pub mod Shapes

@@ -1,0 +1,107 @@
+-- What a tree of kernels is made of, and the step that it gives at an instant, by the rules of its kernels. (This project's own.)
+use Rattle.std.specs.Prelude.{◌≡◌, ◌<ℤ◌, ◌&&◌, ◌||◌, ℕ, ℤ, pos, Bool, true, false, not, List, ⊤, IsTrue}
+use Rattle.func_table.specs.declared.table.Window.{Window}
+use Rattle.op_element.specs.Rules.{element_step}
+use Rattle.op_element.specs.declared.formula.ElementRule.{ElementRule}
+use Rattle.op_labels.specs.Rules.{Kept}
+use Rattle.op_select.specs.Newest.{AreOnce, selected}
+use Rattle.op_small.specs.Rules.{small}
+use Rattle.op_small.specs.declared.rule.SmallRule.{SmallRule}
+use Rattle.op_window.specs.Rules.{takes_scalar as reads_scalar, windows_of_series}
+use Rattle.promql_meaning.specs.Givens.{barren, no_marks}
+use Rattle.promql_meaning.specs.Meaning.{windowed_by}
+use Rattle.promql_meaning.specs.Selecting.{lookback}
+use Rattle.promql_meaning.specs.Subqueries.{points_of}
+use Rattle.sample_store.specs.Samples.{AllSeries}
+use Rattle.series_marks.specs.Reaches.{AreThere}
+use Rattle.step_kernels.specs.Binaries.{binary_step, takes_scalar}
+use Rattle.step_kernels.specs.Laws.{binary_keeps_scalars, unary_keeps_scalars, unary_makes_scalars}
+use Rattle.step_kernels.specs.Unaries.{reads_rows, unary_step}
+use Rattle.step_kernels.specs.declared.binary.BinaryRule.{BinaryRule}
+use Rattle.step_kernels.specs.declared.unary.UnaryRule.{UnaryRule}
+use Rattle.step_table.specs.declared.step.Step.{Step}
+use Rattle.ticks.specs.Walks.{HasTimes, IsInstant, IsTime, moment_at}
+use Rattle.ticks.specs.declared.moment.Ms.{Ms}
+use Rattle.ticks.specs.declared.walk.Walk.{Walk}
+use Rattle.ticks.specs.declared.walk.Walk.TheVariants.{Multiples}
+use Rattle.ticks.specs.declared.walk.WalkMoment.{WalkMoment}
+
+-- a tree without what its kernels have come to; a subquery's walk is that of its inner instants
+pub data Shape : Type 0 where
+  InstantsOf : SmallRule → Shape
+  SelectOf : (series : List ℕ) → WalkMoment → (stamped : Bool) → Shape
+  SeriesOf : (series : List ℕ) → Window → WalkMoment → (range : Ms) → (scalar : Shape) → Shape
+  UnaryOf : UnaryRule → (rows : Shape) → Shape
+  BinaryOf : BinaryRule → (rows beside : Shape) → Shape
+  ClampOf : ElementRule → (rows low high : Shape) → Shape
+  PointsOf : Window → Walk → WalkMoment → (range step : Ms) → (inner scalar : Shape) → Shape
+  OnceOf : (first : Ms) → (child : Shape) → Shape
+
+-- ---- the rule
+
+-- the step at an instant, over a store and kept patterns
+abbrev pub rule : AllSeries → Kept → Shape → ℤ → Step
+rule store kept (InstantsOf one) t = small one t (barren no_marks)
+rule store kept (SelectOf series moment stamped) t = (selected store series moment stamped (record { 0 = t })).step
+rule store kept (SeriesOf series f moment range scalar) t = windowed_by f t (rule store kept scalar t) (windows_of_series store series moment range (record { 0 = t }))
+rule store kept (UnaryOf one rows) t = unary_step kept one t (rule store kept rows t)
+rule store kept (BinaryOf one rows beside) t = binary_step one (rule store kept rows t) (rule store kept beside t)
+rule store kept (ClampOf one rows low high) t = element_step one (rule store kept low t) (rule store kept high t) (rule store kept rows t)
+rule store kept (PointsOf f walk moment range step inner scalar) t =
+    windowed_by f t (rule store kept scalar t) (points_of moment.closed (rule store kept inner) range step (moment_at moment t))
+rule store kept (OnceOf first child) t = rule store kept child first.0
+
+-- ---- two tests
+
+-- whether each step has one row at most, whatever the store has
+abbrev pub is_scalar : Shape → Bool
+is_scalar (InstantsOf one) = true
+is_scalar (SelectOf series moment stamped) = false
+is_scalar (SeriesOf series f moment range scalar) = false
+is_scalar (UnaryOf one rows) = unary_makes_scalars one || (unary_keeps_scalars one && is_scalar rows)
+is_scalar (BinaryOf one rows beside) = binary_keeps_scalars one && is_scalar rows
+is_scalar (ClampOf one rows low high) = false
+is_scalar (PointsOf f walk moment range step inner scalar) = false
+is_scalar (OnceOf first child) = is_scalar child
+
+-- whether it is fed one instant at a time: a subquery is, and what reads one at the same instants
+abbrev pub is_single : Shape → Bool
+is_single (InstantsOf one) = false
+is_single (SelectOf series moment stamped) = false
+is_single (SeriesOf series f moment range scalar) = is_single scalar
+is_single (UnaryOf one rows) = is_single rows
+is_single (BinaryOf one rows beside) = is_single rows || is_single beside
+is_single (ClampOf one rows low high) = is_single rows || (is_single low || is_single high)
+is_single (PointsOf f walk moment range step inner scalar) = true
+is_single (OnceOf first child) = false
+
+-- ---- conditions
+
+-- a subquery is asked at an instant of the walk that its own one is made of
+abbrev pub IsAskedOn : Walk → WalkMoment → Ms → Ms → ℤ → Type 0
+IsAskedOn walk moment range step t = (outer : Walk) × (walk ≡ Multiples outer moment range step) × IsInstant outer t
+
+-- the windows of all parts at an instant lie within the times
+abbrev pub StaysInTimes : Shape → ℤ → Type 0
+StaysInTimes (InstantsOf one) t = ⊤
+StaysInTimes (SelectOf series moment stamped) t = HasTimes (moment_at moment t) lookback
+StaysInTimes (SeriesOf series f moment range scalar) t = IsTime t × HasTimes (moment_at moment t) range.0 × StaysInTimes scalar t
+StaysInTimes (UnaryOf one rows) t = StaysInTimes rows t
+StaysInTimes (BinaryOf one rows beside) t = StaysInTimes rows t × StaysInTimes beside t
+StaysInTimes (ClampOf one rows low high) t = StaysInTimes rows t × StaysInTimes low t × StaysInTimes high t
+StaysInTimes (PointsOf f walk moment range step inner scalar) t = IsTime t × IsAskedOn walk moment range step t × StaysInTimes scalar t
+StaysInTimes (OnceOf first child) t = StaysInTimes child first.0
+
+-- what a tree is made of fits together: a scalar is one where it is read as such, series are in the store, and a subquery's inner
+-- instants lead to times
+abbrev pub IsFit : AllSeries → Shape → Type 0
+IsFit store (InstantsOf one) = IsTrue (not (reads_rows one))
+IsFit store (SelectOf series moment stamped) = AreThere store series × AreOnce series
+IsFit store (SeriesOf series f moment range scalar) =
+    AreThere store series × (pos 0 <ℤ range.0) × (IsTrue (reads_scalar f) → IsTrue (is_scalar scalar)) × IsFit store scalar
+IsFit store (UnaryOf one rows) = IsFit store rows
+IsFit store (BinaryOf one rows beside) = (IsTrue (takes_scalar one) → IsTrue (is_scalar beside)) × IsFit store rows × IsFit store beside
+IsFit store (ClampOf one rows low high) = IsTrue (is_scalar low) × IsTrue (is_scalar high) × IsFit store rows × IsFit store low × IsFit store high
+IsFit store (PointsOf f walk moment range step inner scalar) =
+    ((u : ℤ) → IsInstant walk u → StaysInTimes inner u) × (IsTrue (reads_scalar f) → IsTrue (is_scalar scalar)) × IsFit store inner × IsFit store scalar
+IsFit store (OnceOf first child) = IsFit store child

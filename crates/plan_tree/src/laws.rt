@@ -1,0 +1,18 @@
+//! Laws of trees. The functions do nothing: each stands for what its contract says.
+ghost use Rattle.plan_tree.specs.Laws.{MarksAreSets, ScalarsHaveOneRow};
+
+use step_kernels::laws::{marks_stay_sets, scalars_stay};
+
+/// A scalar has one row at most at each instant.
+pub fn scalars_have_one_row()
+    ensures { ScalarsHaveOneRow }
+{
+    scalars_stay();
+}
+
+/// The marks and notes of what a tree gives are sets.
+pub fn marks_are_sets()
+    ensures { MarksAreSets }
+{
+    marks_stay_sets();
+}
