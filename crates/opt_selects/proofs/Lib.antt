@@ -2,3 +2,4 @@ mod Lasts
 mod Merges
 mod Orders
 mod Parts
+mod Trims
