@@ -1,6 +1,6 @@
 -- Steps that are fed one after another.
 use Rattle.std.proofs.Common.{◌≡◌, ◌∙◌, ◌+◌, ◌<◌, ◌≤◌, ℕ, zero, suc, arith, List, [], ◌∷◌, ◌++◌, length, slice_get, take, drop, map, refl, sym, ap, subst, Some}
-use Rattle.std.specs.Prelude.{◌<ℤ◌, not, ⊤}
+use Rattle.std.specs.Prelude.{◌<ℤ◌, Bool, true, false, not, if◌then◌else◌, ⊤}
 use Rattle.std.specs.List.{AllByRecursion}
 use Rattle.std.specs.Option.{option_map}
 use Rattle.std.proofs.lemmas.Option.{slice_get_within}
@@ -18,7 +18,12 @@ use Rattle.step_table.specs.Groups.{Names}
 use Rattle.step_table.specs.Timed.{StepAt}
 use Rattle.step_table.specs.declared.marks.Marks.{Marks}
 use Rattle.ticks.specs.declared.moment.Ms.{Ms}
-use Rattle.op_aggregate.specs.Rules.{aggregated_at, aggregations}
+use Rattle.step_table.specs.declared.cells.StepCells.{StepCells}
+use Rattle.step_cells.specs.Owed.{partial_cells}
+use Rattle.std.proofs.lemmas.List.{map-append}
+use Rattle.op_aggregate.specs.OwedCells.{cells_at}
+use Rattle.op_aggregate.specs.declared.owed.OwedStep.{OwedStep}
+use Rattle.op_aggregate.specs.Rules.{aggregated_at, aggregations, owed_cells}
 
 -- ---- places
 
@@ -112,3 +117,31 @@ whole [] zero l = refl
 whole [] (suc i) l = refl
 whole (x ∷ xs) zero l = absurd (omega arith)
 whole (x ∷ xs) (suc i) l = ap (λ r. x ∷ r) (whole xs i (omega arith))
+
+-- ---- what is owed
+
+mapped_more : {A B : Type 0} (f : A → B) (xs : List A) (i : ℕ) (x : A) → slice_get xs i ≡ Some x → map f (take (i + 1) xs) ≡ map f (take i xs) ++ f x ∷ []
+mapped_more f [] i x e = absurd (cc)
+mapped_more f (y ∷ xs) zero x e = let same : y ≡ x = cc in ap (λ z. f z ∷ []) same
+mapped_more f (y ∷ xs) (suc i) x e = let n : suc i + 1 ≡ suc (i + 1) = omega arith in rw n (ap (λ r. f y ∷ r) (mapped_more f xs i x e))
+
+pub owed_none : (partial : Bool) (f : Aggregate) (by : Grouping) → owed_cells partial f by [] ≡ []
+owed_none true f by = refl
+owed_none false f by = refl
+
+owed_more : (partial : Bool) (f : Aggregate) (by : Grouping) (ss : List StepAt) (i : ℕ) (s : StepAt) → slice_get ss i ≡ Some s → owed_cells partial f by (take (i + 1) ss) ≡ owed_cells partial f by (take i ss) ++ owed_cells partial f by (s ∷ [])
+owed_more true f by ss i s e = mapped_more (partial_cells f by) ss i s e
+owed_more false f by ss i s e = refl
+
+-- what is owed of one step more
+pub owed_next : (partial : Bool) (f : Aggregate) (by : Grouping) (ss : List StepAt) (old new : List StepCells) (i : ℕ) → i < length ss → old ≡ owed_cells partial f by (take i ss)
+    → ((s : StepAt) → slice_get ss i ≡ Some s → new ≡ old ++ owed_cells partial f by (s ∷ [])) → new ≡ owed_cells partial f by (take (i + 1) ss)
+owed_next partial f by ss old new i l o n =
+    let s = some_here ss i l in
+    n s.0 s.1 ∙ ap (λ (w : List StepCells). w ++ owed_cells partial f by (s.0 ∷ [])) o ∙ sym (owed_more partial f by ss i s.0 s.1)
+
+-- the cells of what is kept of one step more, if they are asked for
+pub kept_next : (partial : Bool) (f : Aggregate) (by : Grouping) (labels : List Names) (old new : List OwedStep) (step : OwedStep) (s : StepAt) → new ≡ old ++ (if partial then step ∷ [] else []) → cells_at labels step ≡ partial_cells f by s
+    → map (cells_at labels) new ≡ map (cells_at labels) old ++ owed_cells partial f by (s ∷ [])
+kept_next true f by labels old new step s e c = ap (map (cells_at labels)) e ∙ map-append (cells_at labels) old (step ∷ []) ∙ ap (λ (z : StepCells). map (cells_at labels) old ++ z ∷ []) c
+kept_next false f by labels old new step s e c = ap (map (cells_at labels)) e ∙ map-append (cells_at labels) old []

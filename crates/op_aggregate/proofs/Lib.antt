@@ -4,4 +4,5 @@ pub mod Feeding
 pub mod Grouping
 pub mod Made
 pub mod OneByOne
+pub mod Owing
 pub mod Tallying

@@ -84,7 +84,7 @@ at_apart q k n = elim (is_at (labels_cmp q) k) as (λ b. is_at (labels_cmp q) k 
 
 -- ---- labels by their places
 
-abbrev name : List Names → ℕ → Names
+abbrev pub name : List Names → ℕ → Names
 name labels q = slice_index_or labels q []
 
 told_apart : (l n : Names) (ls : List Names) (j : ℕ) → AllByRecursion (λ y. labels_eq l y ≡ false) ls → j < length ls → l ≡ name ls j → ⊥
@@ -147,7 +147,7 @@ both_none : (a b : Bool) → a ≡ false → b ≡ false → (a || b) ≡ false
 both_none true b e f = absurd (cc)
 both_none false b e f = f
 
-others_shuffled : (xs ys : List Names) → Shuffled xs ys → AreOthers xs → AreOthers ys
+pub others_shuffled : (xs ys : List Names) → Shuffled xs ys → AreOthers xs → AreOthers ys
 others_shuffled _ _ none a = tt
 others_shuffled _ _ (kept x xs ys s) a = (sym (any_shuffled (is_at (labels_cmp x)) xs ys s) ∙ a.0, others_shuffled xs ys s a.1)
 others_shuffled _ _ (swapped x y xs) a = (
@@ -164,7 +164,7 @@ none_above : (k : Names) (ks : List Names) → AllByRecursion (λ q. labels_cmp 
 none_above k [] a = refl
 none_above k (q ∷ ks) a = rw a.0 (none_above k ks a.1)
 
-sorted_others : (ns : List Names) → IsStrictlySortedBy labels_cmp ns → AreOthers ns
+pub sorted_others : (ns : List Names) → IsStrictlySortedBy labels_cmp ns → AreOthers ns
 unfolding IsStrictlySortedBy
 sorted_others [] s = tt
 sorted_others (n ∷ ns) s = (none_above n ns s.0, sorted_others ns s.1)
@@ -193,7 +193,7 @@ set_shuffled_on done (n ∷ ns) a =
     joined (done ++ n ∷ ns) (insert_key labels_cmp done n ++ ns) (fold (insert_key labels_cmp) (insert_key labels_cmp done n) ns) all
     (set_shuffled_on (insert_key labels_cmp done n) ns (others_shuffled (done ++ n ∷ ns) (insert_key labels_cmp done n ++ ns) all a))
 
-entry_inserted : (k : Names) (v : XFrac) (es : List Entry) → list_any (is_at (labels_cmp k)) (keys_of es) ≡ false → Shuffled ((k, v) ∷ es) (insert_entry labels_cmp es k v)
+entry_inserted : {T : Type 0} (k : Names) (v : T) (es : List (Names × T)) → list_any (is_at (labels_cmp k)) (keys_of es) ≡ false → Shuffled ((k, v) ∷ es) (insert_entry labels_cmp es k v)
 entry_inserted k v [] h = itself ((k, v) ∷ [])
 entry_inserted k v (q ∷ es) h = elim (labels_cmp k q.0) as (λ r. labels_cmp k q.0 ≡ r → Shuffled ((k, v) ∷ q ∷ es) (match_ordering r ((k, v) ∷ q ∷ es) ((q.0, v) ∷ es) (q ∷ insert_entry labels_cmp es k v))) [
   | Less ↦ λ e. itself ((k, v) ∷ q ∷ es)
@@ -201,25 +201,25 @@ entry_inserted k v (q ∷ es) h = elim (labels_cmp k q.0) as (λ r. labels_cmp k
   | Greater ↦ λ e. joined ((k, v) ∷ q ∷ es) (q ∷ (k, v) ∷ es) (q ∷ insert_entry labels_cmp es k v) (swapped (k, v) q es) (kept q ((k, v) ∷ es) (insert_entry labels_cmp es k v) (entry_inserted k v es (other_none (is_at (labels_cmp k) q.0) (list_any (is_at (labels_cmp k)) (keys_of es)) h)))
 ] refl
 
-keys_shuffled : (xs ys : List Entry) → Shuffled xs ys → Shuffled (keys_of xs) (keys_of ys)
-keys_shuffled xs ys s = mapped_shuffled (λ (e : Entry). e.0) xs ys s
+keys_shuffled : {T : Type 0} (xs ys : List (Names × T)) → Shuffled xs ys → Shuffled (keys_of xs) (keys_of ys)
+keys_shuffled xs ys s = mapped_shuffled (λ (e : Names × _). e.0) xs ys s
 
-order_shuffled_on : (done es : List Entry) → AreOthers (keys_of (done ++ es)) → Shuffled (done ++ es) (fold put_into done es)
-order_shuffled_on done [] a = subst (λ (z : List Entry). Shuffled z done) (sym (append-nil done)) (itself done)
+pub order_shuffled_on : {T : Type 0} (done es : List (Names × T)) → AreOthers (keys_of (done ++ es)) → Shuffled (done ++ es) (fold put_into done es)
+order_shuffled_on done [] a = subst (λ z. Shuffled z done) (sym (append-nil done)) (itself done)
 order_shuffled_on done (e ∷ es) a =
     let front = to_front e done es in
     let apart = others_shuffled (keys_of (done ++ e ∷ es)) (keys_of (e ∷ (done ++ es))) (keys_shuffled (done ++ e ∷ es) (e ∷ (done ++ es)) front) a in
-    let first : list_any (is_at (labels_cmp e.0)) (keys_of done ++ keys_of es) ≡ false = ap (list_any (is_at (labels_cmp e.0))) (sym (map-append (λ (x : Entry). x.0) done es)) ∙ apart.0 in
+    let first : list_any (is_at (labels_cmp e.0)) (keys_of done ++ keys_of es) ≡ false = ap (list_any (is_at (labels_cmp e.0))) (sym (map-append (λ (x : Names × _). x.0) done es)) ∙ apart.0 in
     let in_order = back_kept es (e ∷ done) (put_into done e) (entry_inserted e.0 e.1 done (any_front (is_at (labels_cmp e.0)) (keys_of done) (keys_of es) first)) in
     let all = joined (done ++ e ∷ es) (e ∷ (done ++ es)) (put_into done e ++ es) front in_order in
     joined (done ++ e ∷ es) (put_into done e ++ es) (fold put_into (put_into done e) es) all
     (order_shuffled_on (put_into done e) es (others_shuffled (keys_of (done ++ e ∷ es)) (keys_of (put_into done e ++ es)) (keys_shuffled (done ++ e ∷ es) (put_into done e ++ es) all) a))
 
-order_sorted_on : (done es : List Entry) → IsStrictlySortedBy labels_cmp (keys_of done) → IsStrictlySortedBy labels_cmp (keys_of (fold put_into done es))
+order_sorted_on : {T : Type 0} (done es : List (Names × T)) → IsStrictlySortedBy labels_cmp (keys_of done) → IsStrictlySortedBy labels_cmp (keys_of (fold put_into done es))
 order_sorted_on done [] s = s
 order_sorted_on done (e ∷ es) s = order_sorted_on (put_into done e) es (sorted_insert labels_cmp labels_cmp_total e.0 e.1 done s)
 
-order_sorted : (es : List Entry) → IsStrictlySortedBy labels_cmp (keys_of (in_order es))
+pub order_sorted : {T : Type 0} (es : List (Names × T)) → IsStrictlySortedBy labels_cmp (keys_of (in_order es))
 unfolding IsStrictlySortedBy
 order_sorted es = order_sorted_on [] es tt
 
@@ -294,9 +294,20 @@ names_shuffled_among labels items d a =
 
 -- ---- what is made of groups
 
--- what is made of the values that have labels
+-- what is made of labels and of the values under them
+abbrev pub made_under : {X : Type 0} → (Names → List XFrac → X) → List Entry → Names → X
+made_under F entries n = F n (items_of entries n)
+
+-- it doesn't depend on the order of the values
+abbrev pub IgnoresOrder : {X : Type 0} → (Names → List XFrac → X) → Type 0
+IgnoresOrder F = (n : Names) (xs ys : List XFrac) → AllByRecursion IsNumber xs → Shuffled xs ys → F n xs ≡ F n ys
+
+-- the outcome of the values that have labels
+abbrev outcome_of : Aggregate → Names → List XFrac → Outcome
+outcome_of f n xs = record { labels = n; value = aggregate_of f zero_number xs }
+
 abbrev outcome_under : Aggregate → List Entry → Names → Outcome
-outcome_under f entries n = record { labels = n; value = aggregate_of f zero_number (items_of entries n) }
+outcome_under f entries n = made_under (outcome_of f) entries n
 
 map_map : {A B C : Type 0} (g : B → C) (f : A → B) (xs : List A) → map g (map f xs) ≡ map (λ x. g (f x)) xs
 map_map g f [] = refl
@@ -310,17 +321,16 @@ gathered_made : (f : Aggregate) (entries : List Entry) → map (group_outcome f 
 unfolding gathered
 gathered_made f entries = map_map (group_outcome f zero_number) (λ (n : Names). (n, items_of entries n)) (names_among entries)
 
-made_named : (f : Aggregate) (labels : List Names) (items : List Item) (all : List Group) (ps : List ℕ) → IsTrue (is_grouped f) → IsDistinct labels_eq labels → AllByRecursion (λ (e : Item). e.0 < length labels) items
+made_named : (f : Aggregate) (labels : List Names) (items : List Item) (all : List Group) (ps : List ℕ) → IsTrue (is_grouped f)
     → ((q : ℕ) → q < length labels → slice_get all q ≡ Some (group_of f (values_at items q))) → AllByRecursion (λ p. p < length labels) ps
-    → groups_made f labels all ps ≡ map (λ q. outcome_under f (under labels items) (name labels q)) ps
-made_named f labels items all [] g d w k a = refl
-made_named f labels items all (p ∷ ps) g d w k a =
-    let one : group_made f labels all p ≡ Some (outcome_under f (under labels items) (name labels p)) =
+    → groups_made f labels all ps ≡ map (λ q. outcome_of f (name labels q) (values_at items q)) ps
+made_named f labels items all [] g k a = refl
+made_named f labels items all (p ∷ ps) g k a =
+    let one : group_made f labels all p ≡ Some (outcome_of f (name labels p) (values_at items p)) =
     ap (option_map (λ (x : Group). record { labels = name labels p; value = or_overflow (group_value f x) })) (k p a.0)
-    ∙ ap (λ (v : Result (Option XFrac) NumFault). Some (record { labels = name labels p; value = v })) (value_made f (values_at items p) g)
-    ∙ ap (λ (xs : List XFrac). Some (record { labels = name labels p; value = aggregate_of f zero_number xs })) (sym (values_under labels items p d a.0 w)) in
+    ∙ ap (λ (v : Result (Option XFrac) NumFault). Some (record { labels = name labels p; value = v })) (value_made f (values_at items p) g) in
     ap (λ (o : Option Outcome). cons_option o (groups_made f labels all ps)) one
-    ∙ ap (λ (r : List Outcome). outcome_under f (under labels items) (name labels p) ∷ r) (made_named f labels items all ps g d w k a.1)
+    ∙ ap (λ (r : List Outcome). outcome_of f (name labels p) (values_at items p) ∷ r) (made_named f labels items all ps g k a.1)
 
 items_all : (P : XFrac → Type 0) (entries : List Entry) (n : Names) → AllByRecursion P (values_of entries) → AllByRecursion P (items_of entries n)
 items_all P [] n a = tt
@@ -330,11 +340,10 @@ items_all P (e ∷ entries) n a = elim (is_at (labels_cmp n) e.0) as (λ b. AllB
 ]
 
 -- what is made of groups doesn't depend on the order of the values
-made_alike : AggregateIgnoresOrder → (f : Aggregate) (xs ys : List Entry) → AllByRecursion IsNumber (values_of xs) → Shuffled xs ys → map (outcome_under f xs) (names_among xs) ≡ map (outcome_under f ys) (names_among ys)
-made_alike law f xs ys n s =
-    ap (map (outcome_under f xs)) (names_shuffled xs ys s)
-    ∙ map_alike (outcome_under f xs) (outcome_under f ys) (names_among ys) (λ k.
-    ap (λ (v : Result (Option XFrac) NumFault). record { labels = k; value = v }) (law f zero_number (items_of xs k) (items_of ys k) (All-from_recursion IsNumber (items_of xs k) (items_all IsNumber xs k n)) (items_shuffled xs ys s k)))
+made_alike : {X : Type 0} (F : Names → List XFrac → X) → IgnoresOrder F → (xs ys : List Entry) → AllByRecursion IsNumber (values_of xs) → Shuffled xs ys → map (made_under F xs) (names_among xs) ≡ map (made_under F ys) (names_among ys)
+made_alike F law xs ys n s =
+    ap (map (made_under F xs)) (names_shuffled xs ys s)
+    ∙ map_alike (made_under F xs) (made_under F ys) (names_among ys) (λ k. law k (items_of xs k) (items_of ys k) (items_all IsNumber xs k n) (items_shuffled xs ys s k))
 
 values_same : (labels : List Names) (items : List Item) → values_of (under labels items) ≡ values_of items
 values_same labels [] = refl
@@ -342,7 +351,7 @@ values_same labels (e ∷ items) = ap (λ (r : List XFrac). e.1 ∷ r) (values_s
 
 -- ---- the rows of the step that is fed
 
-there : (fed : List Names) (i : ℕ) → i < length fed → slice_get fed i ≡ Some (name fed i)
+pub there : (fed : List Names) (i : ℕ) → i < length fed → slice_get fed i ≡ Some (name fed i)
 there [] i h = absurd (omega arith)
 there (l ∷ fed) zero h = refl
 there (l ∷ fed) (suc i) h = there fed i (omega arith)
@@ -403,11 +412,12 @@ table_made law rows table t s =
     let is_table : IsTable (map row_of (in_order (map entry_in rows))) = subst (IsStrictlySortedBy labels_cmp) (sym (names_are (in_order (map entry_in rows)))) (order_sorted (map entry_in rows)) in
     law (map row_of (in_order (map entry_in rows))) table is_table t (joined (map row_of (in_order (map entry_in rows))) rows table (turned_back rows (map row_of (in_order (map entry_in rows))) ordered) s)
 
-pub step_made : LentRowsAreThoseOfSlots → TableIsOneOrder → TakenIsTable → AggregateIgnoresOrder → (f : Aggregate) (by : Grouping) (fed labels : List Names) (places : List ℕ) (slots : List Slot) (marks : Marks) (groups : Groups)
-    → IsTrue (is_grouped f) → groups.f ≡ f → length groups.all.items ≡ length labels → IsDistinct labels_eq fed → IsDistinct labels_eq labels → SlotsRise 0 (length fed) slots → AreAt labels (map (kept_labels by) fed) places → AreTallied (items_at places slots) groups
-    → step_of (map entry_in (filter_map outcomes.row_of (groups_made f labels groups.all.items groups.filled.items))) (with_fatal marks (filter_map outcomes.mark_of (groups_made f labels groups.all.items groups.filled.items)))
-    ≡ aggregated_step f by (step_of (entries_of fed slots) marks)
-step_made rows_law one_order is_table alike f by fed labels places slots marks groups g same_f many d_fed d r a t =
+-- what is made of the values at each place, and of those that rows have under each labels, are the same in another order
+pub made_shuffled : {X : Type 0} (F : Names → List XFrac → X) → IgnoresOrder F → LentRowsAreThoseOfSlots → (by : Grouping) (fed labels : List Names) (places : List ℕ) (slots : List Slot) (marks : Marks) (groups : Groups)
+    → length groups.all.items ≡ length labels → IsDistinct labels_eq fed → IsDistinct labels_eq labels → SlotsRise 0 (length fed) slots → AreAt labels (map (kept_labels by) fed) places → AreTallied (items_at places slots) groups
+    → Shuffled (map (λ q. F (name labels q) (values_at (items_at places slots) q)) groups.filled.items) (map (λ (g : Names × List XFrac). F g.0 g.1) (gathered (keyed_values by (step_of (entries_of fed slots) marks).table.rows)))
+unfolding gathered
+made_shuffled F law rows_law by fed labels places slots marks groups many d_fed d r a t =
     let step : Step = step_of (entries_of fed slots) marks in
     let items : List Item = items_at places slots in
     let K : List Entry = under labels items in
@@ -419,18 +429,39 @@ step_made rows_law one_order is_table alike f by fed labels places slots marks g
     let within_items : AllByRecursion (λ (e : Item). e.0 < length labels) items = subst (λ (n : ℕ). AllByRecursion (λ (e : Item). e.0 < n) items) many t.within in
     let within_filled : AllByRecursion (λ p. p < length labels) filled = subst (λ (n : ℕ). AllByRecursion (λ p. p < n) filled) many (filled_within items groups t) in
     let within_places : AllByRecursion (λ p. p < length labels) (places_of items) = all_there (λ p. p < length labels) (places_of items) (λ q h. one_there (λ p. p < length labels) filled q within_filled (filled_key items groups q t ∙ sym (has_key q items) ∙ h)) in
+    let h : ℕ → _ = λ q. made_under F K (name labels q) in
+    let made : List _ = map (made_under F table) (names_among table) in
+    let all : Shuffled (map h filled) made =
+    joined (map h filled) (map h (places_of items)) made (mapped_shuffled h filled (places_of items) (turned_back (places_of items) filled t.filled))
+    (subst (λ (z : List _). Shuffled z made) (map_map (made_under F K) (name labels) (places_of items))
+    (subst (λ (z : List _). Shuffled (map (made_under F K) (map (name labels) (places_of items))) z) (made_alike F law K table (subst (AllByRecursion IsNumber) (sym (values_same labels items)) t.numbers) entries)
+    (mapped_shuffled (made_under F K) (map (name labels) (places_of items)) (names_among K) (names_shuffled_among labels items d within_places)))) in
+    subst (λ (z : List _). Shuffled z (map (λ (g : Names × List XFrac). F g.0 g.1) (map (λ n. (n, items_of table n)) (names_among table)))) (at_places filled within_filled within_items)
+    (subst (λ (z : List _). Shuffled (map h filled) z) (sym (map_map (λ (g : Names × List XFrac). F g.0 g.1) (λ (n : Names). (n, items_of table n)) (names_among table))) all)
+  where
+    at_places : (ps : List ℕ) → AllByRecursion (λ p. p < length labels) ps → AllByRecursion (λ (e : Item). e.0 < length labels) (items_at places slots)
+        → map (λ q. made_under F (under labels (items_at places slots)) (name labels q)) ps ≡ map (λ q. F (name labels q) (values_at (items_at places slots) q)) ps
+    at_places [] b w = refl
+    at_places (p ∷ ps) b w = λ i. F (name labels p) (values_under labels (items_at places slots) p d b.0 w i) ∷ at_places ps b.1 w i
+
+pub step_made : LentRowsAreThoseOfSlots → TableIsOneOrder → TakenIsTable → AggregateIgnoresOrder → (f : Aggregate) (by : Grouping) (fed labels : List Names) (places : List ℕ) (slots : List Slot) (marks : Marks) (groups : Groups)
+    → IsTrue (is_grouped f) → groups.f ≡ f → length groups.all.items ≡ length labels → IsDistinct labels_eq fed → IsDistinct labels_eq labels → SlotsRise 0 (length fed) slots → AreAt labels (map (kept_labels by) fed) places → AreTallied (items_at places slots) groups
+    → step_of (map entry_in (filter_map outcomes.row_of (groups_made f labels groups.all.items groups.filled.items))) (with_fatal marks (filter_map outcomes.mark_of (groups_made f labels groups.all.items groups.filled.items)))
+    ≡ aggregated_step f by (step_of (entries_of fed slots) marks)
+step_made rows_law one_order is_table alike f by fed labels places slots marks groups g same_f many d_fed d r a t =
+    let step : Step = step_of (entries_of fed slots) marks in
+    let items : List Item = items_at places slots in
+    let table : List Entry = keyed_values by step.table.rows in
+    let filled : List ℕ = groups.filled.items in
+    let within_filled : AllByRecursion (λ p. p < length labels) filled = subst (λ (n : ℕ). AllByRecursion (λ p. p < n) filled) many (filled_within items groups t) in
     let kept_groups : (q : ℕ) → q < length labels → slice_get groups.all.items q ≡ Some (group_of f (values_at items q)) = λ q l. t.kept q (subst (λ (n : ℕ). q < n) (sym many) l) ∙ ap (λ (h : Aggregate). Some (group_of h (values_at items q))) same_f in
     let O1 : List Outcome = groups_made f labels groups.all.items filled in
-    let O2 : List Outcome = map (outcome_under f table) (names_among table) in
-    let h : ℕ → Outcome = λ q. outcome_under f K (name labels q) in
-    let all : Shuffled (map h filled) O2 =
-    joined (map h filled) (map h (places_of items)) O2 (mapped_shuffled h filled (places_of items) (turned_back (places_of items) filled t.filled))
-    (subst (λ (z : List Outcome). Shuffled z O2) (map_map (outcome_under f K) (name labels) (places_of items))
-    (subst (λ (z : List Outcome). Shuffled (map (outcome_under f K) (map (name labels) (places_of items))) z) (made_alike alike f K table (subst (AllByRecursion IsNumber) (sym (values_same labels items)) t.numbers) entries)
-    (mapped_shuffled (outcome_under f K) (map (name labels) (places_of items)) (names_among K) (names_shuffled_among labels items d within_places)))) in
-    let made : Shuffled O1 O2 = subst (λ (z : List Outcome). Shuffled z O2) (sym (made_named f labels items groups.all.items filled g d within_items kept_groups within_filled)) all in
-    let sorted : IsStrictlySortedBy labels_cmp (map (λ (o : Outcome). o.labels) O2) = subst (IsStrictlySortedBy labels_cmp) (sym (labels_made f table (names_among table))) (names_sorted table) in
+    let O2 : List Outcome = map (group_outcome f zero_number) (gathered table) in
+    let made : Shuffled O1 O2 =
+    subst (λ (z : List Outcome). Shuffled z O2) (sym (made_named f labels items groups.all.items filled g kept_groups within_filled))
+    (made_shuffled (outcome_of f) (λ n xs ys b s i. record { labels = n; value = alike f zero_number xs ys (All-from_recursion IsNumber xs b) s i }) rows_law by fed labels places slots marks groups many d_fed d r a t) in
+    let sorted : IsStrictlySortedBy labels_cmp (map (λ (o : Outcome). o.labels) O2) = subst (λ (z : List Outcome). IsStrictlySortedBy labels_cmp (map (λ (o : Outcome). o.labels) z)) (sym (gathered_made f table)) (subst (IsStrictlySortedBy labels_cmp) (sym (labels_made f table (names_among table))) (names_sorted table)) in
     let rows_are = table_made one_order (filter_map outcomes.row_of O1) (filter_map outcomes.row_of O2) (is_table marks O2 sorted) (chosen_shuffled outcomes.row_of O1 O2 made) in
     let marks_are = fatal_shuffled marks (filter_map outcomes.mark_of O1) (filter_map outcomes.mark_of O2) (chosen_shuffled outcomes.mark_of O1 O2 made) in
     let whole : step_of (map entry_in (filter_map outcomes.row_of O1)) (with_fatal marks (filter_map outcomes.mark_of O1)) ≡ taken marks O2 = λ i. record { table = record { rows = rows_are i }; marks = marks_are i } in
-    whole ∙ ap (taken marks) (sym (gathered_made f table)) ∙ sym (by_groups f by step g)
+    whole ∙ sym (by_groups f by step g)

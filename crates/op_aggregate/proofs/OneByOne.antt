@@ -1,6 +1,6 @@
 -- What is made of groups, put one by one into a step.
 use Rattle.std.proofs.Common.{◌≡◌, ◌∙◌, ◌+◌, ◌<◌, ℕ, zero, suc, arith, Bool, true, false, List, [], ◌∷◌, ◌++◌, length, get_or, slice_get, take, drop, map, refl, sym, ap, subst, Option, Some, None, append-nil}
-use Rattle.std.specs.Prelude.{◌==◌, ◌||◌, is_none, slice_index_or}
+use Rattle.std.specs.Prelude.{fold, ◌==◌, ◌||◌, is_none, slice_index_or}
 use Rattle.std.specs.BTreeSet.{insert_key}
 use Rattle.std.specs.List.{cons_option, filter_map}
 use Rattle.std.specs.Option.{option_map, option_to_list}
@@ -186,3 +186,13 @@ free_next steps now places i p l e a k f = λ q h.
     later : (a b : Bool) → b ≡ true → (a || b) ≡ true
     later true b e = refl
     later false b e = e
+
+-- ---- one item more
+
+-- what is chosen of one item more
+pub chosen_next : {A B : Type 0} (f : A → Option B) (xs : List A) (i : ℕ) (x : A) → i < length xs → x ≡ get_or xs i x → filter_map f (take (i + 1) xs) ≡ filter_map f (take i xs) ++ option_to_list (f x)
+chosen_next f xs i x l e =
+    ap (filter_map f) (take_more xs i x l ∙ ap (λ y. take i xs ++ y ∷ []) (sym e)) ∙ filter_map-append f (take i xs) (x ∷ []) ∙ ap (λ r. filter_map f (take i xs) ++ r) (one_chosen f x)
+
+pub ordered_next : {A B : Type 0} (f : A → Option (Names × B)) (xs : List A) (i : ℕ) (x : A) → i < length xs → x ≡ get_or xs i x → in_order (filter_map f (take (i + 1) xs)) ≡ fold put_into (in_order (filter_map f (take i xs))) (option_to_list (f x))
+ordered_next f xs i x l e = ap in_order (chosen_next f xs i x l e) ∙ fold-append put_into [] (filter_map f (take i xs)) (option_to_list (f x))

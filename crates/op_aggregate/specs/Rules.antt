@@ -1,11 +1,13 @@
 -- Aggregations over steps. (Prometheus querying, "Aggregation operators": the rule is that of the meaning.)
-use Rattle.std.specs.Prelude.{Bool, true, false, List, [], map}
+use Rattle.std.specs.Prelude.{Bool, true, false, List, [], map, if◌then◌else◌}
 use Rattle.func_table.specs.declared.table.Aggregate.{Aggregate}
 use Rattle.func_table.specs.declared.table.Aggregate.TheVariants.{TopK, BottomK, Quantile, CountValues}
 use Rattle.label_set.specs.declared.rules.Grouping.{Grouping}
 use Rattle.promql_meaning.specs.Meaning.{aggregated_with}
 use Rattle.step_batch.specs.Lent.{Lent}
+use Rattle.step_cells.specs.Owed.{partial_cells}
 use Rattle.step_table.specs.Timed.{StepAt}
+use Rattle.step_table.specs.declared.cells.StepCells.{StepCells}
 use Rattle.step_table.specs.declared.step.Step.{Step}
 
 -- whether an aggregation makes one value of a group, and takes no parameter
@@ -27,10 +29,16 @@ aggregated_at f by s = record { at = s.at; step = aggregated_step f by s.step }
 abbrev pub aggregations : Aggregate → Grouping → List StepAt → List StepAt
 aggregations f by steps = map (aggregated_at f by) steps
 
+-- what is owed of what is fed, where cells are asked for: of each step the cells of its groups
+abbrev pub owed_cells : Bool → Aggregate → Grouping → List StepAt → List StepCells
+owed_cells partial f by steps = if partial then map (partial_cells f by) steps else []
+
 -- ---- a kernel
 
--- an aggregation with its grouping, and what is lent
+-- an aggregation with its grouping, what is lent, and whether cells are asked for and which are owed
 pub record Aggregating : Type 0 where
   pub f : Aggregate
   pub by : Grouping
   pub lent : Lent
+  pub partial : Bool
+  pub owed : List StepCells

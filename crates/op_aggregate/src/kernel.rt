@@ -1,13 +1,16 @@
 ghost use Rattle.op_aggregate.specs.Places.{AreTallied};
-ghost use Rattle.op_aggregate.specs.Rules.{aggregated_at, aggregations, is_grouped as makes_groups};
+ghost use Rattle.op_aggregate.specs.OwedCells.{cells_at};
+ghost use Rattle.op_aggregate.specs.Rules.{aggregated_at, aggregations, is_grouped as makes_groups, owed_cells};
 ghost use Rattle.promql_meaning.specs.Ranks.{kept_labels};
 ghost use Rattle.std.specs.Option.{option_map};
-ghost use Rattle.std.specs.Prelude.{◌≡◌, ◌<◌, ◌<ℤ◌, ◌++◌, ◌∷◌, [], Some, length, map, slice_get, IfOk, IsTrue, OnOk};
+ghost use Rattle.std.specs.Prelude.{◌≡◌, ◌<◌, ◌<ℤ◌, ◌++◌, ◌∷◌, [], Some, true, false, length, map, slice_get, IfOk, IsTrue, OnOk};
 ghost use Rattle.step_batch.specs.Lent.{IsLater, stages};
+ghost use Rattle.step_cells.specs.Owed.{is_partial as asks_engines};
 ghost use Rattle.step_put.specs.Puts.{AreAt};
 
 use crate::groups::Groups;
 use crate::laws::aggregates_ignore_order;
+use crate::owed::{Owed, step_cells};
 use crate::putting::put_groups;
 use func_table::Aggregate;
 use label_set::Grouping;
@@ -15,12 +18,14 @@ use std::alloc::{AllocError, Global};
 use std::marker::Model;
 use step_batch::laws::lent_steps_are_tables;
 use step_batch::{Batch, StepBuffer};
+use step_cells::laws::cells_ignore_order;
 use step_put::{Left, Placing};
+use step_table::StepCells;
 use step_table::laws::steps_are_well_formed;
 use step_table::order_laws::rows_ignore_order;
 
 /// A kernel of an aggregation that makes one value of a group. The places of groups are kept over feeds, and the memory of
-/// groups and steps.
+/// groups and steps. A partial one gives the cells of groups as well.
 #[derive(Drop)]
 pub struct Grouped {
     alloc: Global,
@@ -28,17 +33,19 @@ pub struct Grouped {
     placing: Placing,
     groups: Groups,
     buffer: StepBuffer,
+    owed: Owed,
 }
 
 impl Model for Grouped {
+    ghost use Rattle.op_aggregate.specs.OwedCells.{cells_at};
     ghost use Rattle.op_aggregate.specs.Rules.{Aggregating, is_grouped as makes_groups};
-    ghost use Rattle.std.specs.Prelude.{◌≡◌, not, IsTrue};
+    ghost use Rattle.std.specs.Prelude.{◌≡◌, map, not, IsTrue};
     ghost use Rattle.step_put.specs.Placed.{IsPlaced};
     ghost use Rattle.step_put.specs.declared.labels_left.Left.TheVariants.{Signature};
 
     ghost Value = { Aggregating };
 
-    ghost view = { λ k. record { f = k.groups.f; by = k.by; lent = k.buffer } };
+    ghost view = { λ k. record { f = k.groups.f; by = k.by; lent = k.buffer; partial = k.owed.wanted; owed = map (cells_at k.buffer.labels) k.owed.steps.items } };
 
     ghost invariant = { λ k. (k.placing.left ≡ Signature (not k.by.without) k.by.names) × IsPlaced k.buffer k.placing × IsTrue (makes_groups k.groups.f) };
 }
@@ -55,6 +62,19 @@ pub fn is_grouped(f: Aggregate) -> bool
     }
 }
 
+/// Whether an aggregation is asked of engines, as `Grouped::partial` asks: `Sum`, `Avg`, `Min`, `Max`, `Count` and `Group`. It
+/// takes no memory.
+pub fn is_partial(f: Aggregate) -> bool
+    ensures { result ≡ asks_engines f }
+{
+    match f {
+        Aggregate::Sum | Aggregate::Avg => true,
+        Aggregate::Min | Aggregate::Max => true,
+        Aggregate::Count | Aggregate::Group => true,
+        _ => false,
+    }
+}
+
 impl Grouped {
     /// A kernel that was fed nothing. The only error is want of memory.
     pub fn new(alloc: Global, f: Aggregate, by: Grouping) -> Result<Grouped, AllocError>
@@ -62,6 +82,28 @@ impl Grouped {
         ensures f { IfOk result (λ k. k.f ≡ f) }
         ensures by { IfOk result (λ k. k.by ≡ by) }
         ensures lent { IfOk result (λ k. stages k.lent ≡ []) }
+        ensures partial { IfOk result (λ k. k.partial ≡ false) }
+    {
+        Grouped::with(alloc, f, by, false)
+    }
+
+    /// A kernel that was fed nothing, and that gives the cells of groups as well. The only error is want of memory.
+    pub fn partial(alloc: Global, f: Aggregate, by: Grouping) -> Result<Grouped, AllocError>
+        requires { IsTrue (asks_engines f) }
+        ensures f { IfOk result (λ k. k.f ≡ f) }
+        ensures by { IfOk result (λ k. k.by ≡ by) }
+        ensures lent { IfOk result (λ k. stages k.lent ≡ []) }
+        ensures partial { IfOk result (λ k. k.partial ≡ true) }
+    {
+        Grouped::with(alloc, f, by, true)
+    }
+
+    fn with(alloc: Global, f: Aggregate, by: Grouping, wanted: bool) -> Result<Grouped, AllocError>
+        requires { IsTrue (makes_groups f) }
+        ensures f { IfOk result (λ k. k.f ≡ f) }
+        ensures by { IfOk result (λ k. k.by ≡ by) }
+        ensures lent { IfOk result (λ k. stages k.lent ≡ []) }
+        ensures partial { IfOk result (λ k. k.partial ≡ wanted) }
     {
         let left = Left::Signature {
             on: !by.without,
@@ -73,6 +115,10 @@ impl Grouped {
             placing: Placing::new(alloc, left),
             groups: Groups::new(alloc, f),
             buffer: StepBuffer::new(alloc),
+            owed: Owed {
+                wanted,
+                steps: Vec::new(alloc),
+            },
         })
     }
 
@@ -82,13 +128,17 @@ impl Grouped {
         ensures f { self.new.f ≡ self.old.f }
         ensures by { self.new.by ≡ self.old.by }
         ensures lent { OnOk result (stages self.new.lent ≡ aggregations self.old.f self.old.by (stages rows.now)) }
+        ensures partial { self.new.partial ≡ self.old.partial }
+        ensures owed { OnOk result (self.new.owed ≡ owed_cells self.old.partial self.old.f self.old.by (stages rows.now)) }
     {
+        self.owed.steps.clear();
         self.placing.renew(&mut self.buffer, rows.labels())?;
         renew_groups(&mut self.groups, &self.buffer)?;
         put_all(
             self.alloc,
             &mut self.groups,
             &mut self.buffer,
+            &mut self.owed,
             self.placing.places(),
             rows,
         )
@@ -99,6 +149,16 @@ impl Grouped {
         ensures { result ≡ self.now.lent }
     {
         self.buffer.lend()
+    }
+
+    /// The cells of the groups of the step at a place among those that are lent, in the order of labels: what an engine owes of
+    /// the step that was fed there. The only error is want of memory.
+    pub fn cells(&self, i: usize) -> Result<StepCells, AllocError>
+        requires { i < length self.now.owed }
+        ensures { IfOk result (λ cells. slice_get self.now.owed i ≡ Some cells) }
+    {
+        let lent = self.buffer.lend();
+        step_cells(self.alloc, lent.labels(), &self.owed.steps[i])
     }
 }
 
@@ -118,6 +178,7 @@ fn put_all(
     alloc: Global,
     groups: &mut Groups,
     buffer: &mut StepBuffer,
+    owed: &mut Owed,
     places: &[usize],
     rows: &Batch<'_>,
 ) -> Result<(), AllocError>
@@ -126,13 +187,17 @@ fn put_all(
     requires empty { AreTallied [] groups.old }
     requires placed { (by : _) × AreAt buffer.old.labels (map (kept_labels by) rows.now.labels) places.now }
     requires steps { buffer.old.steps ≡ [] }
+    requires none { owed.old.steps.items ≡ [] }
     ensures f { groups.new.f ≡ groups.old.f }
     ensures labels { buffer.new.labels ≡ buffer.old.labels }
     ensures lent { OnOk result ((by : _) → AreAt buffer.old.labels (map (kept_labels by) rows.now.labels) places.now
         → stages buffer.new ≡ aggregations groups.old.f by (stages rows.now)) }
+    ensures wanted { owed.new.wanted ≡ owed.old.wanted }
+    ensures owed { OnOk result ((by : _) → AreAt buffer.old.labels (map (kept_labels by) rows.now.labels) places.now
+        → map (cells_at buffer.old.labels) owed.new.steps.items ≡ owed_cells owed.old.wanted groups.old.f by (stages rows.now)) }
 {
     for i in 0..rows.len() {
-        put_one(alloc, groups, buffer, places, rows, i)?;
+        put_one(alloc, groups, buffer, owed, places, rows, i)?;
     }
     Ok(())
 }
@@ -142,6 +207,7 @@ fn put_one(
     alloc: Global,
     groups: &mut Groups,
     buffer: &mut StepBuffer,
+    owed: &mut Owed,
     places: &[usize],
     rows: &Batch<'_>,
     i: usize,
@@ -159,11 +225,15 @@ fn put_one(
     ensures later { OnOk result ((t u : _) → option_map (λ s. s.at) (slice_get rows.now.steps i) ≡ Some t → t.0 <ℤ u.0 → IsLater buffer.new u) }
     ensures lent { OnOk result ((by s : _) → AreAt buffer.old.labels (map (kept_labels by) rows.now.labels) places.now → slice_get (stages rows.now) i ≡ Some s
         → stages buffer.new ≡ stages buffer.old ++ aggregated_at groups.old.f by s ∷ []) }
+    ensures wanted { owed.new.wanted ≡ owed.old.wanted }
+    ensures owed { OnOk result ((by s : _) → AreAt buffer.old.labels (map (kept_labels by) rows.now.labels) places.now → slice_get (stages rows.now) i ≡ Some s
+        → map (cells_at buffer.old.labels) owed.new.steps.items ≡ map (cells_at buffer.old.labels) owed.old.steps.items ++ owed_cells owed.old.wanted groups.old.f by (s ∷ [])) }
 {
     lent_steps_are_tables();
     rows_ignore_order();
     steps_are_well_formed();
     aggregates_ignore_order();
+    cells_ignore_order();
     let at = rows.at(i);
     let slots = rows.slots(i);
     let marks = rows.marks(i);
@@ -172,6 +242,7 @@ fn put_one(
     groups.take(places, slots)?;
     groups.sort();
     put_groups(alloc, buffer, at, marks, groups)?;
+    owed.keep(alloc, at, marks, groups)?;
     groups.empty();
     Ok(())
 }

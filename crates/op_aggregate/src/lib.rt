@@ -4,7 +4,8 @@
 mod groups;
 mod kernel;
 pub mod laws;
+mod owed;
 mod putting;
 mod tally;
 
-pub use kernel::{Grouped, is_grouped};
+pub use kernel::{Grouped, is_grouped, is_partial};

@@ -106,7 +106,7 @@ fn value_at(groups: &Groups, place: usize) -> Option<XFrac>
 }
 
 /// The mark of an overflow, if there was one; none takes no memory.
-fn overflow_marks(alloc: Global, overflows: bool) -> Result<Marks, AllocError>
+pub(crate) fn overflow_marks(alloc: Global, overflows: bool) -> Result<Marks, AllocError>
     ensures { IfOk result (λ marks. marks ≡ record { fatal = overflow_if overflows; notes = [] }) }
 {
     let mut fatal = Items::new(alloc);

@@ -1,4 +1,5 @@
 //! What is kept of the values of a group as they come.
+ghost use Rattle.op_aggregate.specs.OwedCells.{cell_of};
 ghost use Rattle.op_aggregate.specs.Tallies.{HasNumbers, HasRoom, SumHasNumbers, SumHasRoom, count_or_one as count_made, group_of, group_value, held, sum_or_mean as sum_made, tally_of};
 ghost use Rattle.std.specs.List.{All};
 ghost use Rattle.std.specs.Prelude.{◌≡◌, ◌+◌, ◌<◌, ◌^◌, ◌++◌, ◌∷◌, [], OnOk};
@@ -9,6 +10,7 @@ ghost use Rattle.xfrac.specs.Laws.{IsNumber};
 use func_table::Aggregate;
 use label_set::Items;
 use std::alloc::{AllocError, Global};
+use step_table::Cell;
 use window_fn::aggregates::variance;
 use xfrac::laws::{is_number, part_overflows_whole};
 use xfrac::{CompareOp, SumAcc, XFrac, compare, whole, whole_count};
@@ -98,6 +100,20 @@ impl Group {
             Tally::Least(least) => Some(*least),
             Tally::Greatest(most) => Some(*most),
             Tally::Values(values) => variance(values.as_slice()).ok(),
+        }
+    }
+
+    /// The cell of the rows, which isn't finished; there is none where their sum overflows, nor where all values are kept.
+    pub(crate) fn cell(&self) -> Option<Cell>
+        ensures { result ≡ cell_of self.now }
+    {
+        match &self.tally {
+            Tally::Rows => Some(Cell::Count(self.rows)),
+            Tally::Sum(Some(sum)) => Some(Cell::Sum(*sum)),
+            Tally::Least(value) => Some(Cell::Value(*value)),
+            Tally::Greatest(value) => Some(Cell::Value(*value)),
+            Tally::Sum(None) => None,
+            Tally::Values(_) => None,
         }
     }
 }

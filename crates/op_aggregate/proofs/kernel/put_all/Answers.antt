@@ -1,12 +1,13 @@
-use Rattle.std.proofs.Common.{◌∙◌, ◌<◌, ◌≤◌, ◌++◌, ◌∷◌, [], List, arith, length, map, refl, sym, ap, subst}
+use Rattle.std.proofs.Common.{◌≡◌, ◌∙◌, ◌<◌, ◌≤◌, ◌++◌, ◌∷◌, [], List, arith, length, map, refl, sym, ap, subst}
 use Rattle.std.specs.Prelude.{IsTrue}
 use Rattle.func_table.specs.declared.table.Aggregate.{Aggregate}
 use Rattle.promql_meaning.specs.Ranks.{kept_labels}
 use Rattle.step_batch.specs.Lent.{stage_of, stages}
 use Rattle.step_put.specs.Puts.{AreAt}
 use Rattle.step_table.specs.Groups.{Names}
-use Rattle.op_aggregate.specs.Rules.{aggregated_at, aggregations, is_grouped}
-use Rattle.op_aggregate.proofs.Feeding.{count_of, follow_here, follow_next, follow_none, lent_more, time_some, whole}
+use Rattle.op_aggregate.specs.OwedCells.{cells_at}
+use Rattle.op_aggregate.specs.Rules.{aggregated_at, aggregations, is_grouped, owed_cells}
+use Rattle.op_aggregate.proofs.Feeding.{count_of, follow_here, follow_next, follow_none, lent_more, owed_next, owed_none, time_some, whole}
 use Rattle.op_aggregate.proofs.kernel.put_all.Goals as goal
 
 pub loop-i-init : goal.loop-i-init
@@ -17,6 +18,8 @@ loop-i-init c = record {
   labels = refl;
   follow = follow_none c.args.buffer.now c.args.rows.now.steps c.requires.steps;
   lent = λ by a. ap (map (stage_of c.args.buffer.now.labels)) c.requires.steps;
+  wanted = refl;
+  owed = λ by a. ap (map (cells_at c.args.buffer.now.labels)) c.requires.none ∙ sym (owed_none c.args.owed.now.wanted c.args.groups.now.f by);
 }
 
 pub put_one-requires : goal.put_one-requires
@@ -51,6 +54,14 @@ loop-i-preserved c =
           (λ s h.
           c.in_ok-put_one.ensures.lent by s (subst (λ (ls : List Names). AreAt ls (map (kept_labels by) rows.labels) c.args.places.now) (sym i.labels) a) h
           ∙ ap (λ (f : Aggregate). stages c.loop-i.buffer ++ aggregated_at f by s ∷ []) i.f);
+      wanted = c.put_one.ensures.wanted ∙ i.wanted;
+      owed = λ by a.
+          let labels = c.args.buffer.now.labels in
+          owed_next c.args.owed.now.wanted c.args.groups.now.f by (stages rows) (map (cells_at labels) c.loop-i.owed.steps.items) (map (cells_at labels) c.put_one.new.owed.steps.items) n (omega (arith, l, count)) (i.owed by a)
+          (λ s h.
+          subst (λ (ls : List Names). map (cells_at ls) c.put_one.new.owed.steps.items ≡ map (cells_at ls) c.loop-i.owed.steps.items ++ owed_cells c.loop-i.owed.wanted c.loop-i.groups.f by (s ∷ [])) i.labels
+          (c.in_ok-put_one.ensures.owed by s (subst (λ (ls : List Names). AreAt ls (map (kept_labels by) rows.labels) c.args.places.now) (sym i.labels) a) h)
+          ∙ (λ j. map (cells_at labels) c.loop-i.owed.steps.items ++ owed_cells (i.wanted j) (i.f j) by (s ∷ [])));
     }
 
 pub returns-clause-lent : goal.returns-clause-lent
@@ -60,3 +71,17 @@ returns-clause-lent c = λ by a.
     let count = count_of (stage_of rows.labels) rows.steps in
     let l : length rows.steps ≤ n = omega (arith, c.len-i-end.ensures.len, c.loop-i-test.false) in
     c.loop-i.invariant.lent by a ∙ ap (aggregations c.args.groups.now.f by) (whole (stages rows) n (omega (arith, l, count)))
+
+pub returns-in_err-put_one-clause-wanted : goal.returns-in_err-put_one-clause-wanted
+returns-in_err-put_one-clause-wanted c = c.put_one.ensures.wanted ∙ c.loop-i.invariant.wanted
+
+pub returns-clause-wanted : goal.returns-clause-wanted
+returns-clause-wanted c = c.loop-i.invariant.wanted
+
+pub returns-clause-owed : goal.returns-clause-owed
+returns-clause-owed c = λ by a.
+    let n = c.loop-i.i in
+    let rows = c.args.rows.now in
+    let count = count_of (stage_of rows.labels) rows.steps in
+    let l : length rows.steps ≤ n = omega (arith, c.len-i-end.ensures.len, c.loop-i-test.false) in
+    c.loop-i.invariant.owed by a ∙ ap (owed_cells c.args.owed.now.wanted c.args.groups.now.f by) (whole (stages rows) n (omega (arith, l, count)))
