@@ -1,0 +1,3 @@
+mod Far
+mod Going
+mod Listed

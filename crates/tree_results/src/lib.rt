@@ -1,0 +1,6 @@
+//! What the steps of a tree of kernels come to over the instants of a grid, turn by turn.
+#![tactic(auto)]
+
+mod draining;
+
+pub use draining::{Drained, drain};
