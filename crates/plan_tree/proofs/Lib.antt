@@ -8,3 +8,4 @@ pub mod Parts
 pub mod Repeats
 pub mod Rings
 pub mod Scalars
+pub mod Walked

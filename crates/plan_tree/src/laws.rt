@@ -1,7 +1,8 @@
 //! Laws of trees. The functions do nothing: each stands for what its contract says.
-ghost use Rattle.plan_tree.specs.Laws.{MarksAreSets, ScalarsHaveOneRow};
+ghost use Rattle.plan_tree.specs.Laws.{MarksAreSets, ScalarsHaveOneRow, TurnsAreTheWalk};
 
 use step_kernels::laws::{marks_stay_sets, scalars_stay};
+use ticks::walks_are_listed;
 
 /// A scalar has one row at most at each instant.
 pub fn scalars_have_one_row()
@@ -15,4 +16,11 @@ pub fn marks_are_sets()
     ensures { MarksAreSets }
 {
     marks_stay_sets();
+}
+
+/// The instants of a tree's turns are those of its walk, each once, in their order and none left out.
+pub fn turns_are_the_walk()
+    ensures { TurnsAreTheWalk }
+{
+    walks_are_listed();
 }
