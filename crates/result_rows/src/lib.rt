@@ -1,4 +1,5 @@
 //! The result of a query over a grid, collected from steps that are lent in batches.
+//! Its rows of tests stand in `result_tests`.
 #![tactic(auto)]
 
 mod collected;
