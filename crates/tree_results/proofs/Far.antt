@@ -1,9 +1,10 @@
 -- How far a tree went, and what one turn adds.
-use Rattle.std.proofs.Common.{◌≡◌, ◌∙◌, ◌<◌, Bool, true, false, List, ◌++◌, length, Option, None, Some, sym, ap, subst}
+use Rattle.std.proofs.Common.{◌≡◌, ◌∙◌, ◌<◌, Bool, true, false, List, ◌++◌, length, drop, take-append-drop, Option, None, Some, sym, ap, subst}
 use Rattle.std.specs.Prelude.{ℤ}
 use Rattle.op_labels.specs.Rules.{Kept as Rules}
 use Rattle.plan_tree.specs.Chains.{Chain, IsComing, IsSame, IsTurn}
 use Rattle.plan_tree.specs.Feeds.{fed_on}
+use Rattle.plan_tree.specs.Laws.{TurnsAreTheWalk}
 use Rattle.plan_tree.specs.Nodes.{lent_by, shape_of}
 use Rattle.plan_tree.specs.Shapes.{Shape, rule}
 use Rattle.plan_tree.specs.declared.tree.Tree.{Tree}
@@ -17,12 +18,11 @@ use Rattle.sample_store.specs.Samples.{AllSeries}
 use Rattle.step_batch.specs.Lent.{Lent, stages}
 use Rattle.step_table.specs.Timed.{StepAt, steps_over}
 use Rattle.step_table.specs.declared.step.Step.{Step}
-use Rattle.ticks.specs.Listed.{FirstIsHead, NextIsBehind}
 use Rattle.ticks.specs.declared.grid.Grid.{Grid}
 use Rattle.ticks.specs.declared.moment.Ms.{Ms}
 use Rattle.ticks.specs.declared.walk.Walk.{Walk}
 use Rattle.ticks.specs.declared.walk.Walk.{Grid as GridWalk}
-use Rattle.tree_results.proofs.Going.{chain_both, fed_both, fewer, front, left, steps_both, whole}
+use Rattle.tree_results.proofs.Going.{chain_both, fed_both, fewer, left, steps_both}
 use Rattle.tree_results.proofs.Listed.{grid_listed}
 use Rattle.tree_results.specs.Drained.{GridsAreNumbered}
 
@@ -74,23 +74,26 @@ module _ (store : AllSeries) (kept now : Rules) (shape : Shape) (grid : Grid) (t
 
   -- an instant that ends the evaluation ends that of the whole grid
   pub stops :
-      GridsAreNumbered → FirstIsHead → NextIsBehind → StoppedIsJudged → (o : Outcome) →
+      GridsAreNumbered → TurnsAreTheWalk → StoppedIsJudged → (o : Outcome) →
       ((front : List StepAt) → HasTaken taken front → first_stop 0 (front ++ stages batch) ≡ Some o) →
       (instant : Bool) (e : Expr) → o ≡ judged instant e (steps_over steps (grid_times grid))
-  stops numbered first next judges o at_front instant e =
+  stops numbered turns judges o at_front instant e =
       let chain = chain_both (GridWalk grid) None far.done behind.at far.chain behind.chain in
-      let rest = front (GridWalk grid) (grid_times grid) (grid_listed numbered grid) first next (far.done ++ behind.at) chain in
+      let first = (turns (GridWalk grid) (grid_times grid) (far.done ++ behind.at) (grid_listed numbered grid) chain).0 in
+      let count = length (far.done ++ behind.at) in
+      let rest = drop count (grid_times grid) in
+      let all : grid_times grid ≡ (far.done ++ behind.at) ++ rest = sym (take-append-drop count (grid_times grid)) ∙ ap (λ (ts : List Ms). ts ++ rest) (sym first) in
       let here : first_stop 0 (steps_over steps (far.done ++ behind.at)) ≡ Some o = subst (λ (ss : List StepAt). first_stop 0 ss ≡ Some o) behind.lent (at_front (steps_over steps far.done) far.has) in
-      let whole_is : steps_over steps (grid_times grid) ≡ steps_over steps (far.done ++ behind.at) ++ steps_over steps rest.0 = ap (λ (ts : List Ms). steps_over steps ts) rest.1 ∙ steps_both steps (far.done ++ behind.at) rest.0 in
-      judges instant e (steps_over steps (far.done ++ behind.at)) (steps_over steps rest.0) o here ∙ ap (λ (ss : List StepAt). judged instant e ss) (sym whole_is)
+      let whole_is : steps_over steps (grid_times grid) ≡ steps_over steps (far.done ++ behind.at) ++ steps_over steps rest = ap (λ (ts : List Ms). steps_over steps ts) all ∙ steps_both steps (far.done ++ behind.at) rest in
+      judges instant e (steps_over steps (far.done ++ behind.at)) (steps_over steps rest) o here ∙ ap (λ (ss : List StepAt). judged instant e ss) (sym whole_is)
 
 -- where no instant is coming, all steps were taken
 pub all_taken :
     (store : AllSeries) (kept now : Rules) (shape : Shape) (grid : Grid) (tree new : Tree) (taken : Kept) (more : Bool) →
     IsFar store kept shape grid tree taken → ((at : List Ms) × IsTurn store now tree new more at) → more ≡ false →
-    GridsAreNumbered → FirstIsHead → NextIsBehind → HasTaken taken (steps_over (rule store kept shape) (grid_times grid))
-all_taken store kept now shape grid tree new taken more far turn stopped numbered first next =
+    GridsAreNumbered → TurnsAreTheWalk → HasTaken taken (steps_over (rule store kept shape) (grid_times grid))
+all_taken store kept now shape grid tree new taken more far turn stopped numbered turns =
     let over = (turn.1.over stopped).1 in
     let end = subst (λ (f : Option Fed). IsComing (GridWalk grid) f None) far.fed (subst (λ (w : Walk). IsComing w tree.fed None) far.walk over) in
-    let is = whole (GridWalk grid) (grid_times grid) (grid_listed numbered grid) first next far.done far.chain end in
-    subst (λ (ts : List Ms). HasTaken taken (steps_over (rule store kept shape) ts)) (sym is) far.has
+    let is = (turns (GridWalk grid) (grid_times grid) far.done (grid_listed numbered grid) far.chain).1 end in
+    subst (λ (ts : List Ms). HasTaken taken (steps_over (rule store kept shape) ts)) is far.has

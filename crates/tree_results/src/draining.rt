@@ -10,13 +10,14 @@ ghost use Rattle.tree_results.specs.Drained.{IsDrained};
 
 use match_rule::Patterns;
 use plan_tree::Tree;
+use plan_tree::laws::turns_are_the_walk;
 use promql_meaning::Outcome;
 use result_rows::Collected;
 use result_rows::laws::stopped_is_judged;
 use sample_store::Store;
 use std::alloc::{AllocError, Global};
 use std::sync::ledger::Ledger;
-use ticks::{Grid, Work, instants_are_numbered, walks_are_listed};
+use ticks::{Grid, Work, instants_are_numbered};
 
 /// What the steps of a tree come to.
 #[derive(Drop)]
@@ -45,7 +46,7 @@ pub fn drain<W: Ledger>(
     ensures same { patterns.new ≡ patterns.old }
 {
     instants_are_numbered();
-    walks_are_listed();
+    turns_are_the_walk();
     stopped_is_judged();
     let mut collected = Collected::new(alloc);
     while tree.step(store, patterns, work)? {

@@ -14,7 +14,7 @@ pub returns-in-Some-clause-drained : goal.returns-in-Some-clause-drained
 returns-in-Some-clause-drained g c instant e =
     let i = c.loop-collected.invariant in
     stops c.args.store.now c.args.patterns.now c.loop-collected.patterns (shape_of c.args.tree.now.node) c.args.grid.now c.loop-collected.tree c.step.new.self c.loop-collected.collected
-    c.lend.result c.in_ok-step.field-0 i.1 i.2 c.in_ok-step.ensures.turn c.if-branch.true c.lend.ensures c.instants_are_numbered.ensures c.walks_are_listed.ensures.first c.walks_are_listed.ensures.next c.stopped_is_judged.ensures
+    c.lend.result c.in_ok-step.field-0 i.1 i.2 c.in_ok-step.ensures.turn c.if-branch.true c.lend.ensures c.instants_are_numbered.ensures c.turns_are_the_walk.ensures c.stopped_is_judged.ensures
     c.in-Some.outcome (λ front has. c.in_ok-outcome.ensures.stop front has ∙ c.in-Some.is) instant e
 
 -- src/draining.rt:51:5
@@ -41,4 +41,4 @@ pub returns-clause-drained : goal.returns-clause-drained
 returns-clause-drained g c =
     let i = c.loop-collected.invariant in
     all_taken c.args.store.now c.args.patterns.now c.loop-collected.patterns (shape_of c.args.tree.now.node) c.args.grid.now c.loop-collected.tree c.step.new.self c.loop-collected.collected
-    c.in_ok-step.field-0 i.2 c.in_ok-step.ensures.turn c.if-branch.false c.instants_are_numbered.ensures c.walks_are_listed.ensures.first c.walks_are_listed.ensures.next
+    c.in_ok-step.field-0 i.2 c.in_ok-step.ensures.turn c.if-branch.false c.instants_are_numbered.ensures c.turns_are_the_walk.ensures
