@@ -5,15 +5,16 @@ use Rattle.std.specs.Str.{bytes_eq}
 use Rattle.std.proofs.lemmas.Slice.Eq.{bytes_eq-Decides}
 use Rattle.std.proofs.lemmas.Result.{IfOk-weaker}
 use Rattle.clap.specs.declared.parser.matches.ArgMatches.{ArgMatches}
-use Rattle.tool_words.specs.Asked.{AsksForEdges, EdgesAreAskedFor, Wish, asked, closed_edges, edges_in, edges_named, edges_of, if_grid, moments_of, query, query_at, query_of, query_worded, number_of, open_edges, test, time_of, moment_at, range_of, unsaid, workload, workload_at, workload_of, workload_worded}
+use Rattle.tool_words.specs.Asked.{AsksForBatch, AsksForEdges, BatchesAreAskedFor, EdgesAreAskedFor, Wish, asked, batch_in, batch_of, choices_in, choices_of, closed_edges, edges_in, edges_named, edges_of, if_grid, moments_of, query, query_at, query_of, query_worded, number_of, open_edges, said_batch, test, test_at, test_of, test_worded, time_of, moment_at, range_of, unsaid, unsaid_batch, workload, workload_at, workload_of, workload_worded}
 use Rattle.ticks.specs.Moments.{Moments, is_grid}
 use Rattle.tool_words.specs.Said.{Item, Text, places_of, said, value_of}
 use Rattle.tool_words.specs.Tells.{Holds, Tells}
-use Rattle.tool_words.specs.Views.{HasFiles, HasSeries, IsOneInstant, wish_of}
+use Rattle.tool_words.specs.Views.{HasBatch, HasFiles, HasSeries, IsOneInstant, wish_of}
 use Rattle.tool_words.specs.declared.asked.Asked.{Asked}
 use Rattle.tool_words.specs.declared.asked.Asked.TheVariants as wanted
+use Rattle.tool_words.specs.declared.asked.Choices.{Choices}
 use Rattle.ticks.specs.declared.moment.Ms.{Ms}
-use Rattle.tool_words.proofs.Counts.{number_counted}
+use Rattle.tool_words.proofs.Counts.{number_counted, number_is, spelled_number}
 
 pub answered : {E : Type 0} (m : ArgMatches) (said : Option (List Item)) (r : Result (Option Asked) E) (of : List Item → Option Wish) → Tells (Some m) said
     → ((items : List Item) → Holds m items → IfOk r (λ asked. option_map wish_of asked ≡ of items)) → IfOk r (λ asked. option_map wish_of asked ≡ option_and_then of said)
@@ -24,18 +25,33 @@ pub told : (m : ArgMatches) (said : Option (List Item)) (o : Option Asked) (of :
     → ((items : List Item) → Holds m items → option_map wish_of o ≡ of items) → option_map wish_of o ≡ option_and_then of said
 told m said o of tells judged = judged tells.0 tells.2 ∙ sym (ap (option_and_then of) tells.1)
 
--- ---- what is asked for has files, an instant query has one instant, and a workload has series
+-- ---- what is asked for has files, an instant query has one instant, a workload has series, and batches have instants
 
 abbrev Alone : Moments → Type 0
 Alone m = m.instant ≡ true → m.start ≡ m.end
 
-abbrev Counted : ℕ → Type 0
-Counted count = (0 < count) × (count ≤ 20000)
+abbrev Counted : ℕ → ℕ → Type 0
+Counted most n = (0 < n) × (n ≤ most)
+
+abbrev InBatches : Choices → Type 0
+InBatches choices = Counted 1024 choices.batch
 
 abbrev Sound : Wish → Type 0
-Sound (test closed files) = 0 < length files
-Sound (query closed moments file expr) = Alone moments
-Sound (workload closed count) = Counted count
+Sound (test choices files) = InBatches choices × (0 < length files)
+Sound (query choices moments file expr) = InBatches choices × Alone moments
+Sound (workload choices count) = InBatches choices × Counted 20000 count
+
+batch_counted : (value : Option Text) → IfSome (batch_of value) (Counted 1024)
+batch_counted None = (omega arith, omega arith)
+batch_counted (Some text) = number_counted 1024 text
+
+choices_counted : (closed : Option Bool) (batch : Option ℕ) → IfSome batch (Counted 1024) → IfSome (choices_of closed batch) InBatches
+choices_counted None batch few = tt
+choices_counted (Some closed) None few = tt
+choices_counted (Some closed) (Some batch) few = few
+
+chosen : (items : List Item) → IfSome (choices_in items) InBatches
+chosen items = choices_counted (edges_in items) (batch_in items) (batch_counted (value_of (codes "batch") items))
 
 grid_alone : (m : Moments) → Alone m → IfSome (if_grid m) Alone
 grid_alone m alone = go (is_grid m)
@@ -62,56 +78,77 @@ moments_alone (Some at) None None None = moment_alone (time_of at)
 moments_alone None (Some from) (Some to) (Some step) = range_alone (time_of from) (time_of to) (time_of step)
 moments_alone _ _ _ _ = tt
 
-query_alone : (closed : Bool) (m : Moments) → Alone m → (words : List Text) → IfSome (query_worded closed m words) Sound
-query_alone closed m alone (file ∷ expr ∷ []) = alone
-query_alone closed m alone _ = tt
+test_sound : (choices : Choices) → InBatches choices → (words : List Text) → IfSome (test_worded choices words) Sound
+test_sound choices few [] = tt
+test_sound choices few (file ∷ files) = (few, omega arith)
 
-query_sound : (closed : Option Bool) (m : Option Moments) → IfSome m Alone → (words : List Text) → IfSome (query_at closed m words) Sound
-query_sound None m alone words = tt
-query_sound (Some closed) None alone words = tt
-query_sound (Some closed) (Some m) alone words = query_alone closed m alone words
+test_chosen : (choices : Option Choices) → IfSome choices InBatches → (words : List Text) → IfSome (test_at choices words) Sound
+test_chosen None few words = tt
+test_chosen (Some choices) few words = test_sound choices few words
 
-counted : (closed : Bool) (n : Option ℕ) → IfSome n Counted → IfSome (option_map (workload closed) n) Sound
-counted closed None h = tt
-counted closed (Some n) h = h
+query_sound : (choices : Choices) → InBatches choices → (m : Moments) → Alone m → (words : List Text) → IfSome (query_worded choices m words) Sound
+query_sound choices few m alone (file ∷ expr ∷ []) = (few, alone)
+query_sound choices few m alone _ = tt
 
-workload_sound : (closed : Bool) (words : List Text) → IfSome (workload_worded closed words) Sound
-workload_sound closed (count ∷ []) = counted closed (number_of 20000 count) (number_counted 20000 count)
-workload_sound closed _ = tt
+query_chosen : (choices : Option Choices) → IfSome choices InBatches → (m : Option Moments) → IfSome m Alone → (words : List Text) → IfSome (query_at choices m words) Sound
+query_chosen None few m alone words = tt
+query_chosen (Some choices) few None alone words = tt
+query_chosen (Some choices) few (Some m) alone words = query_sound choices few m alone words
 
-workload_chosen : (closed : Option Bool) (words : List Text) → IfSome (workload_at closed words) Sound
-workload_chosen None words = tt
-workload_chosen (Some closed) words = workload_sound closed words
+counted : (choices : Choices) → InBatches choices → (n : Option ℕ) → IfSome n (Counted 20000) → IfSome (option_map (workload choices) n) Sound
+counted choices few None h = tt
+counted choices few (Some n) h = (few, h)
+
+workload_sound : (choices : Choices) → InBatches choices → (words : List Text) → IfSome (workload_worded choices words) Sound
+workload_sound choices few (count ∷ []) = counted choices few (number_of 20000 count) (number_counted 20000 count)
+workload_sound choices few _ = tt
+
+workload_chosen : (choices : Option Choices) → IfSome choices InBatches → (words : List Text) → IfSome (workload_at choices words) Sound
+workload_chosen None few words = tt
+workload_chosen (Some choices) few words = workload_sound choices few words
+
+-- what the items of each command ask for
+pub tests_sound : (said : Option (List Item)) → IfSome (option_and_then test_of said) Sound
+tests_sound None = tt
+tests_sound (Some items) = test_chosen (choices_in items) (chosen items) (places_of items)
+
+pub queries_sound : (said : Option (List Item)) → IfSome (option_and_then query_of said) Sound
+queries_sound None = tt
+queries_sound (Some items) = query_chosen (choices_in items) (chosen items) _
+    (moments_alone (value_of (codes "at") items) (value_of (codes "from") items) (value_of (codes "to") items) (value_of (codes "step") items)) (places_of items)
 
 pub workloads_sound : (said : Option (List Item)) → IfSome (option_and_then workload_of said) Sound
 workloads_sound None = tt
-workloads_sound (Some items) = workload_chosen (edges_in items) (places_of items)
-
--- what the items of a query ask for
-pub queries_sound : (said : Option (List Item)) → IfSome (option_and_then query_of said) Sound
-queries_sound None = tt
-queries_sound (Some items) = query_sound (edges_in items) _
-    (moments_alone (value_of (codes "at") items) (value_of (codes "from") items) (value_of (codes "to") items) (value_of (codes "step") items)) (places_of items)
+workloads_sound (Some items) = workload_chosen (choices_in items) (chosen items) (places_of items)
 
 -- what an answer stands for is sound, so the answer is
 module _ (w : Option Wish) (sound : IfSome w Sound) where
+  sound_too : (asked : Asked) → Some (wish_of asked) ≡ w → Sound (wish_of asked)
+  sound_too asked is = subst (λ (w : Option Wish). IfSome w Sound) (sym is) sound
+
   has_files : (o : Option Asked) → option_map wish_of o ≡ w → IfSome o HasFiles
   has_files None is = tt
-  has_files (Some (wanted.Test closed files)) is = subst (λ (w : Option Wish). IfSome w Sound) (sym is) sound
-  has_files (Some (wanted.Query closed grid instant file expr)) is = tt
-  has_files (Some (wanted.Workload closed count)) is = tt
+  has_files (Some (wanted.Test choices files)) is = (sound_too (wanted.Test choices files) is).1
+  has_files (Some (wanted.Query choices grid instant file expr)) is = tt
+  has_files (Some (wanted.Workload choices count)) is = tt
 
   is_one_instant : (o : Option Asked) → option_map wish_of o ≡ w → IfSome o IsOneInstant
   is_one_instant None is = tt
-  is_one_instant (Some (wanted.Test closed files)) is = tt
-  is_one_instant (Some (wanted.Query closed grid instant file expr)) is = subst (λ (w : Option Wish). IfSome w Sound) (sym is) sound
-  is_one_instant (Some (wanted.Workload closed count)) is = tt
+  is_one_instant (Some (wanted.Test choices files)) is = tt
+  is_one_instant (Some (wanted.Query choices grid instant file expr)) is = (sound_too (wanted.Query choices grid instant file expr) is).1
+  is_one_instant (Some (wanted.Workload choices count)) is = tt
 
   has_series : (o : Option Asked) → option_map wish_of o ≡ w → IfSome o HasSeries
   has_series None is = tt
-  has_series (Some (wanted.Test closed files)) is = tt
-  has_series (Some (wanted.Query closed grid instant file expr)) is = tt
-  has_series (Some (wanted.Workload closed count)) is = subst (λ (w : Option Wish). IfSome w Sound) (sym is) sound
+  has_series (Some (wanted.Test choices files)) is = tt
+  has_series (Some (wanted.Query choices grid instant file expr)) is = tt
+  has_series (Some (wanted.Workload choices count)) is = (sound_too (wanted.Workload choices count) is).1
+
+  has_batch : (o : Option Asked) → option_map wish_of o ≡ w → IfSome o HasBatch
+  has_batch None is = tt
+  has_batch (Some (wanted.Test choices files)) is = (sound_too (wanted.Test choices files) is).0
+  has_batch (Some (wanted.Query choices grid instant file expr)) is = (sound_too (wanted.Query choices grid instant file expr) is).0
+  has_batch (Some (wanted.Workload choices count)) is = (sound_too (wanted.Workload choices count) is).0
 
   pub some_files : {E : Type 0} (r : Result (Option Asked) E) → IfOk r (λ asked. option_map wish_of asked ≡ w) → IfOk r (λ asked. IfSome asked HasFiles)
   some_files r read = IfOk-weaker r _ _ has_files read
@@ -121,6 +158,9 @@ module _ (w : Option Wish) (sound : IfSome w Sound) where
 
   pub some_series : {E : Type 0} (r : Result (Option Asked) E) → IfOk r (λ asked. option_map wish_of asked ≡ w) → IfOk r (λ asked. IfSome asked HasSeries)
   some_series r read = IfOk-weaker r _ _ has_series read
+
+  pub in_batches : {E : Type 0} (r : Result (Option Asked) E) → IfOk r (λ asked. option_map wish_of asked ≡ w) → IfOk r (λ asked. IfSome asked HasBatch)
+  in_batches r read = IfOk-weaker r _ _ has_batch read
 
 -- ---- words that name no command
 
@@ -169,3 +209,19 @@ module _ (items : List Item) where
 
 pub edges_asked : EdgesAreAskedFor
 edges_asked items closed = (told_by items (value_of (codes "edges") items) closed refl, asked_so items closed)
+
+-- ---- the batch that is asked for
+
+module _ (items : List Item) where
+  batch_told : (value : Option Text) (batch : ℕ) → value_of (codes "batch") items ≡ value → batch_of value ≡ Some batch → AsksForBatch items batch
+  batch_told None batch there is = let usual : 64 ≡ batch = cc in subst (AsksForBatch items) usual (unsaid_batch there)
+  batch_told (Some text) batch there is =
+      let few = subst (λ (n : Option ℕ). IfSome n (Counted 1024)) is (number_counted 1024 text) in
+      said_batch batch few.0 few.1 (there ∙ ap Some (number_is 1024 text batch (omega arith) is))
+
+  batch_asked : (batch : ℕ) → AsksForBatch items batch → batch_in items ≡ Some batch
+  batch_asked batch (unsaid_batch there) = ap batch_of there
+  batch_asked batch (said_batch count some few there) = ap batch_of there ∙ spelled_number 1024 count some few (omega arith)
+
+pub batches_asked : BatchesAreAskedFor
+batches_asked items batch = (batch_told items (value_of (codes "batch") items) batch refl, batch_asked items batch)

@@ -18,13 +18,17 @@ one_more n names is others name among = go (bytes_eq n name) refl
     go false e = others name (rw e at among)
 
 pub test_names : AreNames test_options
-test_names = one_more (codes "edges") [] (record { some = omega arith; plain = refl }) no_names
+test_names =
+    one_more (codes "edges") (codes "batch" ∷ []) (record { some = omega arith; plain = refl })
+    (one_more (codes "batch") [] (record { some = omega arith; plain = refl })
+    no_names)
 
 pub query_names : AreNames query_options
 query_names =
-    one_more (codes "edges") (codes "at" ∷ codes "from" ∷ codes "to" ∷ codes "step" ∷ []) (record { some = omega arith; plain = refl })
+    one_more (codes "edges") (codes "batch" ∷ codes "at" ∷ codes "from" ∷ codes "to" ∷ codes "step" ∷ []) (record { some = omega arith; plain = refl })
+    (one_more (codes "batch") (codes "at" ∷ codes "from" ∷ codes "to" ∷ codes "step" ∷ []) (record { some = omega arith; plain = refl })
     (one_more (codes "at") (codes "from" ∷ codes "to" ∷ codes "step" ∷ []) (record { some = omega arith; plain = refl })
     (one_more (codes "from") (codes "to" ∷ codes "step" ∷ []) (record { some = omega arith; plain = refl })
     (one_more (codes "to") (codes "step" ∷ []) (record { some = omega arith; plain = refl })
     (one_more (codes "step") [] (record { some = omega arith; plain = refl })
-    no_names))))
+    no_names)))))

@@ -1,6 +1,6 @@
 -- What the words of the program ask for. (A command, its options and its files, as the words of Prometheus' promtool; the
 -- commands, their options and the limits are this project's own.)
-use Rattle.std.specs.Prelude.{◌≡◌, ◌==◌, ◌&&◌, ◌↔◌, ℕ, not, pos, Bool, true, false, List, [], ◌∷◌, Option, Some, None, codes, if◌then◌else◌, nat_le, option_and_then, option_map}
+use Rattle.std.specs.Prelude.{◌≡◌, ◌==◌, ◌<◌, ◌≤◌, ◌&&◌, ◌↔◌, ℕ, not, pos, Bool, true, false, List, [], ◌∷◌, Option, Some, None, codes, decimal, if◌then◌else◌, nat_le, option_and_then, option_map}
 use Rattle.std.specs.Char.{is_ascii_digit}
 use Rattle.std.specs.List.{list_all}
 use Rattle.std.specs.Result.{result_ok}
@@ -10,20 +10,21 @@ use Rattle.ticks.specs.Moments.{Moments, is_grid}
 use Rattle.ticks.specs.declared.moment.Ms.{Ms}
 use Rattle.frac_text.specs.Times.{time_answer}
 use Rattle.tool_words.specs.Said.{Item, Text, places_of, said, value_of}
+use Rattle.tool_words.specs.declared.asked.Choices.{Choices}
 
 -- what a command asks for: to judge files, to answer an expression over a file's samples, or to judge a script that is made of
--- so many series; each over windows that are closed on the left, or open
+-- so many series; each with what is chosen for its evaluations
 pub data Wish : Type 0 where
-  test : Bool → List Text → Wish
-  query : Bool → Moments → Text → Text → Wish
-  workload : Bool → ℕ → Wish
+  test : Choices → List Text → Wish
+  query : Choices → Moments → Text → Text → Wish
+  workload : Choices → ℕ → Wish
 
 -- the options of `promqltest` and `workload`, and those of `query`
 abbrev pub test_options : List Text
-test_options = codes "edges" ∷ []
+test_options = codes "edges" ∷ codes "batch" ∷ []
 
 abbrev pub query_options : List Text
-query_options = codes "edges" ∷ codes "at" ∷ codes "from" ∷ codes "to" ∷ codes "step" ∷ []
+query_options = codes "edges" ∷ codes "batch" ∷ codes "at" ∷ codes "from" ∷ codes "to" ∷ codes "step" ∷ []
 
 -- the value of `--edges`: windows are open on the left under v3, as without it, and closed under v2
 abbrev pub edges_named : Text → Option Bool
@@ -35,6 +36,31 @@ edges_of (Some text) = edges_named text
 
 abbrev pub edges_in : List Item → Option Bool
 edges_in items = edges_of (value_of (codes "edges") items)
+
+-- the number in decimal digits without a leading zero, where it is at most `most`
+abbrev pub has_no_zero : Text → Bool
+has_no_zero [] = false
+has_no_zero (digit ∷ digits) = not (digit == 48)
+
+abbrev pub number_of : ℕ → Text → Option ℕ
+number_of most text =
+    if has_no_zero text && (list_all is_ascii_digit text && nat_le (digits_value 10 text) most) then Some (digits_value 10 text) else None
+
+-- the value of `--batch`: how many instants may be computed at once, at most 1,024, and 64 without it
+abbrev pub batch_of : Option Text → Option ℕ
+batch_of None = Some 64
+batch_of (Some text) = number_of 1024 text
+
+abbrev pub batch_in : List Item → Option ℕ
+batch_in items = batch_of (value_of (codes "batch") items)
+
+-- what is chosen for all evaluations
+abbrev pub choices_of : Option Bool → Option ℕ → Option Choices
+choices_of (Some closed) (Some batch) = Some (record { closed = closed; batch = batch })
+choices_of _ _ = None
+
+abbrev pub choices_in : List Item → Option Choices
+choices_in items = choices_of (edges_in items) (batch_in items)
 
 -- instants that are a grid
 abbrev pub if_grid : Moments → Option Moments
@@ -59,52 +85,43 @@ moments_of None (Some from) (Some to) (Some step) = range_of (time_of from) (tim
 moments_of _ _ _ _ = None
 
 -- one file or more
-abbrev pub test_worded : Bool → List Text → Option Wish
-test_worded closed [] = None
-test_worded closed (file ∷ files) = Some (test closed (file ∷ files))
+abbrev pub test_worded : Choices → List Text → Option Wish
+test_worded choices [] = None
+test_worded choices (file ∷ files) = Some (test choices (file ∷ files))
 
-abbrev pub test_at : Option Bool → List Text → Option Wish
+abbrev pub test_at : Option Choices → List Text → Option Wish
 test_at None words = None
-test_at (Some closed) words = test_worded closed words
+test_at (Some choices) words = test_worded choices words
 
 abbrev pub test_of : List Item → Option Wish
-test_of items = test_at (edges_in items) (places_of items)
+test_of items = test_at (choices_in items) (places_of items)
 
 -- a file and an expression
-abbrev pub query_worded : Bool → Moments → List Text → Option Wish
-query_worded closed moments (file ∷ expr ∷ []) = Some (query closed moments file expr)
-query_worded closed moments _ = None
+abbrev pub query_worded : Choices → Moments → List Text → Option Wish
+query_worded choices moments (file ∷ expr ∷ []) = Some (query choices moments file expr)
+query_worded choices moments _ = None
 
-abbrev pub query_at : Option Bool → Option Moments → List Text → Option Wish
+abbrev pub query_at : Option Choices → Option Moments → List Text → Option Wish
 query_at None moments words = None
-query_at (Some closed) None words = None
-query_at (Some closed) (Some moments) words = query_worded closed moments words
+query_at (Some choices) None words = None
+query_at (Some choices) (Some moments) words = query_worded choices moments words
 
 abbrev pub query_of : List Item → Option Wish
 query_of items =
-    query_at (edges_in items) (moments_of (value_of (codes "at") items) (value_of (codes "from") items) (value_of (codes "to") items) (value_of (codes "step") items))
+    query_at (choices_in items) (moments_of (value_of (codes "at") items) (value_of (codes "from") items) (value_of (codes "to") items) (value_of (codes "step") items))
     (places_of items)
 
--- the number in decimal digits without a leading zero, where it is at most `most`
-abbrev pub has_no_zero : Text → Bool
-has_no_zero [] = false
-has_no_zero (digit ∷ digits) = not (digit == 48)
-
-abbrev pub number_of : ℕ → Text → Option ℕ
-number_of most text =
-    if has_no_zero text && (list_all is_ascii_digit text && nat_le (digits_value 10 text) most) then Some (digits_value 10 text) else None
-
 -- a number of series, at most 20,000
-abbrev pub workload_worded : Bool → List Text → Option Wish
-workload_worded closed (count ∷ []) = option_map (workload closed) (number_of 20000 count)
-workload_worded closed _ = None
+abbrev pub workload_worded : Choices → List Text → Option Wish
+workload_worded choices (count ∷ []) = option_map (workload choices) (number_of 20000 count)
+workload_worded choices _ = None
 
-abbrev pub workload_at : Option Bool → List Text → Option Wish
+abbrev pub workload_at : Option Choices → List Text → Option Wish
 workload_at None words = None
-workload_at (Some closed) words = workload_worded closed words
+workload_at (Some choices) words = workload_worded choices words
 
 abbrev pub workload_of : List Item → Option Wish
-workload_of items = workload_at (edges_in items) (places_of items)
+workload_of items = workload_at (choices_in items) (places_of items)
 
 abbrev pub command_of : Text → List Text → Option Wish
 command_of command rest =
@@ -129,3 +146,14 @@ pub data AsksForEdges (items : List Item) : Bool → Type 0 where
 -- items name an edge exactly where they ask for it
 abbrev pub EdgesAreAskedFor : Type 0
 EdgesAreAskedFor = (items : List Item) (closed : Bool) → (edges_in items ≡ Some closed) ↔ AsksForEdges items closed
+
+-- ---- the batch that is asked for, as a relation
+
+-- an option that isn't given asks for batches of 64 instants; else its value is their number, from 1 to 1,024
+pub data AsksForBatch (items : List Item) : ℕ → Type 0 where
+  unsaid_batch : value_of (codes "batch") items ≡ None → AsksForBatch items 64
+  said_batch : (batch : ℕ) → 0 < batch → batch ≤ 1024 → value_of (codes "batch") items ≡ Some (decimal batch) → AsksForBatch items batch
+
+-- items name a batch exactly where they ask for it
+abbrev pub BatchesAreAskedFor : Type 0
+BatchesAreAskedFor = (items : List Item) (batch : ℕ) → (batch_in items ≡ Some batch) ↔ AsksForBatch items batch

@@ -4,30 +4,41 @@ use Rattle.tool_words.specs.Asked.{Wish, query, test, workload}
 use Rattle.ticks.specs.Moments.{Moments, moments_in}
 use Rattle.tool_words.specs.declared.asked.Asked.{Asked}
 use Rattle.tool_words.specs.declared.asked.Asked.TheVariants as wanted
+use Rattle.tool_words.specs.declared.asked.Choices.{Choices}
 use Rattle.tool_words.specs.declared.instants.Instants.{Instants}
 
 abbrev pub moments_seen : Instants → Moments
 moments_seen instants = moments_in instants.grid instants.instant
 
 abbrev pub wish_of : Asked → Wish
-wish_of (wanted.Test closed files) = test closed files
-wish_of (wanted.Query closed grid instant file expr) = query closed (moments_in grid instant) file expr
-wish_of (wanted.Workload closed count) = workload closed count
+wish_of (wanted.Test choices files) = test choices files
+wish_of (wanted.Query choices grid instant file expr) = query choices (moments_in grid instant) file expr
+wish_of (wanted.Workload choices count) = workload choices count
 
 -- there is a file to judge
 abbrev pub HasFiles : Asked → Type 0
-HasFiles (wanted.Test closed files) = 0 < length files
-HasFiles (wanted.Query closed grid instant file expr) = ⊤
-HasFiles (wanted.Workload closed count) = ⊤
+HasFiles (wanted.Test choices files) = 0 < length files
+HasFiles (wanted.Query choices grid instant file expr) = ⊤
+HasFiles (wanted.Workload choices count) = ⊤
 
 -- an instant query has one instant
 abbrev pub IsOneInstant : Asked → Type 0
-IsOneInstant (wanted.Test closed files) = ⊤
-IsOneInstant (wanted.Query closed grid instant file expr) = IsTrue instant → grid.start ≡ grid.end
-IsOneInstant (wanted.Workload closed count) = ⊤
+IsOneInstant (wanted.Test choices files) = ⊤
+IsOneInstant (wanted.Query choices grid instant file expr) = IsTrue instant → grid.start ≡ grid.end
+IsOneInstant (wanted.Workload choices count) = ⊤
 
 -- a workload has a series, and at most 20,000
 abbrev pub HasSeries : Asked → Type 0
-HasSeries (wanted.Test closed files) = ⊤
-HasSeries (wanted.Query closed grid instant file expr) = ⊤
-HasSeries (wanted.Workload closed count) = (0 < count) × (count ≤ 20000)
+HasSeries (wanted.Test choices files) = ⊤
+HasSeries (wanted.Query choices grid instant file expr) = ⊤
+HasSeries (wanted.Workload choices count) = (0 < count) × (count ≤ 20000)
+
+-- what is chosen for the evaluations
+abbrev pub choices_for : Asked → Choices
+choices_for (wanted.Test choices files) = choices
+choices_for (wanted.Query choices grid instant file expr) = choices
+choices_for (wanted.Workload choices count) = choices
+
+-- at least one instant is computed at once, and at most 1,024
+abbrev pub HasBatch : Asked → Type 0
+HasBatch asked = (0 < (choices_for asked).batch) × ((choices_for asked).batch ≤ 1024)

@@ -1,6 +1,6 @@
 ghost use Rattle.clap.specs.Simple.{is_simple};
 ghost use Rattle.std.specs.Prelude.{◌≡◌, IsTrue, List, None, Some};
-ghost use Rattle.tool_words.specs.Asked.{EdgesAreAskedFor, query_options, test_options};
+ghost use Rattle.tool_words.specs.Asked.{BatchesAreAskedFor, EdgesAreAskedFor, query_options, test_options};
 ghost use Rattle.tool_words.specs.Commands.{app};
 ghost use Rattle.tool_words.specs.Said.{Item, Text, said};
 ghost use Rattle.tool_words.specs.Says.{AreNames, IsOnce, Says};
@@ -23,4 +23,9 @@ pub fn words_say_what_they_spell()
 /// A law, with nothing to run: windows are closed on the left, or open, exactly where the options ask for it.
 pub fn edges_are_asked_for()
     ensures { EdgesAreAskedFor }
+{}
+
+/// A law, with nothing to run: batches have so many instants exactly where the options ask for it.
+pub fn batches_are_asked_for()
+    ensures { BatchesAreAskedFor }
 {}

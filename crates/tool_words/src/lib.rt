@@ -10,7 +10,9 @@ mod matches;
 mod number;
 mod read;
 
-pub use asked::Asked;
-pub use laws::{commands_are_simple, edges_are_asked_for, words_say_what_they_spell};
+pub use asked::{Asked, Choices};
+pub use laws::{
+    batches_are_asked_for, commands_are_simple, edges_are_asked_for, words_say_what_they_spell,
+};
 pub use read::read_words;
 pub use std::alloc::AllocError as Memory;

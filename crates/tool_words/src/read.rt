@@ -1,11 +1,11 @@
 //! What the words of the program ask for.
 ghost use Rattle.std.specs.Prelude.{◌≡◌, IfOk, IfSome, List, codes, drop, map, option_and_then, option_map, string_bytes};
-ghost use Rattle.tool_words.specs.Asked.{asked, edges_in, edges_named, moments_of, query_of, query_options, query_worded, test_of, test_options, workload_of, workload_worded};
+ghost use Rattle.tool_words.specs.Asked.{asked, batch_in, choices_in, edges_in, edges_named, moments_of, query_of, query_options, query_worded, test_of, test_options, workload_of, workload_worded};
 ghost use Rattle.tool_words.specs.Said.{Item, said, value_of};
 ghost use Rattle.tool_words.specs.Tells.{Holds};
-ghost use Rattle.tool_words.specs.Views.{HasFiles, HasSeries, IsOneInstant, moments_seen, wish_of};
+ghost use Rattle.tool_words.specs.Views.{HasBatch, HasFiles, HasSeries, IsOneInstant, moments_seen, wish_of};
 
-use crate::Asked;
+use crate::asked::{Asked, Choices};
 use crate::instants::{Instants, instants_by};
 use crate::matches::{matches_in, places_in, value_in};
 use crate::number::number_in;
@@ -14,12 +14,17 @@ use holders::{Items, Text};
 use std::alloc::{AllocError, Global};
 
 /// The options of `promqltest` and `workload`, and those of `query`.
-static TEST_OPTIONS: [&str; 1] = ["edges"];
+static TEST_OPTIONS: [&str; 2] = ["edges", "batch"];
 
-static QUERY_OPTIONS: [&str; 5] = ["edges", "at", "from", "to", "step"];
+static QUERY_OPTIONS: [&str; 6] = ["edges", "batch", "at", "from", "to", "step"];
 
 /// No workload has more series than this.
 const MOST_SERIES: u32 = 20_000;
+
+/// No batch has more instants than this, and without the option it has so many.
+const MOST_AT_ONCE: u32 = 1_024;
+
+const USUAL_AT_ONCE: u32 = 64;
 
 /// The words as texts.
 fn texts_of(alloc: Global, words: &[&str]) -> Result<Items<Text>, AllocError>
@@ -53,17 +58,37 @@ fn edges_given(matches: &ArgMatches<'_>) -> Option<bool>
     }
 }
 
+/// The most instants that are computed at once.
+fn batch_given(matches: &ArgMatches<'_>) -> Option<u32>
+    ensures { (items : List Item) → Holds matches.now items → result ≡ batch_in items }
+{
+    match value_in(matches, "batch") {
+        None => Some(USUAL_AT_ONCE),
+        Some(value) => number_in(value.as_bytes(), MOST_AT_ONCE),
+    }
+}
+
+/// What the options choose for all evaluations.
+fn choices_given(matches: &ArgMatches<'_>) -> Option<Choices>
+    ensures { (items : List Item) → Holds matches.now items → result ≡ choices_in items }
+{
+    match (edges_given(matches), batch_given(matches)) {
+        (Some(closed), Some(batch)) => Some(Choices { closed, batch }),
+        _ => None,
+    }
+}
+
 /// The files to judge, of which there is at least one.
 fn judge_test(alloc: Global, matches: &ArgMatches<'_>) -> Result<Option<Asked>, AllocError>
     ensures { (items : List Item) → Holds matches.now items → IfOk result (λ asked. option_map wish_of asked ≡ test_of items) }
 {
-    let Some(closed) = edges_given(matches) else {
+    let Some(choices) = choices_given(matches) else {
         return Ok(None);
     };
     match places_in(matches) {
         None => Ok(None),
         Some(words) => Ok(Some(Asked::Test {
-            closed,
+            choices,
             files: texts_of(alloc, words)?,
         })),
     }
@@ -85,17 +110,17 @@ fn instants_given(matches: &ArgMatches<'_>) -> Option<Instants>
 /// A query at these instants, of the script and the expression that the words name.
 fn query_in(
     alloc: Global,
-    closed: bool,
+    choices: Choices,
     instants: Instants,
     words: &[&str],
 ) -> Result<Option<Asked>, AllocError>
-    ensures { IfOk result (λ asked. option_map wish_of asked ≡ query_worded closed (moments_seen instants) (map (λ w. w.now) words.now)) }
+    ensures { IfOk result (λ asked. option_map wish_of asked ≡ query_worded choices (moments_seen instants) (map (λ w. w.now) words.now)) }
 {
     let [file, expr] = words else {
         return Ok(None);
     };
     Ok(Some(Asked::Query {
-        closed,
+        choices,
         grid: instants.grid,
         instant: instants.instant,
         file: Text::of(alloc, file)?,
@@ -107,7 +132,7 @@ fn query_in(
 fn judge_query(alloc: Global, matches: &ArgMatches<'_>) -> Result<Option<Asked>, AllocError>
     ensures { (items : List Item) → Holds matches.now items → IfOk result (λ asked. option_map wish_of asked ≡ query_of items) }
 {
-    let Some(closed) = edges_given(matches) else {
+    let Some(choices) = choices_given(matches) else {
         return Ok(None);
     };
     let Some(instants) = instants_given(matches) else {
@@ -115,17 +140,17 @@ fn judge_query(alloc: Global, matches: &ArgMatches<'_>) -> Result<Option<Asked>,
     };
     match places_in(matches) {
         None => Ok(None),
-        Some(words) => query_in(alloc, closed, instants, words),
+        Some(words) => query_in(alloc, choices, instants, words),
     }
 }
 
 /// A workload of the series that the words number.
-fn workload_in(closed: bool, words: &[&str]) -> Option<Asked>
-    ensures { option_map wish_of result ≡ workload_worded closed (map (λ w. w.now) words.now) }
+fn workload_in(choices: Choices, words: &[&str]) -> Option<Asked>
+    ensures { option_map wish_of result ≡ workload_worded choices (map (λ w. w.now) words.now) }
 {
     match words {
         [count] => match number_in(count.as_bytes(), MOST_SERIES) {
-            Some(count) => Some(Asked::Workload { closed, count }),
+            Some(count) => Some(Asked::Workload { choices, count }),
             None => None,
         },
         _ => None,
@@ -135,16 +160,16 @@ fn workload_in(closed: bool, words: &[&str]) -> Option<Asked>
 fn judge_workload(matches: &ArgMatches<'_>) -> Option<Asked>
     ensures { (items : List Item) → Holds matches.now items → option_map wish_of result ≡ workload_of items }
 {
-    let Some(closed) = edges_given(matches) else {
+    let Some(choices) = choices_given(matches) else {
         return None;
     };
     match places_in(matches) {
         None => None,
-        Some(words) => workload_in(closed, words),
+        Some(words) => workload_in(choices, words),
     }
 }
 
-/// `promqltest [--edges E] FILE..`
+/// `promqltest [--edges E] [--batch B] FILE..`
 fn read_test(alloc: Global, words: &[String]) -> Result<Option<Asked>, AllocError>
     ensures { IfOk result (λ asked. option_map wish_of asked ≡ option_and_then test_of (said test_options (drop 1 (map string_bytes words.now)))) }
 {
@@ -154,7 +179,7 @@ fn read_test(alloc: Global, words: &[String]) -> Result<Option<Asked>, AllocErro
     }
 }
 
-/// `query [--edges E] [--at T | --from A --to B --step S] FILE EXPR`
+/// `query [--edges E] [--batch B] [--at T | --from A --to B --step S] FILE EXPR`
 fn read_query(alloc: Global, words: &[String]) -> Result<Option<Asked>, AllocError>
     ensures { IfOk result (λ asked. option_map wish_of asked ≡ option_and_then query_of (said query_options (drop 1 (map string_bytes words.now)))) }
 {
@@ -164,7 +189,7 @@ fn read_query(alloc: Global, words: &[String]) -> Result<Option<Asked>, AllocErr
     }
 }
 
-/// `workload [--edges E] N`
+/// `workload [--edges E] [--batch B] N`
 fn read_workload(alloc: Global, words: &[String]) -> Result<Option<Asked>, AllocError>
     ensures { IfOk result (λ asked. option_map wish_of asked ≡ option_and_then workload_of (said test_options (drop 1 (map string_bytes words.now)))) }
 {
@@ -176,13 +201,15 @@ fn read_workload(alloc: Global, words: &[String]) -> Result<Option<Asked>, Alloc
 
 /// What the words behind the program's name ask for, where they follow the rules: `promqltest FILE..`,
 /// `query [--at T | --from A --to B --step S] FILE EXPR`, or `workload N` with N from 1 to 20,000; each takes `--edges v3`,
-/// which is what holds without it, or `--edges v2` too. Each option stands at most once, in any place before a word `--`, as
+/// which is what holds without it, or `--edges v2` too, and `--batch B` with B from 1 to 1,024, which is 64 without it. Numbers
+/// are decimal digits without a leading zero. Each option stands at most once, in any place before a word `--`, as
 /// `--name value` or `--name=value`. The only error is want of memory.
 pub fn read_words(alloc: Global, words: &[String]) -> Result<Option<Asked>, AllocError>
     ensures wish { IfOk result (λ wanted. option_map wish_of wanted ≡ asked (map string_bytes words.now)) }
     ensures files { IfOk result (λ wanted. IfSome wanted HasFiles) }
     ensures alone { IfOk result (λ wanted. IfSome wanted IsOneInstant) }
     ensures series { IfOk result (λ wanted. IfSome wanted HasSeries) }
+    ensures batch { IfOk result (λ wanted. IfSome wanted HasBatch) }
 {
     let Some(command) = words.first() else {
         return Ok(None);

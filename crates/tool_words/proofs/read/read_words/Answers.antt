@@ -1,9 +1,29 @@
 use Rattle.std.proofs.Common.{drop, map}
 use Rattle.std.specs.Prelude.{option_and_then, string_bytes}
-use Rattle.tool_words.specs.Asked.{query_of, query_options, test_options, workload_of}
+use Rattle.tool_words.specs.Asked.{query_of, query_options, test_of, test_options, workload_of}
 use Rattle.tool_words.specs.Said.{said}
-use Rattle.tool_words.proofs.Asking.{no_command, one_instant, queries_sound, some_files, some_series, workloads_sound}
+use Rattle.tool_words.proofs.Asking.{in_batches, no_command, one_instant, queries_sound, some_files, some_series, tests_sound, workloads_sound}
 use Rattle.tool_words.proofs.read.read_words.Goals as goal
+
+pub returns-in-promqltest-clause-files : goal.returns-in-promqltest-clause-files
+returns-in-promqltest-clause-files c =
+    let items = said test_options (drop 1 (map string_bytes c.args.words.now)) in
+    some_files (option_and_then test_of items) (tests_sound items) c.read_test.result c.read_test.ensures
+
+pub returns-in-promqltest-clause-alone : goal.returns-in-promqltest-clause-alone
+returns-in-promqltest-clause-alone c =
+    let items = said test_options (drop 1 (map string_bytes c.args.words.now)) in
+    one_instant (option_and_then test_of items) (tests_sound items) c.read_test.result c.read_test.ensures
+
+pub returns-in-promqltest-clause-series : goal.returns-in-promqltest-clause-series
+returns-in-promqltest-clause-series c =
+    let items = said test_options (drop 1 (map string_bytes c.args.words.now)) in
+    some_series (option_and_then test_of items) (tests_sound items) c.read_test.result c.read_test.ensures
+
+pub returns-in-promqltest-clause-batch : goal.returns-in-promqltest-clause-batch
+returns-in-promqltest-clause-batch c =
+    let items = said test_options (drop 1 (map string_bytes c.args.words.now)) in
+    in_batches (option_and_then test_of items) (tests_sound items) c.read_test.result c.read_test.ensures
 
 pub returns-in-query-clause-files : goal.returns-in-query-clause-files
 returns-in-query-clause-files c =
@@ -20,6 +40,11 @@ returns-in-query-clause-series c =
     let items = said query_options (drop 1 (map string_bytes c.args.words.now)) in
     some_series (option_and_then query_of items) (queries_sound items) c.read_query.result c.read_query.ensures
 
+pub returns-in-query-clause-batch : goal.returns-in-query-clause-batch
+returns-in-query-clause-batch c =
+    let items = said query_options (drop 1 (map string_bytes c.args.words.now)) in
+    in_batches (option_and_then query_of items) (queries_sound items) c.read_query.result c.read_query.ensures
+
 pub returns-in-workload-clause-files : goal.returns-in-workload-clause-files
 returns-in-workload-clause-files c =
     let items = said test_options (drop 1 (map string_bytes c.args.words.now)) in
@@ -34,6 +59,11 @@ pub returns-in-workload-clause-series : goal.returns-in-workload-clause-series
 returns-in-workload-clause-series c =
     let items = said test_options (drop 1 (map string_bytes c.args.words.now)) in
     some_series (option_and_then workload_of items) (workloads_sound items) c.read_workload.result c.read_workload.ensures
+
+pub returns-in-workload-clause-batch : goal.returns-in-workload-clause-batch
+returns-in-workload-clause-batch c =
+    let items = said test_options (drop 1 (map string_bytes c.args.words.now)) in
+    in_batches (option_and_then workload_of items) (workloads_sound items) c.read_workload.result c.read_workload.ensures
 
 pub returns-in_default-as_str-clause-wish : goal.returns-in_default-as_str-clause-wish
 returns-in_default-as_str-clause-wish c =
