@@ -1,6 +1,7 @@
 //! The outcome of a query's text.
 ghost use Rattle.match_rule.specs.Gains.{Gains};
 ghost use Rattle.promql_type.specs.Answers.{MayFault};
+ghost use Rattle.query_engine.specs.Batches.{IsBatch};
 ghost use Rattle.query_engine.specs.Evaluating.{ComesTo, IsRefused, IsRefusedWith};
 ghost use Rattle.query_engine.specs.Readiness.{IsReadyTree};
 ghost use Rattle.std.specs.Prelude.{◌≡◌, [], IfErr, IfOk};
@@ -22,6 +23,8 @@ use ticks::{Grid, Work};
 pub struct Options {
     /// Each window has its left edge too, those of selectors and those of subqueries, as in Prometheus 2.
     pub closed: bool,
+    /// The most instants that are computed at once, from 1 to 1,024. No answer depends on it.
+    pub batch: u32,
 }
 
 /// The typed tree of a text, with the edge that is asked for and its patterns, of which there are none before; or its one
@@ -57,6 +60,7 @@ pub fn evaluate<W: Ledger>(
     store: &Store,
     work: &mut Work<W>,
 ) -> Result<Outcome, AllocError>
+    requires batch { IsBatch options.now.batch }
     ensures outcome { IfOk result (ComesTo text.now store.now grid.now instant options.now.closed) }
     ensures idle { IfOk result (λ outcome. IsRefused outcome → work.new ≡ work.old) }
 {
