@@ -1,9 +1,11 @@
 //! Answering an expression over the samples of a script.
+ghost use Rattle.query_engine.specs.Batches.{IsBatch};
 ghost use Rattle.std.specs.Prelude.{◌≡◌, IfErr, IfOk};
 ghost use Rattle.test_runner.specs.Loads.{samples_left};
 ghost use Rattle.test_runner.specs.Running.{AnswersLoads, IfOfLoads, IsAnswerOver};
 ghost use Rattle.test_runner.specs.declared.fault.RunnerFault.TheVariants.{Write};
 
+use crate::batch::options_over;
 use crate::fault::RunnerFault;
 use crate::load::load_all;
 use promql_meaning::Outcome;
@@ -14,7 +16,8 @@ use std::sync::ledger::Ledger;
 use ticks::{Grid, Work};
 
 /// What the text of a query comes to at the instants of a grid, or at its first where `instant` is told, over the samples
-/// that the `clear` and `load` commands of a script leave; its evaluations aren't run. `Refused` and `Range` come exactly
+/// that the `clear` and `load` commands of a script leave; its evaluations aren't run. The batch is lowered where many series are
+/// loaded. `Refused` and `Range` come exactly
 /// where a load is refused, with the first refusal; then nothing was evaluated. `Write` never comes, and the only other
 /// error is want of memory. (The queries of promtool.)
 pub fn answer<W: Ledger>(
@@ -26,6 +29,7 @@ pub fn answer<W: Ledger>(
     options: &Options,
     work: &mut Work<W>,
 ) -> Result<Outcome, RunnerFault>
+    requires batch { IsBatch options.now.batch }
     ensures answered { IfOk result (IsAnswerOver script.now text.now grid.now instant options.now.closed) }
     ensures refused { AnswersLoads (samples_left script.now) result }
     ensures explained { IfErr result (IfOfLoads (samples_left script.now)) }
@@ -33,6 +37,7 @@ pub fn answer<W: Ledger>(
     ensures idle { IfErr (samples_left script.now) (λ _. work.new ≡ work.old) }
 {
     let store = load_all(alloc, script)?;
-    let outcome = evaluate(alloc, text, grid, instant, options, &store, work)?;
+    let options = options_over(options, &store);
+    let outcome = evaluate(alloc, text, grid, instant, &options, &store, work)?;
     Ok(outcome)
 }

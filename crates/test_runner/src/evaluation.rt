@@ -1,10 +1,12 @@
 //! Judging an evaluation: the line of its verdict.
+ghost use Rattle.query_engine.specs.Batches.{IsBatch};
 ghost use Rattle.script_check.specs.Verdicts.{HasPatterns};
 ghost use Rattle.std.specs.Prelude.{◌≡◌, IfOk};
 ghost use Rattle.test_runner.specs.Lines.{is_pass};
 ghost use Rattle.test_runner.specs.Steps.{IsJudgementOn, IsLine};
 ghost use Rattle.test_runner.specs.Verdicts.{judgement};
 
+use crate::batch::options_over;
 use crate::text::verdict_line;
 use holders::Text;
 use match_rule::Patterns;
@@ -66,7 +68,8 @@ fn judge_outcome(
     })
 }
 
-/// What an evaluation comes to over the samples of a store, against what is expected of it. The only error is want of memory.
+/// What an evaluation comes to over the samples of a store, against what is expected of it. Its batch is lowered for many
+/// series. The only error is want of memory.
 pub fn judge_evaluation<W: Ledger>(
     alloc: Global,
     path: &str,
@@ -75,17 +78,19 @@ pub fn judge_evaluation<W: Ledger>(
     searches: &mut Patterns,
     work: &mut Work<W>,
 ) -> Result<VerdictLine, AllocError>
-    requires { HasPatterns searches.old asked.expected.now }
+    requires kept { HasPatterns searches.old asked.expected.now }
+    requires batch { IsBatch asked.options.now.batch }
     ensures line { IfOk result (λ line. IsLine path.now (IsJudgementOn searches.old store.now asked.entry) line.text.items line.passed) }
     ensures same { searches.new ≡ searches.old }
 {
     let text = asked.text.as_str();
+    let options = options_over(asked.options, store);
     let outcome = evaluate(
         alloc,
         text,
         asked.grid,
         asked.instant,
-        asked.options,
+        &options,
         store,
         work,
     )?;

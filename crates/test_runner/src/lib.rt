@@ -4,6 +4,7 @@
 #![tactic(auto)]
 
 mod answering;
+mod batch;
 mod evaluation;
 mod fault;
 mod laws;

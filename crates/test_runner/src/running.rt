@@ -1,5 +1,6 @@
 //! Running a script: each evaluation is judged over the samples that were loaded before it, and its line is written.
 ghost use Rattle.edge_io.specs.Causes.{HasCause};
+ghost use Rattle.query_engine.specs.Batches.{IsBatch};
 ghost use Rattle.script_check.specs.Verdicts.{HasItsPatterns, HasPatterns, KeepsPatterns};
 ghost use Rattle.std.specs.Prelude.{◌≡◌, ◌<◌, ◌+◌, ◌^◌, [], ◌∷◌, Ok, length, IfErr, IfOk, IsErrOf};
 ghost use Rattle.test_runner.specs.Loads.{left_by, samples_left};
@@ -29,7 +30,8 @@ fn run_evaluation<S: Sink, W: Ledger>(
     out: &mut S,
     work: &mut Work<W>,
 ) -> Result<bool, SinkFail>
-    requires { HasPatterns searches.old asked.expected.now }
+    requires kept { HasPatterns searches.old asked.expected.now }
+    requires batch { IsBatch asked.options.now.batch }
     ensures ran { IfOk result (WroteLine path.now (IsJudgementOn searches.old store.now asked.entry) (S.written out.old) (S.written out.new)) }
     ensures cut { IfErr result (λ _. WroteLess path.now (IsJudgementOn searches.old store.now asked.entry) (S.written out.old) (S.written out.new)) }
     ensures cause { HasCause (S.faults out.old) (S.faults out.new) (IsErrOf result SinkFail.Failed) }
@@ -53,7 +55,8 @@ fn run_command<S: Sink, W: Ledger>(
     out: &mut S,
     work: &mut Work<W>,
 ) -> Result<Totals, RunnerFault>
-    requires { HasItsPatterns searches.old command.now.what }
+    requires kept { HasItsPatterns searches.old command.now.what }
+    requires batch { IsBatch options.now.batch }
     ensures left { IfOk result (λ _. left_by command.now.what store.old ≡ Ok store.new) }
     ensures rests { IfOk result (λ totals. totals.passed + totals.failed ≡ 0 → work.new ≡ work.old) }
     ensures ran { IfOk result (CarriedOut options.now.closed searches.old path.now store.old (command.now ∷ []) (S.written out.old) (S.written out.new)) }
@@ -101,6 +104,7 @@ fn run_commands<S: Sink, W: Ledger>(
 ) -> Result<Totals, RunnerFault>
     requires kept { KeepsPatterns searches.old script.now }
     requires few { length script.now.commands < 2 ^ 32 }
+    requires batch { IsBatch options.now.batch }
     ensures ran { IfOk result (HasRun options.now.closed searches.old path.now script.now (S.written out.old) (S.written out.new)) }
     ensures rests { IfOk result (λ totals. totals.passed + totals.failed ≡ 0 → work.new ≡ work.old) }
     ensures cut { IfErr result (λ fault. IfCut fault (WasCut options.now.closed searches.old path.now script.now (S.written out.old) (S.written out.new))) }
@@ -122,7 +126,8 @@ fn run_commands<S: Sink, W: Ledger>(
 }
 
 /// Runs a script under a path: first all its loads are judged, then its commands are carried out in order, and each
-/// evaluation's line is written as it ends. All are evaluated with the same options. `searches` keeps the patterns that the script names. `Refused` and `Range` come
+/// evaluation's line is written as it ends. All are evaluated with the same options, but for the batch, which is lowered where many
+/// series are loaded. `searches` keeps the patterns that the script names. `Refused` and `Range` come
 /// exactly where a load is refused, with the first refusal; then nothing was evaluated or written. After `Write`, which
 /// comes only where a write failed, and after want of memory, a front of the lines of the script's first evaluations was
 /// written. (The files of promqltest.)
@@ -137,6 +142,7 @@ pub fn run<S: Sink, W: Ledger>(
 ) -> Result<Totals, RunnerFault>
     requires kept { KeepsPatterns searches.old script.now }
     requires few { length script.now.commands < 2 ^ 32 }
+    requires batch { IsBatch options.now.batch }
 
     // Each evaluation's verdict was written, and these are their numbers. Nothing is counted but by evaluations.
     ensures ran { IfOk result (HasRun options.now.closed searches.old path.now script.now (S.written out.old) (S.written out.new)) }

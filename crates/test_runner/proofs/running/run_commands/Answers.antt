@@ -21,8 +21,8 @@ loop-command-init g c = record {
   sound = search rules;
 }
 
-pub run_command-requires : goal.run_command-requires
-run_command-requires g c =
+pub run_command-requires-clause-kept : goal.run_command-requires-clause-kept
+run_command-requires-clause-kept g c =
     let command = c.command-item.result in
     let kept = c.args.searches.now in
     let front = at_drop c.as_slice-command-items.result.now c.loop-command.command-index command c.loop-command-test.true c.command-item.is in
