@@ -11,3 +11,4 @@ pub mod WordsRun
 pub mod Reported
 pub mod OneReport
 pub mod WorkloadRun
+pub mod Batched

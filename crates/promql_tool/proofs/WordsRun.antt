@@ -5,6 +5,7 @@ use Rattle.edge_io.specs.Written.{appended, WroteFront}
 use Rattle.edge_io.specs.declared.sink.SinkFail.{SinkFail}
 use Rattle.ticks.specs.declared.grid.Grid.{Grid}
 use Rattle.tool_words.specs.Asked.{asked, query, test, workload}
+use Rattle.tool_words.specs.declared.asked.Choices.{Choices}
 use Rattle.ticks.specs.Moments.{moments_in}
 use Rattle.promql_tool.specs.Ends.{IsCut, judging, reporting, unwritten, working}
 use Rattle.promql_tool.specs.Files.{report_of}
@@ -19,41 +20,41 @@ pub one_fetched : (L : Type 0) (fetch : L → List ℕ → L → Type 0) (paths 
 one_fetched L fetch paths path before now is step =
     subst (λ (all : List (List ℕ)). FetchesFront fetch all before now) is (record { fetched = path ∷ []; left = []; parts = refl; states = (now, step, refl) })
 
-module _ (words : List (List ℕ)) (closed : Bool) (found : List ℕ → Option (List ℕ) → Type 0) (before now : Option (List ℕ)) (idle : Type 0) where
-  -- the usage line
-  pub misuse_ends : (r : Result Status SinkFail) → asked words ≡ None → idle → IfOk r (λ status. (status.0 ≡ 2) × (now ≡ appended before usage)) → OnErr r (WroteFront before now usage)
-      → Ends (ReportsWords words found idle) (IsCut words found before now) before now r
-  misuse_ends (Ok status) none rests ok err = (usage_report, Misused none rests, record { status_is = ok.0; text_is = ok.1 })
-  misuse_ends (Err cause) none rests ok err = reporting usage_report (misused none) err
+-- the usage line
+pub misuse_ends : (words : List (List ℕ)) (found : List ℕ → Option (List ℕ) → Type 0) (before now : Option (List ℕ)) (idle : Type 0) (r : Result Status SinkFail) → asked words ≡ None → idle
+    → IfOk r (λ status. (status.0 ≡ 2) × (now ≡ appended before usage)) → OnErr r (WroteFront before now usage) → Ends (ReportsWords words found idle) (IsCut words found before now) before now r
+misuse_ends words found before now idle (Ok status) none rests ok err = (usage_report, Misused none rests, record { status_is = ok.0; text_is = ok.1 })
+misuse_ends words found before now idle (Err cause) none rests ok err = reporting usage_report (misused none) err
 
+module _ (words : List (List ℕ)) (choices : Choices) (found : List ℕ → Option (List ℕ) → Type 0) (before now : Option (List ℕ)) (idle : Type 0) where
   -- files
-  files_cut : (paths : List (List ℕ)) → asked words ≡ Some (test closed paths) → IsCutFiles closed found paths before now → IsCut words found before now
-  files_cut paths is (Early text begun front) = judging closed paths text is begun front
-  files_cut paths is (Late files last seen front) = reporting (report_of files last) (tested closed paths files last is seen) front
+  files_cut : (paths : List (List ℕ)) → asked words ≡ Some (test choices paths) → IsCutFiles choices.closed found paths before now → IsCut words found before now
+  files_cut paths is (Early text begun front) = judging choices paths text is begun front
+  files_cut paths is (Late files last seen front) = reporting (report_of files last) (tested choices paths files last is seen) front
 
-  pub files_end : (paths : List (List ℕ)) (r : Result Status SinkFail) → asked words ≡ Some (test closed paths) → Ends (ReportsFiles closed found paths idle) (IsCutFiles closed found paths before now) before now r
+  pub files_end : (paths : List (List ℕ)) (r : Result Status SinkFail) → asked words ≡ Some (test choices paths) → Ends (ReportsFiles choices.closed found paths idle) (IsCutFiles choices.closed found paths before now) before now r
       → Ends (ReportsWords words found idle) (IsCut words found before now) before now r
-  files_end paths (Ok status) is e = (e.0, Tested closed paths e.0 is e.1, e.2)
+  files_end paths (Ok status) is e = (e.0, Tested choices paths e.0 is e.1, e.2)
   files_end paths (Err cause) is e = files_cut paths is e
 
   -- a workload
-  workload_cut : (series : ℕ) → asked words ≡ Some (workload closed series) → IsCutWorkload closed series before now → IsCut words found before now
+  workload_cut : (series : ℕ) → asked words ≡ Some (workload choices series) → IsCutWorkload choices.closed series before now → IsCut words found before now
   workload_cut series is (Unmade same) = unwritten same
-  workload_cut series is (Begun text begun front) = working closed series text is begun front
-  workload_cut series is (Almost files last seen front) = reporting (workload_report series files last) (worked closed series files last is seen) front
+  workload_cut series is (Begun text begun front) = working choices series text is begun front
+  workload_cut series is (Almost files last seen front) = reporting (workload_report series files last) (worked choices series files last is seen) front
 
-  pub workload_end : (series : ℕ) (r : Result Status SinkFail) → asked words ≡ Some (workload closed series) → Ends (ReportsWorkload closed series idle) (IsCutWorkload closed series before now) before now r
+  pub workload_end : (series : ℕ) (r : Result Status SinkFail) → asked words ≡ Some (workload choices series) → Ends (ReportsWorkload choices.closed series idle) (IsCutWorkload choices.closed series before now) before now r
       → Ends (ReportsWords words found idle) (IsCut words found before now) before now r
-  workload_end series (Ok status) is e = (e.0, Works closed series e.0 is e.1, e.2)
+  workload_end series (Ok status) is e = (e.0, Works choices series e.0 is e.1, e.2)
   workload_end series (Err cause) is e = workload_cut series is e
 
   -- a query
-  module _ (grid : Grid) (instant : Bool) (path expr : List ℕ) (is : asked words ≡ Some (query closed (moments_in grid instant) path expr)) where
-    query_cut : IsCutReport (Queried closed found path expr grid instant) before now → IsCut words found before now
+  module _ (grid : Grid) (instant : Bool) (path expr : List ℕ) (is : asked words ≡ Some (query choices (moments_in grid instant) path expr)) where
+    query_cut : IsCutReport (Queried choices.closed found path expr grid instant) before now → IsCut words found before now
     query_cut (Nothing same) = unwritten same
-    query_cut (Partly report q front) = reporting report (queried closed grid instant path expr report is q) front
+    query_cut (Partly report q front) = reporting report (queried choices grid instant path expr report is q) front
 
-    pub query_end : (r : Result Status SinkFail) → Ends (ReportsQuery closed found path expr grid instant idle) (IsCutReport (Queried closed found path expr grid instant) before now) before now r
+    pub query_end : (r : Result Status SinkFail) → Ends (ReportsQuery choices.closed found path expr grid instant idle) (IsCutReport (Queried choices.closed found path expr grid instant) before now) before now r
         → Ends (ReportsWords words found idle) (IsCut words found before now) before now r
-    query_end (Ok status) e = (e.0, Queries closed grid instant path expr e.0 is e.1, e.2)
+    query_end (Ok status) e = (e.0, Queries choices grid instant path expr e.0 is e.1, e.2)
     query_end (Err cause) e = query_cut e

@@ -9,3 +9,4 @@ pub mod Ends
 pub mod Runs
 pub mod Reached
 pub mod Settled
+pub mod Batches

@@ -2,6 +2,7 @@
 use Rattle.std.specs.Prelude.{◌≡◌, ℕ, Bool, false, List, [], ◌∷◌, ◌++◌, Option, None, Some}
 use Rattle.ticks.specs.declared.grid.Grid.{Grid}
 use Rattle.tool_words.specs.Asked.{Wish, asked, query, test, workload}
+use Rattle.tool_words.specs.declared.asked.Choices.{Choices}
 use Rattle.ticks.specs.Moments.{moments_in}
 use Rattle.promql_tool.specs.Files.{JudgedFile, Last, Sees, report_of}
 use Rattle.promql_tool.specs.Found.{Just}
@@ -18,10 +19,10 @@ workload_report series files last = record { text = loaded_text series ++ (repor
 -- `regex` takes as a pattern is one; and so are reports. That a fetch of a path finds bytes, or none, is said by `found`.
 pub data IsReport (words : List (List ℕ)) (found : List ℕ → Option (List ℕ) → Type 0) : Report → Type 0 where
   misused : asked words ≡ None → IsReport words found usage_report
-  tested : (closed : Bool) (paths : List (List ℕ)) (files : List JudgedFile) (last : Last) → asked words ≡ Some (test closed paths) → Sees closed found paths files last → IsReport words found (report_of files last)
-  queried : (closed : Bool) (grid : Grid) (instant : Bool) (file expr : List ℕ) (report : Report) → asked words ≡ Some (query closed (moments_in grid instant) file expr)
-      → Queried closed found file expr grid instant report → IsReport words found report
-  worked : (closed : Bool) (series : ℕ) (files : List JudgedFile) (last : Last) → asked words ≡ Some (workload closed series) → Sees closed (Just (workload_text series)) (workload_path ∷ []) files last
+  tested : (choices : Choices) (paths : List (List ℕ)) (files : List JudgedFile) (last : Last) → asked words ≡ Some (test choices paths) → Sees choices.closed found paths files last → IsReport words found (report_of files last)
+  queried : (choices : Choices) (grid : Grid) (instant : Bool) (file expr : List ℕ) (report : Report) → asked words ≡ Some (query choices (moments_in grid instant) file expr)
+      → Queried choices.closed found file expr grid instant report → IsReport words found report
+  worked : (choices : Choices) (series : ℕ) (files : List JudgedFile) (last : Last) → asked words ≡ Some (workload choices series) → Sees choices.closed (Just (workload_text series)) (workload_path ∷ []) files last
       → IsReport words found (workload_report series files last)
 
 -- some report of the words is such
@@ -31,16 +32,16 @@ HasReport words found IsSuch = (report : Report) × IsReport words found report 
 -- the files that a command names, in order
 abbrev pub files_asked : Option Wish → List (List ℕ)
 files_asked None = []
-files_asked (Some (test closed paths)) = paths
-files_asked (Some (query closed moments file expr)) = file ∷ []
-files_asked (Some (workload closed series)) = []
+files_asked (Some (test choices paths)) = paths
+files_asked (Some (query choices moments file expr)) = file ∷ []
+files_asked (Some (workload choices series)) = []
 
 -- whether a command asks for windows that are closed on the left
 abbrev pub closed_asked : Option Wish → Bool
 closed_asked None = false
-closed_asked (Some (test closed paths)) = closed
-closed_asked (Some (query closed moments file expr)) = closed
-closed_asked (Some (workload closed series)) = closed
+closed_asked (Some (test choices paths)) = choices.closed
+closed_asked (Some (query choices moments file expr)) = choices.closed
+closed_asked (Some (workload choices series)) = choices.closed
 
 abbrev pub closed_of : List (List ℕ) → Bool
 closed_of words = closed_asked (asked words)

@@ -18,6 +18,7 @@ use Rattle.test_runner.specs.declared.fault.RunnerFault.TheVariants as runner
 use Rattle.test_runner.specs.declared.totals.Totals.{Totals}
 use Rattle.ticks.specs.declared.grid.Grid.{Grid}
 use Rattle.tool_words.specs.Asked.{asked, query, test, workload}
+use Rattle.tool_words.specs.declared.asked.Choices.{Choices}
 use Rattle.ticks.specs.Moments.{moments_in}
 use Rattle.promql_tool.specs.Ends.{IsOneOf, Reports}
 use Rattle.promql_tool.specs.Files.{Begins, Gone as GoneAt, IsJudged, IsRunning, JudgedFile, Last, Refused as RefusedAt, Sees, report_of}
@@ -187,10 +188,10 @@ pub data IsCutWorkload (closed : Bool) (series : ℕ) (before now : Option (List
 -- a report of words, with what is known of the counters
 pub data ReportsWords (words : List (List ℕ)) (found : List ℕ → Option (List ℕ) → Type 0) (idle : Type 0) : Report → Type 0 where
   Misused : asked words ≡ None → idle → ReportsWords words found idle usage_report
-  Tested : (closed : Bool) (paths : List (List ℕ)) (report : Report) → asked words ≡ Some (test closed paths) → ReportsFiles closed found paths idle report → ReportsWords words found idle report
-  Queries : (closed : Bool) (grid : Grid) (instant : Bool) (path expr : List ℕ) (report : Report) → asked words ≡ Some (query closed (moments_in grid instant) path expr) → ReportsQuery closed found path expr grid instant idle report
+  Tested : (choices : Choices) (paths : List (List ℕ)) (report : Report) → asked words ≡ Some (test choices paths) → ReportsFiles choices.closed found paths idle report → ReportsWords words found idle report
+  Queries : (choices : Choices) (grid : Grid) (instant : Bool) (path expr : List ℕ) (report : Report) → asked words ≡ Some (query choices (moments_in grid instant) path expr) → ReportsQuery choices.closed found path expr grid instant idle report
       → ReportsWords words found idle report
-  Works : (closed : Bool) (series : ℕ) (report : Report) → asked words ≡ Some (workload closed series) → ReportsWorkload closed series idle report → ReportsWords words found idle report
+  Works : (choices : Choices) (series : ℕ) (report : Report) → asked words ≡ Some (workload choices series) → ReportsWorkload choices.closed series idle report → ReportsWords words found idle report
 
 -- the bytes of lists
 abbrev pub bytes_of : List (Vec ℕ Global) → List (List ℕ)

@@ -64,6 +64,6 @@ IsAnsweredOnce closed moments found path expr = (a b : Told) → IsToldSo closed
 -- What words ask for comes to one thing: each of the files, the query, or the script of the workload.
 abbrev pub IsSettled : Option Wish → (List ℕ → Option (List ℕ)) → Type 0
 IsSettled None files = Unit {0}
-IsSettled (Some (test closed paths)) files = AllByRecursion (ComesToOne closed (Have files)) paths
-IsSettled (Some (query closed moments path expr)) files = IsAnsweredOnce closed moments (Have files) path expr
-IsSettled (Some (workload closed series)) files = ComesToOne closed (Just (workload_text series)) workload_path
+IsSettled (Some (test choices paths)) files = AllByRecursion (ComesToOne choices.closed (Have files)) paths
+IsSettled (Some (query choices moments path expr)) files = IsAnsweredOnce choices.closed moments (Have files) path expr
+IsSettled (Some (workload choices series)) files = ComesToOne choices.closed (Just (workload_text series)) workload_path

@@ -4,6 +4,7 @@ ghost use Rattle.edge_io.specs.Fetches.{FetchesFront};
 ghost use Rattle.promql_tool.specs.Found.{IsFound, Just};
 ghost use Rattle.promql_tool.specs.Reached.{ReachesFiles, status_of};
 ghost use Rattle.promql_tool.specs.Runs.{Ends, IsCutFiles, ReportsFiles};
+ghost use Rattle.query_engine.specs.Batches.{IsBatch};
 ghost use Rattle.std.specs.Prelude.{◌≡◌, ◌+◌, ◌<◌, ◌^◌, [], ◌∷◌, IfOk, IsErrOf};
 
 use crate::judge::{FileEnd, run_bytes, run_file};
@@ -51,6 +52,7 @@ pub fn run_files<L: Library, S: Sink, W: Ledger>(
     out: &mut S,
     work: &mut Work<W>,
 ) -> Result<Status, SinkFail>
+    requires { IsBatch options.now.batch }
     ensures fetched { FetchesFront L.fetches files.now library.old library.new }
     ensures reached { ReachesFiles L.fetches options.now.closed (IsFound (L.told library.old) (L.sound library.old)) files.now library.old library.new (S.written out.old) (S.written out.new) (work.new ≡ work.old) (status_of result) }
     ensures told { L.told library.new ≡ L.told library.old }
@@ -86,6 +88,7 @@ pub fn run_text<S: Sink, W: Ledger>(
     out: &mut S,
     work: &mut Work<W>,
 ) -> Result<Status, SinkFail>
+    requires { IsBatch options.now.batch }
     ensures ends { Ends (ReportsFiles options.now.closed (Just text.now) (path.now ∷ []) (work.new ≡ work.old)) (IsCutFiles options.now.closed (Just text.now) (path.now ∷ []) (S.written out.old) (S.written out.new))
         (S.written out.old) (S.written out.new) result }
     ensures cause { HasCause (S.faults out.old) (S.faults out.new) (IsErrOf result SinkFail.Failed) }

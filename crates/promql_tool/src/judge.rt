@@ -4,6 +4,7 @@ ghost use Rattle.promql_tool.specs.Found.{IsFound, Just};
 ghost use Rattle.promql_tool.specs.Runs.{ComesTo, IsCutFile, IsCutScript, RestsIfNone, ScriptComesTo};
 ghost use Rattle.promql_tool.specs.declared.fault.Stop.TheVariants.{Gone};
 ghost use Rattle.promql_tool.specs.declared.judge.FileEnd.TheVariants.{Stopped};
+ghost use Rattle.query_engine.specs.Batches.{IsBatch};
 ghost use Rattle.script_check.specs.Verdicts.{KeepsPatterns};
 ghost use Rattle.std.specs.Prelude.{◌≡◌, ◌≤◌, ◌<◌, ◌^◌, length, IfOk, OnErr, IsErrOf};
 
@@ -46,6 +47,7 @@ fn run_script<S: Sink, W: Ledger>(
 ) -> Result<FileEnd, SinkFail>
     requires kept { KeepsPatterns searches.old script.now }
     requires few { length script.now.commands < 2 ^ 32 }
+    requires batch { IsBatch options.now.batch }
     ensures ran { IfOk result (ScriptComesTo options.now.closed searches.old path.now script.now (S.written out.old) (S.written out.new) (work.new ≡ work.old)) }
     ensures rests { IfOk result (RestsIfNone (work.new ≡ work.old)) }
     ensures cut { OnErr result (IsCutScript options.now.closed searches.old path.now script.now (S.written out.old) (S.written out.new)) }
@@ -72,6 +74,7 @@ pub fn run_bytes<S: Sink, W: Ledger>(
     out: &mut S,
     work: &mut Work<W>,
 ) -> Result<FileEnd, SinkFail>
+    requires { IsBatch options.now.batch }
     ensures ran { IfOk result (ComesTo options.now.closed (Just bytes.now) path.now (S.written out.old) (S.written out.new) (work.new ≡ work.old)) }
     ensures rests { IfOk result (RestsIfNone (work.new ≡ work.old)) }
     ensures cut { OnErr result (IsCutFile options.now.closed (Just bytes.now) path.now (S.written out.old) (S.written out.new)) }
@@ -98,6 +101,7 @@ pub fn run_file<L: Library, S: Sink, W: Ledger>(
     out: &mut S,
     work: &mut Work<W>,
 ) -> Result<FileEnd, SinkFail>
+    requires { IsBatch options.now.batch }
     ensures fetched { L.fetches library.old path.now library.new }
     ensures told { L.told library.new ≡ L.told library.old }
     ensures library_sound { L.sound library.old → L.sound library.new }

@@ -15,7 +15,7 @@ mod working;
 mod workload;
 
 pub use fault::Refusal;
-pub use laws::words_have_one_report;
+pub use laws::{batches_leave_reports, words_have_one_report};
 pub use print::Status;
 pub use tool::run_tool;
 pub use workload::{loaded_line, workload_text};

@@ -5,6 +5,7 @@ ghost use Rattle.promql_tool.specs.Query.{Queried};
 ghost use Rattle.promql_tool.specs.Runs.{AnswersFile, AnswersScript, Ends, IsCutReport, ReportsAnswered, ReportsQuery};
 ghost use Rattle.promql_tool.specs.declared.fault.Stop.TheVariants.{Gone};
 ghost use Rattle.promql_tool.specs.declared.query.Answered.TheVariants.{Stopped};
+ghost use Rattle.query_engine.specs.Batches.{IsBatch};
 ghost use Rattle.std.specs.Prelude.{◌≡◌, ℕ, List, IfOk, IsErrOf};
 
 use crate::fault::{Refusal, Stop};
@@ -52,6 +53,7 @@ fn answer_script<W: Ledger>(
     question: Question<'_>,
     work: &mut Work<W>,
 ) -> Result<Answered, AllocError>
+    requires { IsBatch question.options.now.batch }
     ensures { IfOk result (AnswersScript question.entry.options.now.closed script.now question.entry.expr.now question.entry.grid.now question.entry.instant (work.new ≡ work.old)) }
 {
     let Question {
@@ -76,6 +78,7 @@ fn answer_bytes<W: Ledger>(
     question: Question<'_>,
     work: &mut Work<W>,
 ) -> Result<Answered, AllocError>
+    requires { IsBatch question.options.now.batch }
     ensures { (path : List ℕ) → IfOk result (AnswersFile question.entry.options.now.closed (Just bytes.now) path question.entry.expr.now question.entry.grid.now question.entry.instant (work.new ≡ work.old)) }
 {
     let mut room = PatternRoom::new(alloc)?;
@@ -95,6 +98,7 @@ fn answer_file<L: Library, W: Ledger>(
     library: &mut L,
     work: &mut Work<W>,
 ) -> Result<Answered, AllocError>
+    requires { IsBatch question.options.now.batch }
     ensures fetched { L.fetches library.old path.now library.new }
     ensures told { L.told library.new ≡ L.told library.old }
     ensures sound { L.sound library.old → L.sound library.new }
@@ -139,6 +143,7 @@ pub fn run_query<L: Library, S: Sink, W: Ledger>(
     out: &mut S,
     work: &mut Work<W>,
 ) -> Result<Status, SinkFail>
+    requires { IsBatch question.options.now.batch }
     ensures fetched { L.fetches library.old path.now library.new }
     ensures told { L.told library.new ≡ L.told library.old }
     ensures library_sound { L.sound library.old → L.sound library.new }

@@ -21,7 +21,7 @@ use query_engine::Options;
 use std::alloc::Global;
 use std::sync::ledger::Ledger;
 use ticks::Work;
-use tool_words::{Asked, read_words};
+use tool_words::{Asked, Choices, read_words};
 
 /// The status of a run whose printing was cut off.
 fn cut_status(cause: SinkFail) -> Status
@@ -32,6 +32,16 @@ fn cut_status(cause: SinkFail) -> Status
     match cause {
         SinkFail::Failed => Status(4),
         SinkFail::Memory => Status(7),
+    }
+}
+
+/// What is chosen for evaluations, as the engine takes it.
+fn options_of(choices: Choices) -> Options
+    ensures { result ≡ record { closed = choices.closed; batch = choices.batch } }
+{
+    Options {
+        closed: choices.closed,
+        batch: choices.batch,
     }
 }
 
@@ -57,20 +67,20 @@ fn run_words<L: Library, S: Sink, W: Ledger>(
 {
     match read_words(alloc, words)? {
         None => print_usage(out),
-        Some(Asked::Test { closed, files }) => {
-            let options = Options { closed };
+        Some(Asked::Test { choices, files }) => {
+            let options = options_of(choices);
             run_files(alloc, files.as_slice(), &options, library, out, work)
         }
         Some(
             Asked::Query {
-                closed,
+                choices,
                 grid,
                 instant,
                 file,
                 expr,
             },
         ) => {
-            let options = Options { closed };
+            let options = options_of(choices);
             let question = Question {
                 expr: expr.as_str(),
                 grid: &grid,
@@ -79,8 +89,8 @@ fn run_words<L: Library, S: Sink, W: Ledger>(
             };
             run_query(alloc, file.as_str(), question, library, out, work)
         }
-        Some(Asked::Workload { closed, count }) => {
-            let options = Options { closed };
+        Some(Asked::Workload { choices, count }) => {
+            let options = options_of(choices);
             run_workload(alloc, count, &options, out, work)
         }
     }
@@ -89,7 +99,8 @@ fn run_words<L: Library, S: Sink, W: Ledger>(
 /// Runs `promqltest FILE..`: fetches the files in order, judges each evaluation of a script over the samples that its file
 /// loads, and prints a line for each and the totals of all; or `query FILE EXPR`: answers an expression over the samples
 /// that a file loads; or `workload N`: makes a script of N series and runs it as a file. With `--edges v2` windows have their left
-/// edge too, as in Prometheus 2. Samples are read by counted calls, in `work`. Status 0: all pass, or the query has an answer. 1: some don't pass, or the query was refused or failed. 2: the
+/// edge too, as in Prometheus 2. With `--batch B` at most B instants are computed at once, which changes nothing that is printed.
+/// Samples are read by counted calls, in `work`. Status 0: all pass, or the query has an answer. 1: some don't pass, or the query was refused or failed. 2: the
 /// words are no command. 3: a file can't be fetched. 4: a write failed. 6: a file is no script, or a load of it is refused.
 /// 7: memory ran out.
 pub fn run_tool<L: Library, S: Sink, W: Ledger>(

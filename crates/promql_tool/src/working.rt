@@ -1,6 +1,7 @@
 //! Running a workload.
 ghost use Rattle.edge_io.specs.Causes.{HasCause};
 ghost use Rattle.promql_tool.specs.Runs.{Ends, IsCutWorkload, ReportsWorkload};
+ghost use Rattle.query_engine.specs.Batches.{IsBatch};
 ghost use Rattle.std.specs.Prelude.{◌≡◌, ◌≤◌, IsErrOf};
 
 use crate::files::run_text;
@@ -23,6 +24,7 @@ pub fn run_workload<S: Sink, W: Ledger>(
 ) -> Result<Status, SinkFail>
     requires some { 1 ≤ series }
     requires few { series ≤ 20000 }
+    requires batch { IsBatch options.now.batch }
     ensures ends { Ends (ReportsWorkload options.now.closed series (work.new ≡ work.old)) (IsCutWorkload options.now.closed series (S.written out.old) (S.written out.new)) (S.written out.old) (S.written out.new) result }
     ensures cause { HasCause (S.faults out.old) (S.faults out.new) (IsErrOf result SinkFail.Failed) }
     ensures sound { S.sound out.old → S.sound out.new }

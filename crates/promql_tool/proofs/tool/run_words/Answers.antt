@@ -1,4 +1,4 @@
-use Rattle.std.proofs.Common.{◌≡◌, ◌∙◌, false, List, ℕ, Some, map, string_bytes, refl, sym, ap}
+use Rattle.std.proofs.Common.{◌≡◌, ◌∙◌, List, ℕ, Some, map, string_bytes, refl, sym, ap}
 use Rattle.std.proofs.lemmas.Result.{err_from_is_err_and}
 use Rattle.tool_words.specs.Asked.{asked, query, test, workload}
 use Rattle.ticks.specs.Moments.{moments_in}
@@ -13,21 +13,21 @@ returns-in-None-clause-ends g c =
     let words = map string_bytes c.args.words.now in
     let found = IsFound (g.L.Library.told c.args.library.now) (g.L.Library.sound c.args.library.now) in
     let wish = rw c.in-None.is at c.in_ok-read_words.ensures.wish in
-    misuse_ends words false found (g.S.Sink.written c.args.out.now) (g.S.Sink.written c.print_usage.new.out) _ c.print_usage.result (sym wish) refl c.print_usage.ensures.ok c.print_usage.ensures.err
+    misuse_ends words found (g.S.Sink.written c.args.out.now) (g.S.Sink.written c.print_usage.new.out) _ c.print_usage.result (sym wish) refl c.print_usage.ensures.ok c.print_usage.ensures.err
 
 pub returns-in-Some-Test-clause-ends : goal.returns-in-Some-Test-clause-ends
 returns-in-Some-Test-clause-ends g c =
     let words = map string_bytes c.args.words.now in
     let found = IsFound (g.L.Library.told c.args.library.now) (g.L.Library.sound c.args.library.now) in
     let wish = rw (c.in-Some-Test.is, c.in-Some-Test.field-0-is) at c.in_ok-read_words.ensures.wish in
-    let is : asked words ≡ Some (test c.in-Some-Test.closed c.as_slice.result.now) = sym wish ∙ ap (λ (paths : List (List ℕ)). Some (test c.in-Some-Test.closed paths)) (sym c.as_slice.ensures) in
-    files_end words c.in-Some-Test.closed found (g.S.Sink.written c.args.out.now) (g.S.Sink.written c.run_files.new.out) _ c.as_slice.result.now c.run_files.result is c.run_files.ensures.ends
+    let is : asked words ≡ Some (test c.in-Some-Test.choices c.as_slice.result.now) = sym wish ∙ ap (λ (paths : List (List ℕ)). Some (test c.in-Some-Test.choices paths)) (sym c.as_slice.ensures) in
+    files_end words c.in-Some-Test.choices found (g.S.Sink.written c.args.out.now) (g.S.Sink.written c.run_files.new.out) _ c.as_slice.result.now c.run_files.result is (rw c.options_of-options.ensures at c.run_files.ensures.ends)
 
 pub returns-in-Some-Query-clause-fetched : goal.returns-in-Some-Query-clause-fetched
 returns-in-Some-Query-clause-fetched g c =
     let wish = rw (c.in-Some-Query.is, c.in-Some-Query.field-0-is) at c.in_ok-read_words.ensures.wish in
     let moments = moments_in c.in-Some-Query.grid c.in-Some-Query.instant in
-    let named = ap (λ (path : List ℕ). files_asked (Some (query c.in-Some-Query.closed moments path c.in-Some-Query.expr))) c.as_str-in-Some-Query.ensures ∙ ap files_asked wish in
+    let named = ap (λ (path : List ℕ). files_asked (Some (query c.in-Some-Query.choices moments path c.in-Some-Query.expr))) c.as_str-in-Some-Query.ensures ∙ ap files_asked wish in
     one_fetched _ g.L.Library.fetches _ c.as_str-in-Some-Query.result.now c.args.library.now c.run_query.new.library named c.run_query.ensures.fetched
 
 pub returns-in-Some-Query-clause-ends : goal.returns-in-Some-Query-clause-ends
@@ -40,17 +40,17 @@ returns-in-Some-Query-clause-ends g c =
     let instant = c.in-Some-Query.instant in
     let moments = moments_in grid instant in
     let wish = rw (c.in-Some-Query.is, c.in-Some-Query.field-0-is) at c.in_ok-read_words.ensures.wish in
-    let is : asked words ≡ Some (query c.in-Some-Query.closed moments path expr) =
-    sym wish ∙ ap (λ (p : List ℕ). Some (query c.in-Some-Query.closed moments p c.in-Some-Query.expr)) (sym c.as_str-in-Some-Query.ensures) ∙ ap (λ (e : List ℕ). Some (query c.in-Some-Query.closed moments path e)) (sym c.as_str.ensures) in
-    query_end words c.in-Some-Query.closed found (g.S.Sink.written c.args.out.now) (g.S.Sink.written c.run_query.new.out) _ grid instant path expr is c.run_query.result c.run_query.ensures.ends
+    let is : asked words ≡ Some (query c.in-Some-Query.choices moments path expr) =
+    sym wish ∙ ap (λ (p : List ℕ). Some (query c.in-Some-Query.choices moments p c.in-Some-Query.expr)) (sym c.as_str-in-Some-Query.ensures) ∙ ap (λ (e : List ℕ). Some (query c.in-Some-Query.choices moments path e)) (sym c.as_str.ensures) in
+    query_end words c.in-Some-Query.choices found (g.S.Sink.written c.args.out.now) (g.S.Sink.written c.run_query.new.out) _ grid instant path expr is c.run_query.result (rw c.options_of-options-in-Some-Query.ensures at c.run_query.ensures.ends)
 
 pub returns-in-Some-Workload-clause-ends : goal.returns-in-Some-Workload-clause-ends
 returns-in-Some-Workload-clause-ends g c =
     let words = map string_bytes c.args.words.now in
     let found = IsFound (g.L.Library.told c.args.library.now) (g.L.Library.sound c.args.library.now) in
     let wish = rw (c.in-Some-Workload.is, c.in-Some-Workload.field-0-is) at c.in_ok-read_words.ensures.wish in
-    let is : asked words ≡ Some (workload c.in-Some-Workload.closed c.in-Some-Workload.count) = sym wish in
-    workload_end words c.in-Some-Workload.closed found (g.S.Sink.written c.args.out.now) (g.S.Sink.written c.run_workload.new.out) _ c.in-Some-Workload.count c.run_workload.result is c.run_workload.ensures.ends
+    let is : asked words ≡ Some (workload c.in-Some-Workload.choices c.in-Some-Workload.count) = sym wish in
+    workload_end words c.in-Some-Workload.choices found (g.S.Sink.written c.args.out.now) (g.S.Sink.written c.run_workload.new.out) _ c.in-Some-Workload.count c.run_workload.result is (rw c.options_of-options-in-Some-Workload.ensures at c.run_workload.ensures.ends)
 
 pub returns-in_err-read_words-clause-reached : goal.returns-in_err-read_words-clause-reached
 returns-in_err-read_words-clause-reached g c =
@@ -66,8 +66,8 @@ pub returns-in-Some-Test-clause-reached : goal.returns-in-Some-Test-clause-reach
 returns-in-Some-Test-clause-reached g c =
     let words = map string_bytes c.args.words.now in
     let wish = rw (c.in-Some-Test.is, c.in-Some-Test.field-0-is) at c.in_ok-read_words.ensures.wish in
-    let is : asked words ≡ Some (test c.in-Some-Test.closed c.as_slice.result.now) = sym wish ∙ ap (λ (paths : List (List ℕ)). Some (test c.in-Some-Test.closed paths)) (sym c.as_slice.ensures) in
-    files c.in-Some-Test.closed c.as_slice.result.now is c.run_files.ensures.reached
+    let is : asked words ≡ Some (test c.in-Some-Test.choices c.as_slice.result.now) = sym wish ∙ ap (λ (paths : List (List ℕ)). Some (test c.in-Some-Test.choices paths)) (sym c.as_slice.ensures) in
+    files c.in-Some-Test.choices c.as_slice.result.now is (rw c.options_of-options.ensures at c.run_files.ensures.reached)
 
 pub returns-in-Some-Query-clause-reached : goal.returns-in-Some-Query-clause-reached
 returns-in-Some-Query-clause-reached g c =
@@ -78,9 +78,9 @@ returns-in-Some-Query-clause-reached g c =
     let instant = c.in-Some-Query.instant in
     let moments = moments_in grid instant in
     let wish = rw (c.in-Some-Query.is, c.in-Some-Query.field-0-is) at c.in_ok-read_words.ensures.wish in
-    let is : asked words ≡ Some (query c.in-Some-Query.closed moments path expr) =
-    sym wish ∙ ap (λ (p : List ℕ). Some (query c.in-Some-Query.closed moments p c.in-Some-Query.expr)) (sym c.as_str-in-Some-Query.ensures) ∙ ap (λ (e : List ℕ). Some (query c.in-Some-Query.closed moments path e)) (sym c.as_str.ensures) in
-    one_file c.in-Some-Query.closed grid instant path expr is c.run_query.ensures.fetched
+    let is : asked words ≡ Some (query c.in-Some-Query.choices moments path expr) =
+    sym wish ∙ ap (λ (p : List ℕ). Some (query c.in-Some-Query.choices moments p c.in-Some-Query.expr)) (sym c.as_str-in-Some-Query.ensures) ∙ ap (λ (e : List ℕ). Some (query c.in-Some-Query.choices moments path e)) (sym c.as_str.ensures) in
+    one_file c.in-Some-Query.choices grid instant path expr is c.run_query.ensures.fetched
 
 pub returns-in-Some-Workload-clause-reached : goal.returns-in-Some-Workload-clause-reached
 returns-in-Some-Workload-clause-reached g c =
