@@ -1,4 +1,5 @@
 //! Texts of queries over a few series, and what comes of each.
+ghost use Rattle.query_engine.specs.Batches.{IsBatch};
 ghost use Rattle.std.specs.Prelude.{◌≡◌};
 
 mod rows;
@@ -173,27 +174,31 @@ fn outcome_text(alloc: Global, outcome: &Outcome) -> Result<Vec<u8>, AllocError>
     Ok(text)
 }
 
-/// Windows are open on the left.
-const OPEN: Options = Options { closed: false };
-
+/// The same over windows that are open on the left, in batches of so many instants.
 fn counted<W: Ledger>(
     alloc: Global,
     store: &Store,
     when: &(Grid, bool),
     query: &Text,
+    batch: u32,
     blank: Blank,
 ) -> Result<Outcome, AllocError>
+    requires batch { IsBatch batch }
     requires name { blank.name ≡ W.name }
     requires parts { blank.parts ≡ W.parts }
     requires three { blank.parts ≡ 3 }
 {
     let mut work = Work::<W>::new(blank);
+    let options = Options {
+        closed: false,
+        batch,
+    };
     evaluate(
         alloc,
         query.as_str(),
         &when.0,
         when.1,
-        &OPEN,
+        &options,
         store,
         &mut work,
     )
@@ -205,33 +210,51 @@ fn outcome_of(
     store: &Store,
     when: &(Grid, bool),
     query: &str,
-) -> Result<Outcome, AllocError> {
+    batch: u32,
+) -> Result<Outcome, AllocError>
+    requires { IsBatch batch }
+{
     let query = Text::of(alloc, query)?;
-    counted::<Brand>(alloc, store, when, &query, Blank::new(3))
+    counted::<Brand>(alloc, store, when, &query, batch, Blank::new(3))
 }
 
-fn comes_to(alloc: Global, series: &str, when: &str, query: &str) -> Result<Vec<u8>, Fail> {
+fn comes_to(
+    alloc: Global,
+    series: &str,
+    when: &str,
+    query: &str,
+    batch: u32,
+) -> Result<Vec<u8>, Fail>
+    requires { IsBatch batch }
+{
     let store = loaded(alloc, series)?;
     let when = grid(when)?;
-    let outcome = outcome_of(alloc, &store, &when, query)?;
+    let outcome = outcome_of(alloc, &store, &when, query, batch)?;
     Ok(outcome_text(alloc, &outcome)?)
 }
 
-/// What a row comes to, and what is wanted.
-fn row_of<'a>(alloc: Global, line: &'a str) -> Result<(Vec<u8>, &'a str), Fail> {
+/// What a row comes to in batches of so many instants, and what is wanted.
+fn row_of<'a>(alloc: Global, line: &'a str, batch: u32) -> Result<(Vec<u8>, &'a str), Fail>
+    requires { IsBatch batch }
+{
     let mut parts = line.split(" ; ");
     let series = parts.next().ok_or("no series")?;
     let when = parts.next().ok_or("no time")?;
     let query = parts.next().ok_or("no query")?;
-    let got = comes_to(alloc, series, when, query)?;
+    let got = comes_to(alloc, series, when, query, batch)?;
     Ok((got, parts.next().ok_or("no outcome")?))
 }
 
 #[test]
 fn texts_come_to(rt: HostRuntime) -> Result<(), Fail> {
+    let alloc = rt.alloc();
     for line in rows::ROWS.lines() {
-        let (got, wanted) = row_of(rt.alloc(), line)?;
+        let (got, wanted) = row_of(alloc, line, 64)?;
         assert_eq!(rt; got.as_slice(), wanted.as_bytes(), "{line}");
+        let (one_by_one, _) = row_of(alloc, line, 1)?;
+        assert_eq!(rt; one_by_one.as_slice(), got.as_slice(), "{line}");
+        let (by_threes, _) = row_of(alloc, line, 3)?;
+        assert_eq!(rt; by_threes.as_slice(), got.as_slice(), "{line}");
     }
     assert_eq!(rt; rows::ROWS.lines().count(), 44);
     Ok(())
