@@ -1,7 +1,7 @@
 #!/usr/bin/env bash
-# Judges each script below tests/scripts/, whose README.md says which must pass and which must fail. It prints a line for each
-# script that does otherwise, and last how many scripts passed and failed. It runs tests/refusals.sh and
-# tests/limits.sh too. It ends with 0 where all passed.
+# Judges each script below tests/scripts/, whose README.md says which must pass and which must fail, and runs it in batches of
+# other sizes too, which must print the same bytes. It prints a line for each script that does otherwise, and last how many
+# scripts passed and failed. It runs tests/refusals.sh and tests/limits.sh too. It ends with 0 where all passed.
 #   tests/scripts.sh                   by bin/promqltest; it fails where the release isn't of the sources that stand here
 #   tests/scripts.sh --program FILE    by this program, whatever the release is
 set -u
@@ -25,6 +25,7 @@ judge_all() {
         code=$?
         while read -r line; do fails "$line"; done < <(
             awk '/^FAIL / { name = $2; sub(/:[0-9]+$/, "", name); if (!(name in told)) print substr($0, 6); told[name] }' "$room/told")
+        prints_so_in_batches "$@"
         [ "$code" -gt 1 ] || return
         refused=$(tail -n 1 "$room/told")
         if [ "$code" -ne 3 ] && [ "$code" -ne 6 ]; then
@@ -36,6 +37,16 @@ judge_all() {
         [ "$code" -eq 3 ] && refused=${refused#read } || refused=${refused%:*}
         while [ $# -gt 0 ] && [ "$1" != "$refused" ]; do shift; done
         shift
+    done
+}
+
+# Runs words that printed what stands in `told` in batches of other sizes: they must print the same bytes.
+prints_so_in_batches() {
+    local size
+    for size in 1 3 64 1024; do
+        "${program[@]}" promqltest --batch "$size" "$@" >"$room/batched"
+        cmp -s "$room/told" "$room/batched" ||
+            fails "in batches of $size $(diff "$room/told" "$room/batched" | sed -n 's/^< /lacks: /p; s/^> /prints: /p' | head -n 2 | paste -sd' ')"
     done
 }
 
@@ -54,6 +65,7 @@ judge_one() {
     elif [ "$code" != "$wanted" ]; then
         fails "$1 ended with status $code, not $wanted: $(grep -v '^PASS' "$room/told" | head -n 1)"
     fi
+    prints_so_in_batches "${words[@]}" "$1"
 }
 
 if [ "${1-}" = --program ]; then
