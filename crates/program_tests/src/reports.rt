@@ -2,7 +2,7 @@ ghost use Rattle.std.specs.Prelude.{◌≡◌, None, Some};
 
 use edge_io::{Fetch, Fetched, Library, MemLibrary, MemSink, Sink, SinkFail};
 use holders::{Items, Text};
-use promql_tool::{Status, run_tool};
+use promql_tool::{Status, batches_leave_reports, run_tool};
 use std::alloc::{AllocError, Global};
 use std::marker::Brand;
 use std::process::Abort;
@@ -102,6 +102,7 @@ beyond.test|load 1m|up 1 1e31|
 past.test|load 1m|up 1e30+1x1|
 s.test|load 1m|x{i="1"} 1 2 3|x{i="2"} 20 10 5|y_total 0 60 120||eval instant at 0 x|x{i="1"} 7|
 cleared.test|load 1m|x 1||clear||load 1m|y 2|
+sevens.test|load 1m|x 0+1x60||eval range from 0 to 61m step 7m sum(x)|{} 0+7x8|
 "##;
 
 /// Each row is a status, a text with its line feeds written `;`, the words with two blanks between them, and the numbers of the
@@ -188,6 +189,23 @@ const RUNS: &str = r##"
 0|{i="1"} 3@120000;{i="2"} 3@120000;|query  --at  2m  --edges=v2  s.test  count_over_time(x[2m])|0|0
 0|{i="1"} 2@120000;{i="2"} 2@120000;|query  --edges=v3  --at  2m  s.test  count_over_time(x[2m])|0|0
 0|series 5 samples 305;PASS workload:8;PASS workload:11;PASS workload:17;passed 3 failed 0;|workload  --edges  v2  5|0|0
+2|usage: promqltest [options] FILE.. or query [options] FILE EXPR;|promqltest  --batch  0  a.test|0|0
+2|usage: promqltest [options] FILE.. or query [options] FILE EXPR;|promqltest  --batch  01  a.test|0|0
+2|usage: promqltest [options] FILE.. or query [options] FILE EXPR;|promqltest  --batch=1025  a.test|0|0
+2|usage: promqltest [options] FILE.. or query [options] FILE EXPR;|promqltest  --batch  x  a.test|0|0
+2|usage: promqltest [options] FILE.. or query [options] FILE EXPR;|promqltest  --batch  3  --batch  3  a.test|0|0
+2|usage: promqltest [options] FILE.. or query [options] FILE EXPR;|query  --batch=0  s.test  x|0|0
+2|usage: promqltest [options] FILE.. or query [options] FILE EXPR;|query  --batch=  s.test  x|0|0
+2|usage: promqltest [options] FILE.. or query [options] FILE EXPR;|workload  --batch=3  5  --batch=3|0|0
+0|PASS sevens.test:4;passed 1 failed 0;|promqltest  sevens.test|0|0
+0|PASS sevens.test:4;passed 1 failed 0;|promqltest  --batch  1  sevens.test|0|0
+0|PASS sevens.test:4;passed 1 failed 0;|promqltest  --batch  3  sevens.test|0|0
+0|PASS sevens.test:4;passed 1 failed 0;|promqltest  --batch=1024  sevens.test|0|0
+1|PASS a.test:4;FAIL a.test:7 up expected 3 got 2;passed 1 failed 1;|promqltest  --batch  1  a.test|0|0
+0|x{i="1"} 1@0 2@60000 3@120000;x{i="2"} 20@0 10@60000 5@120000;|query  --batch  1  --from  0  --to  2m  --step  1m  s.test  x|0|0
+0|x{i="1"} 2@60000 3@120000;x{i="2"} 20@0 10@60000;|query  --batch=2  --from  0  --to  2m  --step  1m  s.test  (x > 1) < 4 or x > 5|0|0
+1|FAILED at 60000 irrational result;|query  --batch  3  --from  0  --to  2m  --step  1m  s.test  2 ^ (1 / scalar(x{i="1"}))|0|0
+0|series 5 samples 305;PASS workload:8;PASS workload:11;PASS workload:17;passed 3 failed 0;|workload  --batch  3  5|0|0
 "##;
 
 /// Appends a text with a line feed for each sign.
@@ -488,6 +506,7 @@ fn reports(rt: HostRuntime) -> Result<(), Fail> {
 
 #[test]
 fn words_are_run(rt: HostRuntime) -> Result<(), Fail> {
+    batches_leave_reports();
     let mut rows = 0u32;
     for row in RUNS.lines() {
         if !row.is_empty() {
@@ -495,6 +514,6 @@ fn words_are_run(rt: HostRuntime) -> Result<(), Fail> {
             rows = rows.saturating_add(1);
         }
     }
-    assert_eq!(rt; rows, 81);
+    assert_eq!(rt; rows, 98);
     Ok(())
 }

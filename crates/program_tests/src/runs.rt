@@ -166,8 +166,11 @@ fn outcome_text(
     }
 }
 
-/// Windows are open on the left.
-const OPEN: Options = Options { closed: false };
+/// Windows are open on the left, and three instants are computed at once.
+const OPEN: Options = Options {
+    closed: false,
+    batch: 3,
+};
 
 /// Runs a script with counters of its own.
 fn run_counted<W: Ledger>(

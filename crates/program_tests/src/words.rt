@@ -1,7 +1,8 @@
 use std::alloc::{AllocError, Global};
 use std::test::Fail;
 use tool_words::{
-    Asked, commands_are_simple, edges_are_asked_for, read_words, words_say_what_they_spell,
+    Asked, Choices, batches_are_asked_for, commands_are_simple, edges_are_asked_for, read_words,
+    words_say_what_they_spell,
 };
 
 // Each line is what is asked for, and then the words, each behind a `|`. Times are in milliseconds.
@@ -51,7 +52,6 @@ refused|promqltest|--=a|a
 refused|promqltest|--=|a
 refused|promqltest|--opts|all|a
 refused|promqltest|--opts=all|a
-refused|promqltest|a|--batch|64
 refused|promqltest|--engines=r=eu|a
 refused|promqltest|--at|1|a
 test <a.test>|promqltest|a.test
@@ -78,7 +78,6 @@ refused|query|f|-1
 refused|query|f|e|-h
 refused|query|--help|f|e
 refused|query|--opts|none|f|e
-refused|query|f|e|--batch=1
 refused|query|--engines|r=eu|f|e
 query 0 to 0 by 1 at once: <f> <e>|query|f|e
 query 0 to 0 by 1 at once: <f> <sum by (a) (x{b='ü'})>|query|f|sum by (a) (x{b='ü'})
@@ -179,18 +178,86 @@ workload 7|workload|--edges=v3|7
 refused|workload|--edges=v4|7
 refused|workload|--edges=|7
 refused|workload|--edges=v2|--edges=v2|7
-refused|workload|--edges|v2";
+refused|workload|--edges|v2
+by 1 test <a>|promqltest|--batch|1|a
+by 3 test <a> <b>|promqltest|a|--batch=3|b
+by 10 test <-x>|promqltest|--batch=10|--|-x
+by 1024 test <a>|promqltest|a|--batch|1024
+test <a>|promqltest|--batch=64|a
+closed by 7 test <a>|promqltest|--batch|7|--edges|v2|a
+test <--batch> <3>|promqltest|--|--batch|3
+test <3> <a>|promqltest|3|a
+refused|promqltest|--batch|0|a
+refused|promqltest|--batch|00|a
+refused|promqltest|--batch|01|a
+refused|promqltest|--batch=064|a
+refused|promqltest|--batch|1025|a
+refused|promqltest|--batch|2000|a
+refused|promqltest|--batch|10000|a
+refused|promqltest|--batch|4294967299|a
+refused|promqltest|--batch|18446744073709551619|a
+refused|promqltest|--batch|99999999999999999999999999|a
+refused|promqltest|--batch|x|a
+refused|promqltest|--batch|3x|a
+refused|promqltest|--batch|0x3|a
+refused|promqltest|--batch| 3|a
+refused|promqltest|--batch|3 |a
+refused|promqltest|--batch|+3|a
+refused|promqltest|--batch=-3|a
+refused|promqltest|--batch|1e2|a
+refused|promqltest|--batch|3.0|a
+refused|promqltest|--batch|1_0|a
+refused|promqltest|--batch|٣|a
+refused|promqltest|--batch||a
+refused|promqltest|--batch=|a
+refused|promqltest|--batch==3|a
+refused|promqltest|--batch|3|--batch|3|a
+refused|promqltest|--batch=3|a|--batch=64
+refused|promqltest|--batch|3
+refused|promqltest|a|--batch
+refused|promqltest|--batch|--|3|a
+refused|promqltest|--Batch|3|a
+refused|promqltest|--batches|3|a
+refused|promqltest|-batch|3|a
+by 3 query 0 to 0 by 1 at once: <f> <e>|query|--batch|3|f|e
+by 1 query 60000 to 60000 by 1 at once: <f> <e>|query|f|--at|1m|e|--batch=1
+closed by 1024 query 0 to 60000 by 30000: <f> <e>|query|--from|0|--batch=1024|--to|1m|--edges=v2|--step|30s|f|e
+query 0 to 0 by 1 at once: <f> <e>|query|f|e|--batch|64
+query 0 to 0 by 1 at once: <f> <--batch=3>|query|f|--|--batch=3
+refused|query|--batch|0|f|e
+refused|query|--batch=01|f|e
+refused|query|--batch|1025|f|e
+refused|query|--batch|x|f|e
+refused|query|--batch=|f|e
+refused|query|--batch|3|f|e|--batch|3
+refused|query|--batch|3|--edges|v4|f|e
+refused|query|--batch|3|--at|1|--from|0|f|e
+refused|query|--batch|3|f
+by 3 workload 7|workload|--batch|3|7
+closed by 1 workload 7|workload|7|--edges=v2|--batch=1
+workload 7|workload|--batch=64|7
+workload 1|workload|--|1
+refused|workload|--batch=0|7
+refused|workload|--batch=01|7
+refused|workload|--batch|1025|7
+refused|workload|--batch|x|7
+refused|workload|--batch=3|--batch=3|7
+refused|workload|--batch|7";
 
-/// Windows that are closed on the left are told.
-fn edge(closed: bool) -> &'static str {
-    if closed { "closed " } else { "" }
+/// What is chosen is told, but for what holds without an option.
+fn chosen(alloc: Global, choices: Choices) -> Result<String, AllocError> {
+    let edge = if choices.closed { "closed " } else { "" };
+    match choices.batch {
+        64 => format!(in alloc; "{edge}"),
+        batch => format!(in alloc; "{edge}by {batch} "),
+    }
 }
 
 fn told(alloc: Global, asked: Option<Asked>) -> Result<String, AllocError> {
     match asked {
         None => String::from_str(alloc, "refused"),
-        Some(Asked::Test { closed, files }) => {
-            let mut text = String::from_str(alloc, edge(closed))?;
+        Some(Asked::Test { choices, files }) => {
+            let mut text = chosen(alloc, choices)?;
             text.push_str("test")?;
             for file in files.as_slice() {
                 let file = file.as_str();
@@ -200,22 +267,22 @@ fn told(alloc: Global, asked: Option<Asked>) -> Result<String, AllocError> {
         }
         Some(
             Asked::Query {
-                closed,
+                choices,
                 grid,
                 instant,
                 file,
                 expr,
             },
         ) => {
-            let edge = edge(closed);
+            let chosen = chosen(alloc, choices)?;
             let kind = if instant { " at once" } else { "" };
             let (start, end, step) = (grid.start.0, grid.end.0, grid.step.0);
             let (file, expr) = (file.as_str(), expr.as_str());
-            format!(in alloc; "{edge}query {start} to {end} by {step}{kind}: <{file}> <{expr}>")
+            format!(in alloc; "{chosen}query {start} to {end} by {step}{kind}: <{file}> <{expr}>")
         }
-        Some(Asked::Workload { closed, count }) => {
-            let edge = edge(closed);
-            format!(in alloc; "{edge}workload {count}")
+        Some(Asked::Workload { choices, count }) => {
+            let chosen = chosen(alloc, choices)?;
+            format!(in alloc; "{chosen}workload {count}")
         }
     }
 }
@@ -225,6 +292,7 @@ fn words_ask(rt: HostRuntime) -> Result<(), Fail> {
     commands_are_simple();
     words_say_what_they_spell();
     edges_are_asked_for();
+    batches_are_asked_for();
     let alloc = rt.alloc();
     for row in ROWS.split('\n') {
         let mut parts = row.split('|');
