@@ -14,5 +14,5 @@ mod selecting;
 
 pub use evaluating::at;
 pub use laws::{checked_patterns_are_kept, kept_patterns_stay};
-pub use results::range;
+pub use results::{is_scalar, order_asked, range};
 pub use std::alloc::AllocError as Memory;

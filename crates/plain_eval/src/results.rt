@@ -140,8 +140,9 @@ fn add_step(alloc: Global, found: &mut Found, t: Ms, step: Step) -> Result<(), A
     found.marks.unite(&marks)
 }
 
-/// The order by value that the root of an instant query asks for.
-fn order_asked(alloc: Global, e: &Typed, instant: bool) -> Result<Option<ByValue>, AllocError>
+/// The order by value that the root of an instant query asks for; of a query over a range there is none. The only error is want
+/// of memory.
+pub fn order_asked(alloc: Global, e: &Typed, instant: bool) -> Result<Option<ByValue>, AllocError>
     ensures { IfOk result (λ order. option_map order_of order ≡ order_asked instant (tree_of e.now)) }
 {
     if !instant {
@@ -150,8 +151,15 @@ fn order_asked(alloc: Global, e: &Typed, instant: bool) -> Result<Option<ByValue
     root_order(alloc, e.expr())
 }
 
-/// The answer of all instants.
+/// Whether a typed query gives a scalar. It takes no memory.
 #[tactic(auto, using(crate::proofs::Scalars::tells_scalar))]
+pub fn is_scalar(e: &Typed) -> bool
+    ensures { result ≡ gives_scalar (tree_of e.now) }
+{
+    e.is_scalar()
+}
+
+/// The answer of all instants.
 fn answer(alloc: Global, e: &Typed, instant: bool, found: Found) -> Result<Answer, AllocError>
     ensures { IfOk result (λ answer. answer ≡ record {
       scalar = gives_scalar (tree_of e.now);
@@ -162,7 +170,7 @@ fn answer(alloc: Global, e: &Typed, instant: bool, found: Found) -> Result<Answe
     let order = order_asked(alloc, e, instant)?;
     let series = series_of(alloc, found.points)?;
     Ok(Answer {
-        scalar: e.is_scalar(),
+        scalar: is_scalar(e),
         series: in_order(alloc, order, series)?,
         notes: found.marks.notes,
     })
