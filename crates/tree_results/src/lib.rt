@@ -2,5 +2,6 @@
 #![tactic(auto)]
 
 mod draining;
+pub mod laws;
 
 pub use draining::{Drained, drain};
