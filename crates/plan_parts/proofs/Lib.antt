@@ -1,0 +1,4 @@
+pub mod Chosen
+pub mod Giving
+pub mod Grown
+pub mod Windows

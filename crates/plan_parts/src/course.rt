@@ -1,0 +1,171 @@
+//! The instants that a part of a plan is asked at.
+ghost use Rattle.plan_parts.specs.Courses.{AreSpread, AreWindows, BasesLieBetween};
+ghost use Rattle.std.specs.Prelude.{◌≡◌, ℤ, IfOk, IfSome, IsTrue};
+ghost use Rattle.ticks.specs.Walks.{IsInstant, IsTime, LeadsToTimes};
+
+use holders::Boxed;
+use std::alloc::{AllocError, Global};
+use std::marker::Model;
+use ticks::{Ms, Walk, WalkMoment};
+
+/// A walk that leads to times, and two times between which its instants lie.
+#[derive(Drop)]
+pub struct Course {
+    walk: Walk,
+    low: Ms,
+    high: Ms,
+}
+
+impl Model for Course {
+    ghost use Rattle.plan_parts.specs.Courses.{Courses, LiesBetween};
+    ghost use Rattle.std.specs.Coded.{codes};
+    ghost use Rattle.ticks.specs.Walks.{IsTime, LeadsToTimes};
+    ghost use Rattle.ticks.specs.contracts.walk.Walk.{the_row};
+
+    ghost Value = { Courses };
+
+    ghost coded = { Prim.hlevel (codes, the_row.coded) };
+
+    ghost view = { λ c. record { walk = c.walk; low = c.low; high = c.high } };
+
+    ghost invariant = { λ c. LeadsToTimes c.walk × IsTime c.low.0 × IsTime c.high.0 × LiesBetween c.walk c.low.0 c.high.0 };
+}
+
+fn is_time(t: i64) -> bool
+    ensures { IsTrue result → IsTime t }
+{
+    -1_152_921_504_606_846_976 <= t && t <= 1_152_921_504_606_846_976
+}
+
+impl Course {
+    /// The course of a walk: of a grid, or of one instant within the times; of another walk there is none. The only error is
+    /// want of memory.
+    pub fn of(walk: &Walk) -> Result<Option<Course>, AllocError>
+        ensures { IfOk result (λ o. IfSome o (λ c. c.walk ≡ walk.now)) }
+    {
+        match walk {
+            Walk::Grid(grid) => Ok(Some(Course {
+                walk: walk.copy()?,
+                low: grid.start,
+                high: grid.end,
+            })),
+            Walk::Fixed(at) => Ok(Course::at(*at)),
+            Walk::Multiples { .. } => Ok(None),
+        }
+    }
+
+    /// The course of one instant, if it is within the times. It takes no memory.
+    pub fn at(t: Ms) -> Option<Course>
+        ensures { IfSome result (λ c. c.walk ≡ Walk.Fixed t) }
+    {
+        if !is_time(t.0) {
+            return None;
+        }
+        Some(Course {
+            walk: Walk::Fixed(t),
+            low: t,
+            high: t,
+        })
+    }
+
+    /// The walk. It takes no memory.
+    pub fn walk(&self) -> &Walk
+        ensures walk { result.now ≡ self.now.walk }
+        ensures times { LeadsToTimes self.now.walk }
+        ensures instants { (t : ℤ) → IsInstant self.now.walk t → IsTime t }
+    {
+        &self.walk
+    }
+
+    /// The first instant; where there is none, a time. It takes no memory.
+    pub fn first(&self) -> Ms
+        ensures { IsTime result.0 }
+    {
+        match self.walk.first() {
+            Some(t) => t,
+            None => self.low,
+        }
+    }
+
+    /// Two times between which the fixed time of a moment lies or, where there is none, the instants. It takes no memory.
+    fn bases(&self, moment: &WalkMoment) -> (Ms, Ms)
+        ensures { BasesLieBetween self.now.walk moment.now result.0.0 result.1.0 }
+    {
+        match moment.fixed {
+            None => (self.low, self.high),
+            Some(at) => (at, at),
+        }
+    }
+
+    /// Two times between which the windows of the instants lie, if they are within the times and the range is positive. It
+    /// takes no memory.
+    pub fn windows(&self, moment: &WalkMoment, range: Ms) -> Option<(Ms, Ms)>
+        ensures { IfSome result (λ w. AreWindows self.now.walk moment.now range.0 w.0.0 w.1.0) }
+    {
+        let (low, high) = self.bases(moment);
+        if !is_time(low.0) {
+            return None;
+        }
+        if !is_time(high.0) {
+            return None;
+        }
+        spread(low, high, moment.offset, range)
+    }
+
+    /// The course of a subquery's own instants: the multiples of a step in the ranges that end at the moments of the instants.
+    /// There is none where these lead beyond the times, or where the range or the step isn't positive. The only error is want of
+    /// memory.
+    pub fn inner(
+        &self,
+        alloc: Global,
+        moment: &WalkMoment,
+        range: Ms,
+        step: Ms,
+    ) -> Result<Option<Course>, AllocError>
+        ensures { IfOk result (λ o. IfSome o (λ c. c.walk ≡ Walk.Multiples self.now.walk moment.now range step)) }
+    {
+        if step.0 <= 0 {
+            return Ok(None);
+        }
+        let Some((low, high)) = self.windows(moment, range) else {
+            return Ok(None);
+        };
+        let outer = Boxed::new(alloc, self.walk.copy()?)?;
+        Ok(Some(Course {
+            walk: Walk::Multiples {
+                outer,
+                moment: *moment,
+                range,
+                step,
+            },
+            low,
+            high,
+        }))
+    }
+}
+
+/// How far windows reach that end at two times less an offset.
+fn spread(low: Ms, high: Ms, offset: Ms, range: Ms) -> Option<(Ms, Ms)>
+    requires low { IsTime low.0 }
+    requires high { IsTime high.0 }
+    ensures { IfSome result (λ w. AreSpread low.0 high.0 offset.0 range.0 w.0.0 w.1.0) }
+{
+    if !is_time(offset.0) {
+        return None;
+    }
+    if range.0 <= 0 {
+        return None;
+    }
+    if !is_time(range.0) {
+        return None;
+    }
+    let last = high.0 - offset.0;
+    let first = low.0 - offset.0 - range.0;
+    if !is_time(first) {
+        return None;
+    }
+    if !is_time(last) {
+        return None;
+    }
+    Some((Ms(first), Ms(last)))
+}

@@ -1,0 +1,355 @@
+//! The trees of the kinds of nodes. Each takes what became of the children, and hands on why one of these wasn't built. It is
+//! `Invalid` where a node isn't typed or names a pattern that isn't kept; else the only error is want of memory.
+ghost use Rattle.logical_plan.specs.declared.nodes.Plan.{Plan};
+ghost use Rattle.logical_plan.specs.declared.nodes.PlanNode.TheVariants as node;
+ghost use Rattle.op_element.specs.Rules.{reads_first, reads_second};
+ghost use Rattle.plan_parts.specs.Parts.{IsBesideNumber, IsPart, IsPartOf, keeps_scalar, reads_parameter};
+ghost use Rattle.promql_meaning.specs.Selecting.{Asked};
+ghost use Rattle.std.specs.Prelude.{◌≡◌, [], ◌∷◌, false, true, Ok, IfOk, IsTrue};
+ghost use Rattle.ticks.specs.declared.walk.Walk.{Walk};
+
+use crate::parts::{Part, binary, clamp, instants, unary};
+use crate::unbuilt::Unbuilt;
+use func_table::{Aggregate, Element, SetOp};
+use label_set::{Grouping, Labels, Pairing, Relabel, Text};
+use match_rule::Patterns;
+use op_element::ElementRule;
+use op_small::SmallRule;
+use std::alloc::{AllocError, Global};
+use step_kernels::{BinaryRule, UnaryRule};
+use xfrac::{PairOp, XFrac, whole};
+
+/// A number, as a scalar.
+pub fn number(alloc: Global, value: XFrac) -> Result<Part, Unbuilt>
+    ensures { IfOk result (λ part. (asked : Asked) (walk : Walk) (p : Plan) → p.node ≡ node.Number value → IsPart asked walk p part) }
+{
+    instants(alloc, SmallRule::Number(value))
+}
+
+/// The instant in seconds, as a scalar.
+pub fn time(alloc: Global) -> Result<Part, Unbuilt>
+    ensures { IfOk result (λ part. (asked : Asked) (walk : Walk) (p : Plan) → p.node ≡ node.Time → IsPart asked walk p part) }
+{
+    instants(alloc, SmallRule::Time)
+}
+
+// ---- one child
+
+/// `timestamp`.
+pub fn stamped(
+    alloc: Global,
+    rows: Result<Part, Unbuilt>,
+    patterns: &Patterns<'_>,
+) -> Result<Part, Unbuilt>
+    ensures { (asked : Asked) (walk : Walk) (p inner : Plan) → patterns.now ≡ asked.kept → p.node ≡ node.Stamp inner → IsPartOf asked walk inner rows → IsPartOf asked walk p result }
+{
+    let rows = rows?;
+    let own = rows.own;
+    unary(
+        alloc,
+        UnaryRule::Small(SmallRule::Stamp { own }),
+        false,
+        rows,
+        patterns,
+    )
+}
+
+/// One row 1 where there are none.
+pub fn absent(
+    alloc: Global,
+    labels: Option<Labels>,
+    rows: Result<Part, Unbuilt>,
+    patterns: &Patterns<'_>,
+) -> Result<Part, Unbuilt>
+    ensures { (asked : Asked) (walk : Walk) (p inner : Plan) → patterns.now ≡ asked.kept → p.node ≡ node.Absent labels inner → IsPartOf asked walk inner rows → IsPartOf asked walk p result }
+{
+    let rows = rows?;
+    unary(
+        alloc,
+        UnaryRule::Small(SmallRule::Absent(labels)),
+        false,
+        rows,
+        patterns,
+    )
+}
+
+/// Equal labels. The only error is want of memory.
+pub fn copied(labels: &Option<Labels>) -> Result<Option<Labels>, AllocError>
+    ensures { IfOk result (λ copy. copy ≡ labels.now) }
+{
+    match labels {
+        Some(labels) => Ok(Some(labels.copy()?)),
+        None => Ok(None),
+    }
+}
+
+/// New labels, or the rows whose labels pass rules.
+pub fn relabelled(
+    alloc: Global,
+    rule: Relabel,
+    rows: Result<Part, Unbuilt>,
+    patterns: &Patterns<'_>,
+) -> Result<Part, Unbuilt>
+    ensures relabel { (asked : Asked) (walk : Walk) (p inner : Plan) → patterns.now ≡ asked.kept → p.node ≡ node.Relabel rule inner → IsPartOf asked walk inner rows → IsPartOf asked walk p result }
+    ensures filter { (asked : Asked) (walk : Walk) (p inner : Plan) (rules : _) → patterns.now ≡ asked.kept → rule ≡ Relabel.Filter rules → p.node ≡ node.Filter inner rules → IsPartOf asked walk inner rows → IsPartOf asked walk p result }
+{
+    let rows = rows?;
+    unary(alloc, UnaryRule::Relabel(rule), false, rows, patterns)
+}
+
+/// `scalar`.
+pub fn as_scalar(
+    alloc: Global,
+    rows: Result<Part, Unbuilt>,
+    patterns: &Patterns<'_>,
+) -> Result<Part, Unbuilt>
+    ensures { (asked : Asked) (walk : Walk) (p inner : Plan) → patterns.now ≡ asked.kept → p.node ≡ node.ScalarOf inner → IsPartOf asked walk inner rows → IsPartOf asked walk p result }
+{
+    let rows = rows?;
+    unary(
+        alloc,
+        UnaryRule::Small(SmallRule::Scalar),
+        true,
+        rows,
+        patterns,
+    )
+}
+
+/// The same rows, as a vector.
+pub fn as_vector(rows: Result<Part, Unbuilt>) -> Result<Part, Unbuilt>
+    ensures sort { (asked : Asked) (walk : Walk) (p inner : Plan) (down : _) → p.node ≡ node.Sort down inner → IsPartOf asked walk inner rows → IsPartOf asked walk p result }
+    ensures vector { (asked : Asked) (walk : Walk) (p inner : Plan) → p.node ≡ node.VectorOf inner → IsPartOf asked walk inner rows → IsPartOf asked walk p result }
+{
+    let rows = rows?;
+    Ok(Part {
+        tree: rows.tree,
+        scalar: false,
+        own: false,
+    })
+}
+
+// ---- functions of rows
+
+/// Whether a function of a scalar gives a scalar: minus alone does.
+fn keeps_scalar(f: Element, scalar: bool) -> bool
+    ensures { result ≡ keeps_scalar f scalar }
+{
+    match f {
+        Element::Neg => scalar,
+        _ => false,
+    }
+}
+
+/// Whether a function reads one scalar.
+fn takes_one(f: Element) -> bool
+    ensures first { IsTrue result → reads_first (ElementRule.Apply f) ≡ true }
+    ensures second { IsTrue result → reads_second (ElementRule.Apply f) ≡ false }
+{
+    match f {
+        Element::Round | Element::ClampMin | Element::ClampMax => true,
+        _ => false,
+    }
+}
+
+/// A function of rows without further arguments.
+pub fn applied(
+    alloc: Global,
+    f: Element,
+    rows: Result<Part, Unbuilt>,
+    patterns: &Patterns<'_>,
+) -> Result<Part, Unbuilt>
+    ensures { (asked : Asked) (walk : Walk) (p inner : Plan) → patterns.now ≡ asked.kept → p.node ≡ node.Element f inner [] → IsPartOf asked walk inner rows → IsPartOf asked walk p result }
+{
+    let rows = rows?;
+    match f {
+        Element::Round => rounded(alloc, rows),
+        _ => {
+            let scalar = keeps_scalar(f, rows.scalar);
+            unary(
+                alloc,
+                UnaryRule::Apply(ElementRule::Apply(f)),
+                scalar,
+                rows,
+                patterns,
+            )
+        }
+    }
+}
+
+/// Rounding to 1.
+fn rounded(alloc: Global, rows: Part) -> Result<Part, Unbuilt>
+    ensures { IfOk result (λ part. (asked : Asked) (walk : Walk) (p inner : Plan) → p.node ≡ node.Element Element.Round inner [] → IsPart asked walk inner rows → IsPart asked walk p part) }
+{
+    let rule = BinaryRule::Apply(ElementRule::Apply(Element::Round));
+    beside_number(alloc, rule, whole(1), rows)
+}
+
+/// A function of rows and of a scalar.
+pub fn applied_with(
+    alloc: Global,
+    f: Element,
+    rows: Result<Part, Unbuilt>,
+    beside: Result<Part, Unbuilt>,
+) -> Result<Part, Unbuilt>
+    ensures { (asked : Asked) (walk : Walk) (p inner a : Plan) → p.node ≡ node.Element f inner (a ∷ []) → IsPartOf asked walk inner rows → IsPartOf asked walk a beside → IsPartOf asked walk p result }
+{
+    let (rows, beside) = both(rows, beside)?;
+    if !takes_one(f) {
+        return Err(Unbuilt::Invalid);
+    }
+    let rule = BinaryRule::Apply(ElementRule::Apply(f));
+    binary(alloc, rule, false, rows, beside)
+}
+
+/// Both parts, if both are built.
+fn both(
+    first: Result<Part, Unbuilt>,
+    second: Result<Part, Unbuilt>,
+) -> Result<(Part, Part), Unbuilt>
+    ensures first { IfOk result (λ parts. first ≡ Ok parts.0) }
+    ensures second { IfOk result (λ parts. second ≡ Ok parts.1) }
+{
+    let first = first?;
+    let second = second?;
+    Ok((first, second))
+}
+
+/// A function of rows and of two scalars, which `clamp` alone is.
+pub fn clamped(
+    alloc: Global,
+    f: Element,
+    rows: Result<Part, Unbuilt>,
+    low: Result<Part, Unbuilt>,
+    high: Result<Part, Unbuilt>,
+) -> Result<Part, Unbuilt>
+    ensures { (asked : Asked) (walk : Walk) (p inner a b : Plan) → p.node ≡ node.Element f inner (a ∷ b ∷ []) → IsPartOf asked walk inner rows → IsPartOf asked walk a low → IsPartOf asked walk b high → IsPartOf asked walk p result }
+{
+    let rows = rows?;
+    let (low, high) = both(low, high)?;
+    match f {
+        Element::Clamp => clamp(alloc, ElementRule::Apply(Element::Clamp), rows, low, high),
+        _ => Err(Unbuilt::Invalid),
+    }
+}
+
+// ---- two children
+
+/// A rule over rows, with a number beside them.
+fn beside_number(alloc: Global, rule: BinaryRule, value: XFrac, rows: Part) -> Result<Part, Unbuilt>
+    ensures { IfOk result (λ part. IsBesideNumber rule value rows part) }
+{
+    let number = instants(alloc, SmallRule::Number(value));
+    let (rows, number) = both(Ok(rows), number)?;
+    binary(alloc, rule, false, rows, number)
+}
+
+/// `histogram_quantile`.
+pub fn quantiles(
+    alloc: Global,
+    rows: Result<Part, Unbuilt>,
+    beside: Result<Part, Unbuilt>,
+) -> Result<Part, Unbuilt>
+    ensures { (asked : Asked) (walk : Walk) (p inner a : Plan) → p.node ≡ node.Buckets a inner → IsPartOf asked walk inner rows → IsPartOf asked walk a beside → IsPartOf asked walk p result }
+{
+    let (rows, beside) = both(rows, beside)?;
+    binary(alloc, BinaryRule::Buckets, false, rows, beside)
+}
+
+/// A set operator.
+pub fn combined(
+    alloc: Global,
+    op: SetOp,
+    pairing: Pairing,
+    rows: Result<Part, Unbuilt>,
+    beside: Result<Part, Unbuilt>,
+) -> Result<Part, Unbuilt>
+    ensures { (asked : Asked) (walk : Walk) (p left right : Plan) → p.node ≡ node.Set op left right pairing → IsPartOf asked walk left rows → IsPartOf asked walk right beside → IsPartOf asked walk p result }
+{
+    let (rows, beside) = both(rows, beside)?;
+    binary(alloc, BinaryRule::Combine(op, pairing), false, rows, beside)
+}
+
+/// An operator: between two vectors, or with a scalar on a side.
+pub fn paired(
+    alloc: Global,
+    op: PairOp,
+    pairing: Pairing,
+    left: Result<Part, Unbuilt>,
+    right: Result<Part, Unbuilt>,
+) -> Result<Part, Unbuilt>
+    ensures { (asked : Asked) (walk : Walk) (p l r : Plan) → p.node ≡ node.Pair op l r pairing → IsPartOf asked walk l left → IsPartOf asked walk r right → IsPartOf asked walk p result }
+{
+    let (left, right) = both(left, right)?;
+    if right.scalar {
+        let rule = BinaryRule::Apply(ElementRule::WithScalar {
+            op,
+            scalar_left: false,
+        });
+        let scalar = left.scalar;
+        return binary(alloc, rule, scalar, left, right);
+    }
+    if left.scalar {
+        let rule = BinaryRule::Apply(ElementRule::WithScalar {
+            op,
+            scalar_left: true,
+        });
+        return binary(alloc, rule, false, right, left);
+    }
+    binary(alloc, BinaryRule::Join(op, pairing), false, left, right)
+}
+
+// ---- aggregations
+
+/// An aggregation of one value a group, or `count_values`, which reads no parameter.
+pub fn grouped(
+    alloc: Global,
+    f: Aggregate,
+    by: Grouping,
+    label: Text,
+    rows: Result<Part, Unbuilt>,
+    patterns: &Patterns<'_>,
+) -> Result<Part, Unbuilt>
+    ensures { (asked : Asked) (walk : Walk) (p a : Plan) → patterns.now ≡ asked.kept → p.node ≡ node.Group f by (a ∷ []) label → IsPartOf asked walk a rows → IsPartOf asked walk p result }
+{
+    let rows = rows?;
+    match f {
+        Aggregate::CountValues => {
+            let rule = BinaryRule::Rank(Aggregate::CountValues, by, label);
+            beside_number(alloc, rule, whole(0), rows)
+        }
+        _ => unary(alloc, UnaryRule::Group(f, by), false, rows, patterns),
+    }
+}
+
+fn reads_parameter(f: Aggregate) -> bool
+    ensures { result ≡ reads_parameter f }
+{
+    match f {
+        Aggregate::TopK | Aggregate::BottomK | Aggregate::Quantile => true,
+        _ => false,
+    }
+}
+
+/// An aggregation with a parameter.
+pub fn ranked(
+    alloc: Global,
+    f: Aggregate,
+    by: Grouping,
+    label: Text,
+    rows: Result<Part, Unbuilt>,
+    parameter: Result<Part, Unbuilt>,
+) -> Result<Part, Unbuilt>
+    ensures { (asked : Asked) (walk : Walk) (p k a : Plan) → p.node ≡ node.Group f by (k ∷ a ∷ []) label → IsPartOf asked walk a rows → IsPartOf asked walk k parameter → IsPartOf asked walk p result }
+{
+    let (rows, parameter) = both(rows, parameter)?;
+    if !reads_parameter(f) {
+        return Err(Unbuilt::Invalid);
+    }
+    binary(
+        alloc,
+        BinaryRule::Rank(f, by, label),
+        false,
+        rows,
+        parameter,
+    )
+}

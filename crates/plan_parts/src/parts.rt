@@ -1,0 +1,213 @@
+//! The trees of the kinds of nodes, over those of their children.
+ghost use Rattle.logical_plan.specs.declared.nodes.Plan.{Plan};
+ghost use Rattle.logical_plan.specs.declared.nodes.PlanNode.TheVariants as node;
+ghost use Rattle.plan_parts.specs.Parts.{IsBinary, IsClamp, IsMade, IsPart, IsPartOf, IsUnary};
+ghost use Rattle.plan_tree.specs.Nodes.{CanGo};
+ghost use Rattle.plan_tree.specs.Shapes.{InstantsOf};
+ghost use Rattle.promql_meaning.specs.Selecting.{Asked, asked_over, lookback};
+ghost use Rattle.promql_meaning.specs.WalkMoments.{IsMomentOf};
+ghost use Rattle.std.specs.Prelude.{◌≡◌, ℤ, None, true, IfOk, IsTrue};
+ghost use Rattle.ticks.specs.Walks.{HasTimes, IsInstant, moment_at};
+ghost use Rattle.ticks.specs.declared.walk.Walk.{Walk};
+
+use crate::course::Course;
+use crate::kept::{are_rules_kept, is_unary_kept};
+use crate::unbuilt::Unbuilt;
+use holders::Items;
+use label_set::Rule;
+use match_rule::Patterns;
+use op_element::{ElementRows, ElementRule};
+use op_select::Select;
+use op_small::{Small, SmallRule};
+use plan_tree::Node;
+use promql_ast::{Fixed, Moment};
+use promql_meaning::laws::walk_moments_are_moments;
+use sample_store::Store;
+use std::alloc::Global;
+use std::sync::ledger::Ledger;
+use step_batch::StepBuffer;
+use step_batch::laws::lent_steps_are_tables;
+use step_kernels::{Binary, BinaryRule, Unary, UnaryRule, is_binary, is_unary, takes_scalar};
+use ticks::{Grid, Ms, WalkMoment, Work};
+use window_fn::laws::seconds_are_numbers;
+
+/// How far back an evaluation looks for a sample, in milliseconds.
+const LOOKBACK: i64 = 300_000;
+
+/// The tree of a part of a plan; whether that gives scalars, and whether the values of its rows are the samples' own times.
+#[derive(Drop)]
+pub struct Part {
+    pub tree: Node,
+    pub scalar: bool,
+    pub own: bool,
+}
+
+/// A number, or the time.
+pub(crate) fn instants(alloc: Global, rule: SmallRule) -> Result<Part, Unbuilt>
+    ensures made { IfOk result (λ part. IsMade part (InstantsOf rule) true) }
+    ensures can { IfOk result (λ part. (store kept : _) → CanGo store kept None part.tree) }
+{
+    Ok(Part {
+        tree: Node::Instants {
+            kernel: Small::new(alloc, rule)?,
+            none: StepBuffer::new(alloc),
+        },
+        scalar: true,
+        own: false,
+    })
+}
+
+/// What is made of the rows of a part.
+pub(crate) fn unary(
+    alloc: Global,
+    rule: UnaryRule,
+    scalar: bool,
+    rows: Part,
+    patterns: &Patterns<'_>,
+) -> Result<Part, Unbuilt>
+    ensures { IfOk result (λ part. IsUnary patterns.now rule scalar rows part) }
+{
+    if !is_unary(&rule) {
+        return Err(Unbuilt::Invalid);
+    }
+    if !is_unary_kept(patterns, &rule) {
+        return Err(Unbuilt::Invalid);
+    }
+    Ok(Part {
+        tree: Node::Unary {
+            kernel: Unary::new(alloc, rule)?,
+            rows: Box::new(alloc, rows.tree)?,
+        },
+        scalar,
+        own: false,
+    })
+}
+
+/// What is made of the rows of a part and of what stands beside it, which has to be a scalar where it is read as one.
+pub(crate) fn binary(
+    alloc: Global,
+    rule: BinaryRule,
+    scalar: bool,
+    rows: Part,
+    beside: Part,
+) -> Result<Part, Unbuilt>
+    ensures { IfOk result (λ part. IsBinary rule scalar rows beside part) }
+{
+    if !is_binary(&rule) || (takes_scalar(&rule) && !beside.scalar) {
+        return Err(Unbuilt::Invalid);
+    }
+    Ok(Part {
+        tree: Node::Binary {
+            kernel: Binary::new(alloc, rule)?,
+            rows: Box::new(alloc, rows.tree)?,
+            beside: Box::new(alloc, beside.tree)?,
+        },
+        scalar,
+        own: false,
+    })
+}
+
+/// A function of rows and of two scalars.
+pub(crate) fn clamp(
+    alloc: Global,
+    rule: ElementRule,
+    rows: Part,
+    low: Part,
+    high: Part,
+) -> Result<Part, Unbuilt>
+    ensures { IfOk result (λ part. IsClamp rule rows low high part) }
+{
+    if !(low.scalar && high.scalar) {
+        return Err(Unbuilt::Invalid);
+    }
+    Ok(Part {
+        tree: Node::Clamp {
+            kernel: ElementRows::new(alloc, rule)?,
+            rows: Box::new(alloc, rows.tree)?,
+            low: Box::new(alloc, low.tree)?,
+            high: Box::new(alloc, high.tree)?,
+        },
+        scalar: false,
+        own: false,
+    })
+}
+
+/// What a part gives at one instant, at each instant. It hands on why that wasn't built; else the only error is want of memory.
+pub fn repeated(alloc: Global, first: Ms, child: Result<Part, Unbuilt>) -> Result<Part, Unbuilt>
+    ensures { (asked : Asked) (walk below : Walk) (p inner : Plan) → below ≡ Walk.Fixed first → p.node ≡ node.Once inner → IsPartOf asked below inner child → IsPartOf asked walk p result }
+{
+    let child = child?;
+    Ok(Part {
+        tree: Node::Once {
+            first,
+            steps: StepBuffer::new(alloc),
+            child: Box::new(alloc, child.tree)?,
+        },
+        scalar: child.scalar,
+        own: child.own,
+    })
+}
+
+/// A moment whose `@` is a time: `@ start()` and `@ end()` stand for the start and the end of a grid. It takes no memory.
+pub fn settled(moment: &Moment, span: &Grid) -> WalkMoment
+    ensures moment { (samples kept : _) → IsMomentOf (asked_over samples kept span.now) moment.now result }
+    ensures closed { result.closed ≡ moment.now.closed }
+{
+    let fixed = match moment.fixed {
+        None => None,
+        Some(Fixed::At(at)) => Some(at),
+        Some(Fixed::Start) => Some(span.start),
+        Some(Fixed::End) => Some(span.end),
+    };
+    WalkMoment {
+        fixed,
+        offset: moment.offset,
+        closed: moment.closed,
+    }
+}
+
+/// Whether an evaluation looks back within the times at each instant.
+fn is_within(course: &Course, moment: &WalkMoment) -> bool
+    ensures { IsTrue result → (t : ℤ) → IsInstant course.now.walk t → HasTimes (moment_at moment.now t) lookback }
+{
+    match course.windows(moment, Ms(LOOKBACK)) {
+        Some(_) => true,
+        None => false,
+    }
+}
+
+/// The newest rows of the series that pass rules, at the instants of a course. Each series that is looked at is counted as
+/// tested, and no sample is read. It is `Invalid` where a pattern isn't kept or a window leads beyond the times; else the only
+/// error is want of memory.
+pub fn select<W: Ledger>(
+    alloc: Global,
+    store: &Store,
+    span: &Grid,
+    course: &Course,
+    rules: &Items<Rule>,
+    moment: &Moment,
+    stamped: bool,
+    patterns: &mut Patterns<'_>,
+    work: &mut Work<W>,
+) -> Result<Part, Unbuilt>
+    ensures part { IfOk result (λ part. (p : Plan) → p.node ≡ node.Select rules.now moment.now stamped → IsPart (asked_over store.now patterns.old span.now) course.now.walk p part) }
+    ensures same { patterns.new ≡ patterns.old }
+{
+    lent_steps_are_tables();
+    seconds_are_numbers();
+    walk_moments_are_moments();
+    if !are_rules_kept(patterns, rules.as_slice()) {
+        return Err(Unbuilt::Invalid);
+    }
+    let moment = settled(moment, span);
+    if !is_within(course, &moment) {
+        return Err(Unbuilt::Invalid);
+    }
+    let series = store.select(rules, patterns, work)?;
+    let kernel = Select::new(alloc, series, moment, stamped)?;
+    Ok(Part {
+        tree: Node::Select(kernel),
+        scalar: false,
+        own: stamped,
+    })
+}
