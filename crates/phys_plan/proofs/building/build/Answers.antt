@@ -1,0 +1,19 @@
+use Rattle.std.proofs.Common.{◌≡◌, ◌∙◌, Option, subst, sym}
+use Rattle.std.specs.Prelude.{IfSome}
+use Rattle.plan_parts.specs.Courses.{Courses}
+use Rattle.plan_parts.specs.Parts.{IsPart}
+use Rattle.promql_meaning.specs.Selecting.{asked_over}
+use Rattle.ticks.specs.Walks.{IsInstant}
+use Rattle.ticks.specs.declared.walk.Walk.{Walk}
+use Rattle.phys_plan.proofs.building.build.Goals as goal
+
+pub returns-clause-gives : goal.returns-clause-gives
+returns-clause-gives g c = λ stay t on.
+    let asked = asked_over c.args.store.now c.args.patterns.now c.args.span.now in
+    let p = c.args.p.now in
+    let walk = c.args.walk.now in
+    let part = c.in_ok-part.part in
+    let same : c.in-Some.course.walk ≡ walk = subst (λ (o : Option Courses). IfSome o (λ (course : Courses). course.walk ≡ walk)) c.in-Some.is c.in_ok-course.ensures in
+    let copied : c.in_ok-walk.walk ≡ c.in-Some.course.walk = c.in_ok-walk.ensures ∙ c.walk.ensures.walk in
+    let is : IsPart asked c.in_ok-walk.walk p part = subst (λ (w : Walk). IsPart asked w p part) (sym copied) c.in_ok-part.ensures.part in
+    c.planted.ensures.gives asked p is stay t (subst (λ (w : Walk). IsInstant w t) (sym (copied ∙ same)) on)

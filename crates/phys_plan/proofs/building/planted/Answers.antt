@@ -1,0 +1,27 @@
+use Rattle.std.proofs.Common.{◌≡◌, subst, sym}
+use Rattle.logical_plan.specs.PlanMeaning.{plan_step}
+use Rattle.plan_tree.specs.Nodes.{shape_of}
+use Rattle.plan_tree.specs.Shapes.{rule}
+use Rattle.plan_tree.specs.declared.node.Node.{Node}
+use Rattle.ticks.specs.Walks.{IsInstant}
+use Rattle.phys_plan.proofs.Built.{IsNew, gives_steps, new_ready}
+use Rattle.phys_plan.proofs.building.planted.Goals as goal
+
+pub returns-clause-ready : goal.returns-clause-ready
+returns-clause-ready c = λ asked p is.
+    let part = c.args.part in
+    let walk = c.args.walk in
+    let new : IsNew c.new.result part.tree walk c.args.batch = record {
+      node_is = c.new.ensures.node;
+      walk_is = c.new.ensures.walk;
+      fed = c.new.ensures.fed;
+      batch_is = c.new.ensures.batch;
+    } in
+    new_ready asked.samples asked.kept c.new.result part.tree walk c.args.batch new c.requires.times c.requires.batch is.sound
+
+pub returns-clause-gives : goal.returns-clause-gives
+returns-clause-gives c = λ asked p is stay t on.
+    let part = c.args.part in
+    let walk = c.args.walk in
+    let steps = gives_steps asked (IsInstant walk) p part.scalar part.own (rule asked.samples asked.kept (shape_of part.tree)) (is.gives stay) t on in
+    subst (λ (n : Node). rule asked.samples asked.kept (shape_of n) t ≡ plan_step asked p t) (sym c.new.ensures.node) steps

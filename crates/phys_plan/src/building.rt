@@ -1,0 +1,69 @@
+//! The tree of a plan.
+ghost use Rattle.logical_plan.specs.PlanMeaning.{plan_step};
+ghost use Rattle.logical_plan.specs.declared.nodes.Plan.{Plan};
+ghost use Rattle.plan_parts.specs.Parts.{IsPart, OncesStay};
+ghost use Rattle.plan_tree.specs.Chains.{IsReady};
+ghost use Rattle.plan_tree.specs.Nodes.{shape_of};
+ghost use Rattle.plan_tree.specs.Shapes.{rule};
+ghost use Rattle.promql_meaning.specs.Selecting.{Asked, asked_over};
+ghost use Rattle.std.specs.Prelude.{◌≡◌, ◌<◌, ℤ, None, IfOk};
+ghost use Rattle.ticks.specs.Walks.{IsInstant, LeadsToTimes};
+
+use crate::growing::grown;
+use crate::site::Site;
+use logical_plan::Plan;
+use match_rule::Patterns;
+use plan_parts::{Course, Part, Unbuilt};
+use plan_tree::Tree;
+use sample_store::Store;
+use std::alloc::Global;
+use std::sync::ledger::Ledger;
+use ticks::{Grid, Walk, Work};
+
+/// The tree of kernels of a plan that is asked at the instants of a walk over a store, at most `batch` of them at once; `span`
+/// has the start and the end that `@ start()` and `@ end()` stand for. It reads no sample. It is `Invalid` where a part of the
+/// plan has no kernel, as a function of windows and a ratio, where the plan isn't typed, where its patterns aren't kept, where it
+/// leads beyond the times, or where the walk is neither a grid nor one instant; else the only error is want of memory. (The
+/// kernels are those of thanos-io/promql-engine.)
+pub fn build<W: Ledger>(
+    alloc: Global,
+    p: &Plan,
+    store: &Store,
+    walk: &Walk,
+    span: &Grid,
+    batch: u32,
+    patterns: &mut Patterns<'_>,
+    work: &mut Work<W>,
+) -> Result<Tree, Unbuilt>
+    requires { 0 < batch }
+    // the tree may be stepped over this store and with these patterns
+    ensures ready { IfOk result (λ tree. IsReady store.now patterns.old tree) }
+    // and was fed nothing
+    ensures fed { IfOk result (λ tree. tree.fed ≡ None) }
+    ensures walk { IfOk result (λ tree. tree.walk ≡ walk.now) }
+    // where what stands below Once nodes is the same at all instants, the tree gives at each instant what the plan gives
+    ensures gives { IfOk result (λ tree. OncesStay (asked_over store.now patterns.old span.now) p.now
+        → (t : ℤ) → IsInstant walk.now t → rule store.now patterns.old (shape_of tree.node) t ≡ plan_step (asked_over store.now patterns.old span.now) p.now t) }
+    ensures same { patterns.new ≡ patterns.old }
+{
+    let Some(course) = Course::of(walk)? else {
+        return Err(Unbuilt::Invalid);
+    };
+    let site = Site { alloc, store, span };
+    let walk = course.walk().copy()?;
+    let part = grown(&site, &course, p, patterns, work)?;
+    Ok(planted(alloc, part, walk, batch))
+}
+
+/// The tree of a part, before the first instant of the walk that it is asked at. It takes no memory.
+fn planted(alloc: Global, part: Part, walk: Walk, batch: u32) -> Tree
+    requires batch { 0 < batch }
+    requires times { LeadsToTimes walk }
+    ensures ready { (asked : Asked) (p : Plan) → IsPart asked walk p part → IsReady asked.samples asked.kept result }
+    ensures fed { result.fed ≡ None }
+    ensures walk { result.walk ≡ walk }
+    ensures gives { (asked : Asked) (p : Plan) → IsPart asked walk p part → OncesStay asked p
+        → (t : ℤ) → IsInstant walk t → rule asked.samples asked.kept (shape_of result.node) t ≡ plan_step asked p t }
+{
+    Tree::new(alloc, part.tree, walk, batch as usize)
+}

@@ -1,0 +1,277 @@
+//! The tree of a plan, node by node.
+ghost use Rattle.plan_parts.specs.Parts.{IsPartOf};
+ghost use Rattle.promql_meaning.specs.Selecting.{asked_over};
+ghost use Rattle.std.specs.Prelude.{◌≡◌};
+
+use crate::site::Site;
+use label_set::Relabel;
+use logical_plan::{Plan, PlanNode};
+use match_rule::Patterns;
+use plan_parts::kinds::{
+    absent, applied, applied_with, as_scalar, as_vector, clamped, combined, copied, grouped,
+    number, paired, quantiles, ranked, relabelled, stamped, time,
+};
+use plan_parts::{Course, Part, Unbuilt, repeated, select};
+use std::sync::ledger::Ledger;
+use ticks::Work;
+
+/// The tree of a plan that is asked at the instants of a course.
+#[cycle(growing)]
+pub(crate) fn grown<W: Ledger>(
+    site: &Site<'_>,
+    course: &Course,
+    p: &Plan,
+    patterns: &mut Patterns<'_>,
+    work: &mut Work<W>,
+) -> Result<Part, Unbuilt>
+    ensures part { IsPartOf (asked_over site.now.store.now patterns.old site.now.span.now) course.now.walk p.now result }
+    ensures same { patterns.new ≡ patterns.old }
+{
+    match &p.node {
+        PlanNode::Number(value) => number(site.alloc, *value),
+        PlanNode::Time => time(site.alloc),
+        PlanNode::Select {
+            rules,
+            moment,
+            stamped,
+        } => select(
+            site.alloc, site.store, site.span, course, rules, moment, *stamped, patterns, work,
+        ),
+        PlanNode::Once(_) => once(site, course, p, patterns, work),
+        PlanNode::Element(_, _, _) => element(site, course, p, patterns, work),
+        PlanNode::Group(_, _, _, _) => group(site, course, p, patterns, work),
+        PlanNode::Buckets(_, _) | PlanNode::Pair(_, _, _, _) | PlanNode::Set(_, _, _, _) => {
+            over_two(site, course, p, patterns, work)
+        }
+        PlanNode::ScalarOf(_) | PlanNode::Sort { .. } | PlanNode::VectorOf(_) => {
+            retyped(site, course, p, patterns, work)
+        }
+        _ => over_one(site, course, p, patterns, work),
+    }
+}
+
+/// The tree of a node with one child, whose rows change; none of another one.
+#[cycle(growing)]
+fn over_one<W: Ledger>(
+    site: &Site<'_>,
+    course: &Course,
+    p: &Plan,
+    patterns: &mut Patterns<'_>,
+    work: &mut Work<W>,
+) -> Result<Part, Unbuilt>
+    ensures part { IsPartOf (asked_over site.now.store.now patterns.old site.now.span.now) course.now.walk p.now result }
+    ensures same { patterns.new ≡ patterns.old }
+{
+    match &p.node {
+        PlanNode::Stamp(inner) => {
+            let rows = grown(site, course, inner.get(), patterns, work);
+            stamped(site.alloc, rows, patterns)
+        }
+        PlanNode::Absent { labels, inner } => {
+            let labels = copied(labels)?;
+            let rows = grown(site, course, inner.get(), patterns, work);
+            absent(site.alloc, labels, rows, patterns)
+        }
+        PlanNode::Relabel(rule, inner) => {
+            let rule = rule.copy()?;
+            let rows = grown(site, course, inner.get(), patterns, work);
+            relabelled(site.alloc, rule, rows, patterns)
+        }
+        PlanNode::Filter { base, rules } => {
+            let rule = Relabel::Filter(rules.copy()?);
+            let rows = grown(site, course, base.get(), patterns, work);
+            relabelled(site.alloc, rule, rows, patterns)
+        }
+        _ => Err(Unbuilt::Invalid),
+    }
+}
+
+/// The tree of a node that gives the rows of its child as another type, or as the same one; none of another node.
+#[cycle(growing)]
+fn retyped<W: Ledger>(
+    site: &Site<'_>,
+    course: &Course,
+    p: &Plan,
+    patterns: &mut Patterns<'_>,
+    work: &mut Work<W>,
+) -> Result<Part, Unbuilt>
+    ensures part { IsPartOf (asked_over site.now.store.now patterns.old site.now.span.now) course.now.walk p.now result }
+    ensures same { patterns.new ≡ patterns.old }
+{
+    match &p.node {
+        PlanNode::ScalarOf(inner) => {
+            let rows = grown(site, course, inner.get(), patterns, work);
+            as_scalar(site.alloc, rows, patterns)
+        }
+        PlanNode::Sort { inner, .. } => {
+            let rows = grown(site, course, inner.get(), patterns, work);
+            as_vector(rows)
+        }
+        PlanNode::VectorOf(inner) => {
+            let rows = grown(site, course, inner.get(), patterns, work);
+            as_vector(rows)
+        }
+        _ => Err(Unbuilt::Invalid),
+    }
+}
+
+/// The tree of a node with two children; none of another one.
+#[cycle(growing)]
+fn over_two<W: Ledger>(
+    site: &Site<'_>,
+    course: &Course,
+    p: &Plan,
+    patterns: &mut Patterns<'_>,
+    work: &mut Work<W>,
+) -> Result<Part, Unbuilt>
+    ensures part { IsPartOf (asked_over site.now.store.now patterns.old site.now.span.now) course.now.walk p.now result }
+    ensures same { patterns.new ≡ patterns.old }
+{
+    match &p.node {
+        PlanNode::Buckets(quantile, inner) => {
+            let rows = grown(site, course, inner.get(), patterns, work);
+            let beside = grown(site, course, quantile.get(), patterns, work);
+            quantiles(site.alloc, rows, beside)
+        }
+        PlanNode::Pair(op, left, right, pairing) => {
+            let pairing = pairing.copy()?;
+            let rows = grown(site, course, left.get(), patterns, work);
+            let beside = grown(site, course, right.get(), patterns, work);
+            paired(site.alloc, *op, pairing, rows, beside)
+        }
+        PlanNode::Set(op, left, right, pairing) => {
+            let pairing = pairing.copy()?;
+            let rows = grown(site, course, left.get(), patterns, work);
+            let beside = grown(site, course, right.get(), patterns, work);
+            combined(site.alloc, *op, pairing, rows, beside)
+        }
+        _ => Err(Unbuilt::Invalid),
+    }
+}
+
+/// The tree of a function of rows and of up to two scalars; none of another node.
+#[cycle(growing)]
+fn element<W: Ledger>(
+    site: &Site<'_>,
+    course: &Course,
+    p: &Plan,
+    patterns: &mut Patterns<'_>,
+    work: &mut Work<W>,
+) -> Result<Part, Unbuilt>
+    ensures part { IsPartOf (asked_over site.now.store.now patterns.old site.now.span.now) course.now.walk p.now result }
+    ensures same { patterns.new ≡ patterns.old }
+{
+    let PlanNode::Element(f, inner, arguments) = &p.node else {
+        return Err(Unbuilt::Invalid);
+    };
+    match arguments.as_slice() {
+        [] => {
+            let rows = grown(site, course, inner.get(), patterns, work);
+            applied(site.alloc, *f, rows, patterns)
+        }
+        [_] => beside_one(site, course, p, patterns, work),
+        [_, _] => beside_two(site, course, p, patterns, work),
+        _ => Err(Unbuilt::Invalid),
+    }
+}
+
+/// The tree of a function of rows and of a scalar; none of another node.
+#[cycle(growing)]
+fn beside_one<W: Ledger>(
+    site: &Site<'_>,
+    course: &Course,
+    p: &Plan,
+    patterns: &mut Patterns<'_>,
+    work: &mut Work<W>,
+) -> Result<Part, Unbuilt>
+    ensures part { IsPartOf (asked_over site.now.store.now patterns.old site.now.span.now) course.now.walk p.now result }
+    ensures same { patterns.new ≡ patterns.old }
+{
+    let PlanNode::Element(f, inner, arguments) = &p.node else {
+        return Err(Unbuilt::Invalid);
+    };
+    let [a] = arguments.as_slice() else {
+        return Err(Unbuilt::Invalid);
+    };
+    let rows = grown(site, course, inner.get(), patterns, work);
+    let beside = grown(site, course, a, patterns, work);
+    applied_with(site.alloc, *f, rows, beside)
+}
+
+/// The tree of a function of rows and of two scalars; none of another node.
+#[cycle(growing)]
+fn beside_two<W: Ledger>(
+    site: &Site<'_>,
+    course: &Course,
+    p: &Plan,
+    patterns: &mut Patterns<'_>,
+    work: &mut Work<W>,
+) -> Result<Part, Unbuilt>
+    ensures part { IsPartOf (asked_over site.now.store.now patterns.old site.now.span.now) course.now.walk p.now result }
+    ensures same { patterns.new ≡ patterns.old }
+{
+    let PlanNode::Element(f, inner, arguments) = &p.node else {
+        return Err(Unbuilt::Invalid);
+    };
+    let [a, b] = arguments.as_slice() else {
+        return Err(Unbuilt::Invalid);
+    };
+    let rows = grown(site, course, inner.get(), patterns, work);
+    let low = grown(site, course, a, patterns, work);
+    let high = grown(site, course, b, patterns, work);
+    clamped(site.alloc, *f, rows, low, high)
+}
+
+/// The tree of an aggregation; none of another node.
+#[cycle(growing)]
+fn group<W: Ledger>(
+    site: &Site<'_>,
+    course: &Course,
+    p: &Plan,
+    patterns: &mut Patterns<'_>,
+    work: &mut Work<W>,
+) -> Result<Part, Unbuilt>
+    ensures part { IsPartOf (asked_over site.now.store.now patterns.old site.now.span.now) course.now.walk p.now result }
+    ensures same { patterns.new ≡ patterns.old }
+{
+    let PlanNode::Group(f, by, arguments, label) = &p.node else {
+        return Err(Unbuilt::Invalid);
+    };
+    let by = by.copy()?;
+    let label = label.copy()?;
+    match arguments.as_slice() {
+        [a] => {
+            let rows = grown(site, course, a, patterns, work);
+            grouped(site.alloc, *f, by, label, rows, patterns)
+        }
+        [a, b] => {
+            let parameter = grown(site, course, a, patterns, work);
+            let rows = grown(site, course, b, patterns, work);
+            ranked(site.alloc, *f, by, label, rows, parameter)
+        }
+        _ => Err(Unbuilt::Invalid),
+    }
+}
+
+/// The tree of a part that is computed once, at the course's first instant; none of another node.
+#[cycle(growing)]
+fn once<W: Ledger>(
+    site: &Site<'_>,
+    course: &Course,
+    p: &Plan,
+    patterns: &mut Patterns<'_>,
+    work: &mut Work<W>,
+) -> Result<Part, Unbuilt>
+    ensures part { IsPartOf (asked_over site.now.store.now patterns.old site.now.span.now) course.now.walk p.now result }
+    ensures same { patterns.new ≡ patterns.old }
+{
+    let PlanNode::Once(inner) = &p.node else {
+        return Err(Unbuilt::Invalid);
+    };
+    let first = course.first();
+    let Some(below) = Course::at(first) else {
+        return Err(Unbuilt::Invalid);
+    };
+    let child = grown(site, &below, inner.get(), patterns, work);
+    repeated(site.alloc, first, child)
+}
