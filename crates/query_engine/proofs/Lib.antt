@@ -2,3 +2,4 @@ pub mod Gridded
 pub mod Ready
 pub mod Results
 pub mod Stays
+pub mod Streamed

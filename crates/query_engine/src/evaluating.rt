@@ -6,13 +6,14 @@ ghost use Rattle.query_engine.specs.Evaluating.{ComesTo, IsRefused, IsRefusedWit
 ghost use Rattle.query_engine.specs.Readiness.{IsReadyTree};
 ghost use Rattle.std.specs.Prelude.{◌≡◌, [], IfErr, IfOk};
 
+use crate::streaming::answered;
 use match_rule::{PatternRoom, Patterns};
-use plain_eval::{checked_patterns_are_kept, range};
 use promql_lex::LexFault;
 use promql_meaning::Outcome;
 use promql_meaning::laws::needs_are_met;
 use promql_parse::parse;
 use promql_type::{TypeFault, Typed, check, edges_are_typed_alike};
+use query_places::laws::calls_stand_apart;
 use sample_store::Store;
 use std::alloc::{AllocError, Global};
 use std::sync::ledger::Ledger;
@@ -65,11 +66,20 @@ pub fn evaluate<W: Ledger>(
     ensures idle { IfOk result (λ outcome. IsRefused outcome → work.new ≡ work.old) }
 {
     needs_are_met();
-    checked_patterns_are_kept();
+    calls_stand_apart();
     let mut room = PatternRoom::new(alloc)?;
     let mut patterns = Patterns::new(alloc, &mut room);
     match typed_tree(alloc, text, options.closed, &mut patterns) {
-        Ok(typed) => range(alloc, &typed, store, &mut patterns, grid, instant, work),
+        Ok(typed) => answered(
+            alloc,
+            &typed,
+            store,
+            &mut patterns,
+            grid,
+            instant,
+            options.batch,
+            work,
+        ),
         Err(TypeFault::Refused(refusal)) => Ok(Outcome::Refused(refusal)),
         Err(TypeFault::Memory) => Err(AllocError),
     }

@@ -3,6 +3,7 @@
 #![tactic(auto)]
 
 mod evaluating;
+mod streaming;
 
 pub use evaluating::{Options, evaluate};
 pub use std::alloc::AllocError as Memory;

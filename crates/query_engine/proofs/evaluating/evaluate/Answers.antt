@@ -1,27 +1,42 @@
-use Rattle.std.proofs.Common.{sym, subst}
+use Rattle.std.proofs.Common.{◌∙◌, [], ap, sym, subst}
+use Rattle.promql_ast.specs.Edged.{edged}
 use Rattle.promql_ast.specs.declared.refusal.QueryRefusal.{QueryRefusal}
+use Rattle.promql_ast.specs.declared.tree.Expr.{Expr}
 use Rattle.promql_meaning.specs.declared.answer.Outcome.TheVariants as outcome
 use Rattle.promql_meaning.specs.Selecting.{asked_over}
 use Rattle.promql_type.specs.Answers.{MayFault}
+use Rattle.promql_type.specs.Judging.{judged}
 use Rattle.promql_type.specs.TypedTrees.{tree_of}
 use Rattle.query_engine.specs.Evaluating.{ComesTo, IsRefusedWith, refused}
 use Rattle.query_engine.proofs.Gridded.{grid_met}
 use Rattle.query_engine.proofs.Results.{comes_to, not_refused}
+use Rattle.query_engine.proofs.Streamed.{told_apart}
 use Rattle.query_engine.proofs.evaluating.evaluate.Goals as goal
+use Rattle.query_places.specs.Apart.{StandApart}
 
-pub range-requires-clause-met : goal.range-requires-clause-met
-range-requires-clause-met g c =
+pub answered-requires-clause-batch : goal.answered-requires-clause-batch
+answered-requires-clause-batch g c = c.requires.batch.0
+
+pub answered-requires-clause-met : goal.answered-requires-clause-met
+answered-requires-clause-met g c =
     let ready = c.in-Ok.ensures.tree in
     grid_met c.args.store.now c.typed_tree.new.patterns c.args.grid.now (tree_of c.in-Ok.typed) c.needs_are_met.ensures ready.shallow ready.within
+
+pub answered-requires-clause-apart : goal.answered-requires-clause-apart
+answered-requires-clause-apart g c =
+    let ready = c.in-Ok.ensures.tree in
+    let own = ready.edge ∙ ap (edged c.args.options.now.closed) ready.stands.typed in
+    told_apart (judged (tree_of c.in-Ok.typed)).replacements (subst (λ (e : Expr). StandApart (judged e).replacements) (sym own)
+    (c.calls_stand_apart.ensures c.args.text.now [] ready.stands.read ready.stands.tree c.args.options.now.closed ready.stands.parses))
 
 pub returns-in-Ok-clause-outcome : goal.returns-in-Ok-clause-outcome
 returns-in-Ok-clause-outcome g c =
     let ready = c.in-Ok.ensures.tree in
-    comes_to c.args.text.now c.args.store.now c.typed_tree.new.patterns c.args.grid.now ready.open_tree (tree_of c.in-Ok.typed) c.args.instant c.args.options.now.closed ready.stands ready.edge c.range.result c.range.ensures.result
+    comes_to c.args.text.now c.args.store.now c.typed_tree.new.patterns c.args.grid.now ready.open_tree (tree_of c.in-Ok.typed) c.args.instant c.args.options.now.closed ready.stands ready.edge c.answered.result c.answered.ensures.result
 
 pub returns-in-Ok-clause-idle : goal.returns-in-Ok-clause-idle
 returns-in-Ok-clause-idle g c =
-    not_refused _ (asked_over c.args.store.now c.typed_tree.new.patterns c.args.grid.now) (tree_of c.in-Ok.typed) c.args.grid.now c.args.instant c.range.result c.range.ensures.result
+    not_refused _ (asked_over c.args.store.now c.typed_tree.new.patterns c.args.grid.now) (tree_of c.in-Ok.typed) c.args.grid.now c.args.instant c.answered.result c.answered.ensures.result
 
 pub returns-in-Err-Refused-clause-outcome : goal.returns-in-Err-Refused-clause-outcome
 returns-in-Err-Refused-clause-outcome g c =

@@ -1,0 +1,131 @@
+//! A typed query by the tree of kernels of its plan.
+ghost use Rattle.logical_plan.specs.Placements.{TellApart};
+ghost use Rattle.plan_tree.specs.Chains.{IsReady};
+ghost use Rattle.plan_tree.specs.Nodes.{shape_of};
+ghost use Rattle.plan_tree.specs.Shapes.{rule};
+ghost use Rattle.promql_meaning.specs.Conditions.{AreMet, needs_of, needs_over};
+ghost use Rattle.promql_meaning.specs.Meaning.{meaning_step};
+ghost use Rattle.promql_meaning.specs.Results.{grid_times, result_of};
+ghost use Rattle.promql_meaning.specs.Selecting.{asked_over};
+ghost use Rattle.promql_type.specs.Judging.{judged};
+ghost use Rattle.promql_type.specs.Replacements.{AreKept};
+ghost use Rattle.promql_type.specs.TypedTrees.{placed_of, tree_of};
+ghost use Rattle.std.specs.Prelude.{◌≡◌, ◌<◌, None, IfOk, IfSome};
+ghost use Rattle.step_table.specs.Timed.{steps_over};
+ghost use Rattle.ticks.specs.declared.walk.Walk.{Grid as GridWalk};
+
+use logical_plan::{kept_patterns_are_placed, lower};
+use match_rule::Patterns;
+use phys_plan::laws::steady_onces_stay;
+use phys_plan::{Unbuilt, build};
+use plain_eval::{checked_patterns_are_kept, is_scalar, order_asked, range};
+use plan_tree::Tree;
+use promql_meaning::Outcome;
+use promql_type::Typed;
+use result_rows::laws::collected_is_judged;
+use sample_store::Store;
+use std::alloc::{AllocError, Global};
+use std::sync::ledger::Ledger;
+use ticks::{Grid, Walk, Work};
+use tree_results::laws::grids_are_listed;
+use tree_results::{Drained, drain};
+
+/// The result of a typed query over a grid, the steps of which a tree gives that goes there. The patterns stay as they are. The
+/// only error is want of memory. (Prometheus querying.)
+fn collected<W: Ledger>(
+    alloc: Global,
+    typed: &Typed,
+    tree: &mut Tree,
+    store: &Store,
+    patterns: &mut Patterns<'_>,
+    grid: &Grid,
+    instant: bool,
+    work: &mut Work<W>,
+) -> Result<Outcome, AllocError>
+    requires ready { IsReady store.now patterns.old tree.old }
+    requires fresh { tree.old.fed ≡ None }
+    requires walk { tree.old.walk ≡ GridWalk grid.now }
+    requires gives { steps_over (rule store.now patterns.old (shape_of tree.old.node)) (grid_times grid.now) ≡ steps_over (meaning_step (asked_over store.now patterns.old grid.now) (tree_of typed.now)) (grid_times grid.now) }
+    ensures result { IfOk result (λ outcome. outcome ≡ result_of (asked_over store.now patterns.old grid.now) (tree_of typed.now) grid.now instant) }
+    ensures same { patterns.new ≡ patterns.old }
+{
+    collected_is_judged();
+    match drain(alloc, tree, grid, store, patterns, work)? {
+        Drained::Stopped(outcome) => Ok(outcome),
+        Drained::Done(collected) => {
+            let order = order_asked(alloc, typed, instant)?;
+            let answer = collected.answer(is_scalar(typed), order)?;
+            Ok(Outcome::Answer(answer))
+        }
+    }
+}
+
+/// The result of a typed query over a grid by the tree of kernels of its plan, which goes on by at most `batch` instants at once;
+/// none where a part of the plan has no kernel. The patterns stay as they are. The only error is want of memory.
+fn streamed<W: Ledger>(
+    alloc: Global,
+    typed: &Typed,
+    store: &Store,
+    patterns: &mut Patterns<'_>,
+    grid: &Grid,
+    instant: bool,
+    batch: u32,
+    work: &mut Work<W>,
+) -> Result<Option<Outcome>, AllocError>
+    requires batch { 0 < batch }
+    requires kept { AreKept patterns.old (judged (tree_of typed.now)).replacements (placed_of typed.now) }
+    requires apart { TellApart (judged (tree_of typed.now)).replacements }
+    ensures result { IfOk result (λ got. IfSome got (λ outcome. outcome ≡ result_of (asked_over store.now patterns.old grid.now) (tree_of typed.now) grid.now instant)) }
+    ensures same { patterns.new ≡ patterns.old }
+{
+    kept_patterns_are_placed();
+    steady_onces_stay();
+    grids_are_listed();
+    let _ = typed.expr();
+    let plan = lower(alloc, typed)?;
+    match build(
+        alloc,
+        &plan,
+        store,
+        &Walk::Grid(*grid),
+        grid,
+        batch,
+        patterns,
+        work,
+    ) {
+        Ok(mut tree) => {
+            let outcome = collected(
+                alloc, typed, &mut tree, store, patterns, grid, instant, work,
+            )?;
+            Ok(Some(outcome))
+        }
+        Err(Unbuilt::Invalid) => Ok(None),
+        Err(Unbuilt::Memory) => Err(AllocError),
+    }
+}
+
+/// The result of a typed query over a grid: by the tree of kernels of its plan, which goes on by at most `batch` instants at once,
+/// or where a part of the plan has no kernel, by the tree of the query. The only error is want of memory. (Prometheus querying.)
+pub(crate) fn answered<W: Ledger>(
+    alloc: Global,
+    typed: &Typed,
+    store: &Store,
+    patterns: &mut Patterns<'_>,
+    grid: &Grid,
+    instant: bool,
+    batch: u32,
+    work: &mut Work<W>,
+) -> Result<Outcome, AllocError>
+    requires batch { 0 < batch }
+    requires met { AreMet (asked_over store.now patterns.old grid.now) (needs_over (needs_of (asked_over store.now patterns.old grid.now) (tree_of typed.now)) (grid_times grid.now)) }
+    requires kept { AreKept patterns.old (judged (tree_of typed.now)).replacements (placed_of typed.now) }
+    requires apart { TellApart (judged (tree_of typed.now)).replacements }
+    ensures result { IfOk result (λ outcome. outcome ≡ result_of (asked_over store.now patterns.old grid.now) (tree_of typed.now) grid.now instant) }
+{
+    checked_patterns_are_kept();
+    let done = streamed(alloc, typed, store, patterns, grid, instant, batch, work)?;
+    match done {
+        Some(outcome) => Ok(outcome),
+        None => range(alloc, typed, store, patterns, grid, instant, work),
+    }
+}
