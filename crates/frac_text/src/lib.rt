@@ -22,4 +22,4 @@ pub use read::{read_number, read_script_number};
 pub use refusal::{NumberRefusal, TimeRefusal};
 pub use std::alloc::AllocError as Memory;
 pub use time::read_time;
-pub use write::write_number;
+pub use write::{NumberText, spelled, write_number};

@@ -1,11 +1,14 @@
 //! The spelling of numbers.
+ghost use Rattle.arrayvec.specs.ArrayVec.{array_vec_len};
 ghost use Rattle.std.specs.Int.{IsGcd};
 ghost use Rattle.xfrac.specs.Fractions.{IsReduced};
 ghost use Rattle.frac_text.specs.Spellings.{IsStripped, ends, magnitude_text, places, sign, spelling, tail};
-ghost use Rattle.std.specs.Prelude.{◌≡◌, ◌<◌, ◌≤◌, ◌%◌, ◌/◌, ◌^◌, ◌++◌, codes, decimal, string_bytes, unsigned_abs, IfOk, OnOk, OnErr};
+ghost use Rattle.std.specs.Prelude.{◌≡◌, ◌<◌, ◌≤◌, ◌%◌, ◌/◌, ◌^◌, ◌++◌, ◌+◌, ◌∷◌, [], codes, decimal, length, unsigned_abs, OnOk, OnErr};
 
+use arrayvec::ArrayVec;
 use itoa::Buffer;
 use std::alloc::AllocError;
+use std::marker::Model;
 use xfrac::{XFrac, parts};
 
 /// A number within the limits has at most so many decimal places, if they end.
@@ -72,98 +75,133 @@ fn divided(n: u128, d: u128) -> (u128, u128)
     }
 }
 
-/// Adds the decimal places of r/d.
-fn add_places(text: &mut Vec<u8>, r: u128, d: u128) -> Result<(), AllocError>
-    requires left { r < d }
-    requires within { d ≤ 10 ^ 30 }
-    ensures { OnOk result (text.new.items ≡ text.old.items ++ places 100 r d) }
-{
-    let mut left = r;
-    for _ in 0..MOST_PLACES {
-        if left == 0 {
-            return Ok(());
+/// The spelling of a number. It stands on the stack.
+#[derive(Drop)]
+pub struct NumberText {
+    text: ArrayVec<u8, ROOM>,
+}
+
+impl Model for NumberText {
+    ghost use Rattle.std.specs.Prelude.{ℕ, List};
+
+    ghost Value = { List ℕ };
+
+    ghost view = { λ n. n.text.items };
+}
+
+impl NumberText {
+    fn new() -> NumberText
+        ensures { result ≡ [] }
+    {
+        NumberText {
+            text: ArrayVec::new(),
         }
-        let (digit, rest) = divided(left * 10, d);
-        text.push(b'0' + digit as u8)?;
-        left = rest;
     }
-    Ok(())
-}
 
-fn add_decimal(text: &mut Vec<u8>, n: u128) -> Result<(), AllocError>
-    ensures { OnOk result (text.new.items ≡ text.old.items ++ decimal n) }
-{
-    let mut buffer = Buffer::new();
-    text.extend_from_slice(buffer.format(n).as_bytes())
-}
-
-/// Adds what stands after the whole digits.
-fn add_tail(text: &mut Vec<u8>, r: u128, d: u128) -> Result<(), AllocError>
-    requires left { r < d }
-    requires within { d ≤ 10 ^ 30 }
-    ensures { OnOk result (text.new.items ≡ text.old.items ++ tail r d) }
-{
-    if r == 0 {
-        return Ok(());
+    /// Its bytes. It takes no memory.
+    pub fn as_bytes(&self) -> &[u8]
+        ensures { result.now ≡ self.now }
+    {
+        self.text.as_slice()
     }
-    text.push(b'.')?;
-    add_places(text, r, d)
-}
 
-fn add_whole_and_tail(text: &mut Vec<u8>, whole: u128, r: u128, d: u128) -> Result<(), AllocError>
-    requires left { r < d }
-    requires within { d ≤ 10 ^ 30 }
-    ensures { OnOk result (text.new.items ≡ text.old.items ++ (decimal whole ++ tail r d)) }
-{
-    add_decimal(text, whole)?;
-    add_tail(text, r, d)
-}
+    fn push(&mut self, byte: u8)
+        requires room { length self.old < 160 }
+        ensures { self.new ≡ self.old ++ byte ∷ [] }
+    {
+        self.text.push(byte);
+    }
 
-fn add_ratio(text: &mut Vec<u8>, m: u128, d: u128) -> Result<(), AllocError>
-    ensures { OnOk result (text.new.items ≡ text.old.items ++ (decimal m ++ (codes "/" ++ decimal d))) }
-{
-    add_decimal(text, m)?;
-    text.push(b'/')?;
-    add_decimal(text, d)
-}
+    fn append(&mut self, bytes: &[u8])
+        requires room { length self.old + length bytes.now ≤ 160 }
+        ensures { self.new ≡ self.old ++ bytes.now }
+    {
+        let _fits = self.text.try_extend_from_slice(bytes);
+    }
 
-fn add_magnitude(text: &mut Vec<u8>, m: u128, d: u128) -> Result<(), AllocError>
-    requires { IsReduced m d }
-    ensures { OnOk result (text.new.items ≡ text.old.items ++ magnitude_text m d) }
-{
-    let (whole, rest) = divided(m, d);
-    if ends(rest, d) {
-        add_whole_and_tail(text, whole, rest, d)
-    } else {
-        add_ratio(text, m, d)
+    fn append_decimal(&mut self, n: u128)
+        requires room { length self.old ≤ 120 }
+        ensures text { self.new ≡ self.old ++ decimal n }
+        ensures short { length self.new ≤ length self.old + 40 }
+    {
+        let mut buffer = Buffer::new();
+        self.append(buffer.format(n).as_bytes());
+    }
+
+    /// Appends the decimal places of r/d.
+    fn append_places(&mut self, r: u128, d: u128)
+        requires left { r < d }
+        requires within { d ≤ 10 ^ 30 }
+        requires room { length self.old ≤ 60 }
+        ensures { self.new ≡ self.old ++ places 100 r d }
+    {
+        let mut left = r;
+        for _ in 0..MOST_PLACES {
+            if left == 0 {
+                return;
+            }
+            let (digit, rest) = divided(left * 10, d);
+            self.push(b'0' + digit as u8);
+            left = rest;
+        }
+    }
+
+    /// Appends what stands after the whole digits.
+    fn append_tail(&mut self, r: u128, d: u128)
+        requires left { r < d }
+        requires within { d ≤ 10 ^ 30 }
+        requires room { length self.old ≤ 59 }
+        ensures { self.new ≡ self.old ++ tail r d }
+    {
+        if r == 0 {
+            return;
+        }
+        self.push(b'.');
+        self.append_places(r, d);
+    }
+
+    fn append_magnitude(&mut self, m: u128, d: u128)
+        requires reduced { IsReduced m d }
+        requires room { length self.old ≤ 1 }
+        ensures { self.new ≡ self.old ++ magnitude_text m d }
+    {
+        let (whole, rest) = divided(m, d);
+        if ends(rest, d) {
+            self.append_decimal(whole);
+            self.append_tail(rest, d);
+        } else {
+            self.append_decimal(m);
+            self.push(b'/');
+            self.append_decimal(d);
+        }
     }
 }
 
-fn add_fraction(text: &mut Vec<u8>, n: i128, d: u128) -> Result<(), AllocError>
-    requires { IsReduced (unsigned_abs n) d }
-    ensures { OnOk result (text.new.items ≡ text.old.items ++ (sign n ++ magnitude_text (unsigned_abs n) d)) }
+/// The one spelling of a number: `+Inf`, `-Inf` or `NaN`; a plain decimal without needless zeros where that ends; else the lowest
+/// terms as `n/d`. It takes no memory.
+pub fn spelled(v: &XFrac) -> NumberText
+    ensures { result ≡ spelling v.now }
 {
-    if n < 0 {
-        text.push(b'-')?;
+    let mut text = NumberText::new();
+    match v {
+        XFrac::Fin(fraction) => {
+            let (n, d) = parts(fraction);
+            if n < 0 {
+                text.push(b'-');
+            }
+            text.append_magnitude(n.unsigned_abs(), d.unsigned_abs());
+        }
+        XFrac::PosInf => text.append(b"+Inf"),
+        XFrac::NegInf => text.append(b"-Inf"),
+        XFrac::NaN => text.append(b"NaN"),
     }
-    add_magnitude(text, n.unsigned_abs(), d)
+    text
 }
 
-/// Writes the one spelling of a number at the end of a list: `+Inf`, `-Inf` or `NaN`; a plain decimal without needless
-/// zeros where that ends; else the lowest terms as `n/d`. The only error is want of memory; then the list is as it was.
+/// Writes the one spelling of a number at the end of a list. The only error is want of memory; then the list is as it was.
 pub fn write_number(v: &XFrac, into: &mut Vec<u8>) -> Result<(), AllocError>
     ensures ok { OnOk result (into.new.items ≡ into.old.items ++ spelling v.now) }
     ensures err { OnErr result (into.new.items ≡ into.old.items) }
 {
-    match v {
-        XFrac::Fin(fraction) => {
-            let (n, d) = parts(fraction);
-            let mut text = Vec::with_capacity(*into.allocator(), ROOM)?;
-            add_fraction(&mut text, n, d.unsigned_abs())?;
-            into.extend_from_slice(text.as_slice())
-        }
-        XFrac::PosInf => into.extend_from_slice(b"+Inf"),
-        XFrac::NegInf => into.extend_from_slice(b"-Inf"),
-        XFrac::NaN => into.extend_from_slice(b"NaN"),
-    }
+    into.extend_from_slice(spelled(v).as_bytes())
 }
