@@ -9,7 +9,6 @@ use Rattle.func_table.specs.declared.table.CalendarPart.{CalendarPart}
 use Rattle.func_table.specs.declared.table.CalendarPart.TheVariants.{DayOfMonth, DayOfWeek, DayOfYear, DaysInMonth, Hour, Minute, Month, Year}
 use Rattle.func_table.specs.declared.table.Element.{Element as ElementFunction}
 use Rattle.func_table.specs.declared.table.Element.TheVariants.{Calendar, Abs, Ceil, Floor, Round, Sgn, Neg, Clamp, ClampMin, ClampMax}
-use Rattle.func_table.specs.declared.table.Found.{Found}
 use Rattle.func_table.specs.declared.table.Found.TheVariants.{Known, Refused, Unknown}
 use Rattle.func_table.specs.declared.table.Func.{Func}
 use Rattle.func_table.specs.declared.table.Func.TheVariants.{Element, Window, Absent, AbsentOver, HistogramQuantile, LabelJoin, LabelReplace, Scalar, Sort, SortDesc, Time, Timestamp, Vector}

@@ -6,5 +6,5 @@ abbrev pub invariant-loop : goal.invariant-loop
 invariant-loop l = record {
   is : l.self ++ places (100 - l.counter) l.left l.d ≡ l.fn.self ++ places 100 l.r l.d;
   below : l.left < l.d;
-  room : length l.self ≤ length l.fn.self + l.counter
+  room : length l.self ≤ length l.fn.self + l.counter;
 }
