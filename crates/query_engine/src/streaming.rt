@@ -105,7 +105,7 @@ fn streamed<W: Ledger>(
 }
 
 /// The result of a typed query over a grid: by the tree of kernels of its plan, which goes on by at most `batch` instants at once,
-/// or where a part of the plan has no kernel, by the tree of the query. The only error is want of memory. (Prometheus querying.)
+/// or where a part of the plan has no kernel, or there is one instant alone, by the tree of the query. The only error is want of memory. (Prometheus querying.)
 pub(crate) fn answered<W: Ledger>(
     alloc: Global,
     typed: &Typed,
@@ -123,6 +123,10 @@ pub(crate) fn answered<W: Ledger>(
     ensures result { IfOk result (λ outcome. outcome ≡ result_of (asked_over store.now patterns.old grid.now) (tree_of typed.now) grid.now instant) }
 {
     checked_patterns_are_kept();
+    // what kernels keep from instant to instant serves no single one
+    if grid.start == grid.end {
+        return range(alloc, typed, store, patterns, grid, instant, work);
+    }
     let done = streamed(alloc, typed, store, patterns, grid, instant, batch, work)?;
     match done {
         Some(outcome) => Ok(outcome),

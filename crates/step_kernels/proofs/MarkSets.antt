@@ -36,6 +36,7 @@ use Rattle.promql_meaning.specs.Relabels.{joined_labels, replaced_labels}
 use Rattle.promql_meaning.specs.Subqueries.{as_times, multiples, points_of}
 use Rattle.promql_meaning.specs.declared.given.Windows.{Windows}
 use Rattle.step_table.specs.Groups.{Names, gathered}
+use Rattle.logical_plan.specs.PlanRules.{ratio_outcome}
 use Rattle.step_table.specs.KeySets.{sorted_set}
 use Rattle.step_table.specs.Laws.{UnionIsSet}
 use Rattle.step_table.specs.Matching.{is_empty, labelled, many_side, one_side, pair_marks, pair_rows, paired}
@@ -203,6 +204,7 @@ module _ (law : UnionIsSet) where
   binaries_keep_sets (binary.Combine op p) rows beside s u = combined_sets op p rows beside s u
   binaries_keep_sets binary.Buckets rows beside s u = scalar_sets bucket_quantiles beside rows bucket_sets u s
   binaries_keep_sets (binary.Rank f by label) rows beside s u = aggregated_sets f by label beside rows u s
+  binaries_keep_sets binary.Ratio rows beside s u = taken_sets (united rows.marks beside.marks) (map (ratio_outcome beside.table.rows) rows.table.rows) (law rows.marks beside.marks s u)
 
   -- ---- windows
 

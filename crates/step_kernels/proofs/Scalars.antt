@@ -149,6 +149,7 @@ binaries_stay_scalars (binary.Join op p) rows beside k h = absurd (cc)
 binaries_stay_scalars (binary.Combine op p) rows beside k h = absurd (cc)
 binaries_stay_scalars binary.Buckets rows beside k h = absurd (cc)
 binaries_stay_scalars (binary.Rank f by label) rows beside k h = absurd (cc)
+binaries_stay_scalars binary.Ratio rows beside k h = absurd (cc)
 
 pub unaries_make_scalars : (kept : Kept) (rule : UnaryRule) (t : ℤ) (step : Step) → IsTrue (unary_makes_scalars rule) → HasOneRow (unary_step kept rule t step)
 unaries_make_scalars kept (unary.Small rule) t step k = smalls rule k

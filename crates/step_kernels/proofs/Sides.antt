@@ -13,6 +13,7 @@ use Rattle.op_element.specs.declared.formula.ElementRule.TheVariants as element
 use Rattle.op_labels.specs.Rules.{Kept}
 use Rattle.op_match.specs.Joins.{AreTogether, instants, joined}
 use Rattle.op_rank.specs.Rules.{Ranking, all_ranked}
+use Rattle.op_ratio.specs.Ratios.{all_ratios}
 use Rattle.op_set.specs.Combining.{all_combined}
 use Rattle.op_small.specs.Rules.{smalls}
 use Rattle.op_small.specs.declared.rule.SmallRule.{SmallRule}
@@ -27,7 +28,7 @@ use Rattle.xfrac.specs.declared.value.PairOp.{PairOp}
 use Rattle.step_kernels.specs.Binaries.{binaries, binary_step}
 use Rattle.step_kernels.specs.Unaries.{reads_rows, unary_at, unary_step}
 use Rattle.step_kernels.specs.declared.binary.BinaryRule.{BinaryRule}
-use Rattle.step_kernels.specs.declared.binary.BinaryRule.TheVariants.{Apply, Join, Combine, Buckets, Rank}
+use Rattle.step_kernels.specs.declared.binary.BinaryRule.TheVariants.{Apply, Join, Combine, Buckets, Rank, Ratio}
 use Rattle.step_kernels.specs.declared.unary.UnaryRule.{UnaryRule}
 use Rattle.step_kernels.specs.declared.unary.UnaryRule.TheVariants as unary
 
@@ -77,6 +78,11 @@ ranked_are rule [] [] = refl
 ranked_are rule [] (b ∷ beside) = refl
 ranked_are rule (r ∷ rows) [] = refl
 ranked_are rule (r ∷ rows) (b ∷ beside) = ap (λ (ss : List StepAt). made (Rank rule.f rule.by rule.label) r b ∷ ss) (ranked_are rule rows beside)
+
+pub ratios_are : (rows beside : List StepAt) → all_ratios rows beside ≡ binaries Ratio rows beside
+ratios_are [] beside = refl
+ratios_are (r ∷ rows) [] = refl
+ratios_are (r ∷ rows) (b ∷ beside) = ap (λ (ss : List StepAt). made Ratio r b ∷ ss) (ratios_are rows beside)
 
 -- a rule that reads the second scalar reads the first
 pub first_too : (rule : ElementRule) → IsTrue (reads_second rule) → IsTrue (reads_first rule)

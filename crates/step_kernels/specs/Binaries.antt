@@ -1,6 +1,7 @@
 -- Kernels that are fed two parts of a query at the same instants. (Prometheus querying, "Functions" and "Operators": the rules are
--- those of the meaning.)
+-- those of the meaning, that of a ratio is that of plans.)
 use Rattle.std.specs.Prelude.{Bool, true, false, List, [], ◌∷◌}
+use Rattle.logical_plan.specs.PlanRules.{ratio}
 use Rattle.op_element.specs.Rules.{element_step, reads_first}
 use Rattle.op_rank.specs.Rules.{is_ranking}
 use Rattle.promql_meaning.specs.Buckets.{bucket_quantiles}
@@ -14,7 +15,7 @@ use Rattle.step_table.specs.declared.step.Step.{Step}
 use Rattle.step_kernels.specs.declared.binary.Binary.{Binary}
 use Rattle.step_kernels.specs.declared.binary.Binary.TheVariants as kernel
 use Rattle.step_kernels.specs.declared.binary.BinaryRule.{BinaryRule}
-use Rattle.step_kernels.specs.declared.binary.BinaryRule.TheVariants.{Apply, Join, Combine, Buckets, Rank}
+use Rattle.step_kernels.specs.declared.binary.BinaryRule.TheVariants.{Apply, Join, Combine, Buckets, Rank, Ratio}
 
 -- ---- the rule
 
@@ -25,6 +26,7 @@ binary_step (Join op pairing) rows beside = paired rows beside op pairing
 binary_step (Combine op pairing) rows beside = combined rows beside op pairing
 binary_step Buckets rows beside = with_scalar bucket_quantiles beside rows
 binary_step (Rank f by label) rows beside = aggregated_with f by label beside rows
+binary_step Ratio rows beside = ratio rows beside
 
 -- what is lent of what is fed: of each step and the step beside it what the rule makes of them, at the step's instant
 abbrev pub binaries : BinaryRule → List StepAt → List StepAt → List StepAt
@@ -43,6 +45,7 @@ takes_scalar (Join op pairing) = false
 takes_scalar (Combine op pairing) = false
 takes_scalar Buckets = true
 takes_scalar (Rank f by label) = true
+takes_scalar Ratio = false
 
 -- ---- a kernel
 
@@ -52,6 +55,7 @@ binary_rule (kernel.Joins k) = Join k.op k.pairing
 binary_rule (kernel.Sets k) = Combine k.op k.pairing
 binary_rule (kernel.Quantiles k) = Buckets
 binary_rule (kernel.Ranks k) = Rank k.rule.f k.rule.by k.rule.label
+binary_rule (kernel.Ratios k) = Ratio
 
 -- what is lent
 abbrev pub binary_lent : Binary → Lent
@@ -60,3 +64,4 @@ binary_lent (kernel.Joins k) = k.lent
 binary_lent (kernel.Sets k) = k.lent
 binary_lent (kernel.Quantiles k) = k
 binary_lent (kernel.Ranks k) = k.lent
+binary_lent (kernel.Ratios k) = k

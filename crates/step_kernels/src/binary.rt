@@ -12,6 +12,7 @@ use op_buckets::Buckets;
 use op_element::{ElementRows, ElementRule};
 use op_match::Joined;
 use op_rank::{Ranked, is_ranking};
+use op_ratio::Ratios;
 use op_set::Combined;
 use std::alloc::{AllocError, Global};
 use step_batch::Batch;
@@ -32,6 +33,8 @@ pub enum BinaryRule {
     /// `topk`, `bottomk`, `quantile` or `count_values`, whose label the text is. The parameter stands beside the rows; for
     /// `count_values` it isn't read.
     Rank(Aggregate, Grouping, Text),
+    /// Each row of a sum, divided by the row of a count that has its labels; the count stands beside the sum.
+    Ratio,
 }
 
 /// A kernel of two parts, and the steps that it made of what it was fed last.
@@ -42,6 +45,7 @@ pub enum Binary {
     Sets(Combined),
     Quantiles(Buckets),
     Ranks(Ranked),
+    Ratios(Ratios),
 }
 
 /// Whether there is a kernel of a rule, as `Binary::new` asks: of all but an aggregation that takes no parameter. It takes no
@@ -61,7 +65,7 @@ pub fn takes_scalar(rule: &BinaryRule) -> bool
 {
     match rule {
         BinaryRule::Apply(rule) => reads_scalar(*rule),
-        BinaryRule::Join(_, _) | BinaryRule::Combine(_, _) => false,
+        BinaryRule::Join(_, _) | BinaryRule::Combine(_, _) | BinaryRule::Ratio => false,
         BinaryRule::Buckets | BinaryRule::Rank(_, _, _) => true,
     }
 }
@@ -80,6 +84,7 @@ impl Binary {
             )?)),
             BinaryRule::Buckets => Ok(Binary::Quantiles(Buckets::new(alloc)?)),
             BinaryRule::Rank(f, by, label) => Ok(Binary::Ranks(Ranked::new(alloc, f, by, label)?)),
+            BinaryRule::Ratio => Ok(Binary::Ratios(Ratios::new(alloc)?)),
         }
     }
 
@@ -97,6 +102,7 @@ impl Binary {
             Binary::Sets(kernel) => kernel.feed(rows, beside),
             Binary::Quantiles(kernel) => kernel.feed(rows, beside),
             Binary::Ranks(kernel) => kernel.feed(rows, beside),
+            Binary::Ratios(kernel) => kernel.feed(rows, beside),
         }
     }
 
@@ -110,6 +116,7 @@ impl Binary {
             Binary::Sets(kernel) => kernel.lend(),
             Binary::Quantiles(kernel) => kernel.lend(),
             Binary::Ranks(kernel) => kernel.lend(),
+            Binary::Ratios(kernel) => kernel.lend(),
         }
     }
 }

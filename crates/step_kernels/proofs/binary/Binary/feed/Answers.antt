@@ -3,7 +3,7 @@ use Rattle.std.proofs.lemmas.Result.{on_ok_weaker}
 use Rattle.step_batch.specs.Lent.{stages}
 use Rattle.step_kernels.specs.Binaries.{binaries, binary_rule}
 use Rattle.step_kernels.specs.declared.binary.Binary.{Binary}
-use Rattle.step_kernels.proofs.Sides.{combined_are, elements_are, joined_are, quantiles_are, ranked_are}
+use Rattle.step_kernels.proofs.Sides.{combined_are, elements_are, joined_are, quantiles_are, ranked_are, ratios_are}
 use Rattle.step_kernels.proofs.binary.Binary.feed.Goals as goal
 
 pub returns-in-Elements-clause-lent : goal.returns-in-Elements-clause-lent
@@ -35,3 +35,9 @@ returns-in-Ranks-clause-lent c =
     let rows = stages c.args.rows.now in
     let beside = stages c.args.beside.now in
     on_ok_weaker c.feed-in-Ranks.result (λ e. e ∙ ranked_are c.in-Ranks.kernel.rule rows beside ∙ ap (λ (k : Binary). binaries (binary_rule k) rows beside) (sym c.in-Ranks.is)) c.feed-in-Ranks.ensures.lent
+
+pub returns-in-Ratios-clause-lent : goal.returns-in-Ratios-clause-lent
+returns-in-Ratios-clause-lent c =
+    let rows = stages c.args.rows.now in
+    let beside = stages c.args.beside.now in
+    on_ok_weaker c.feed-in-Ratios.result (λ e. e ∙ ratios_are rows beside ∙ ap (λ (k : Binary). binaries (binary_rule k) rows beside) (sym c.in-Ratios.is)) c.feed-in-Ratios.ensures

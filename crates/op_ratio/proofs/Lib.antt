@@ -1,0 +1,4 @@
+pub mod Counting
+pub mod Quotients
+pub mod Feeding
+pub mod Naming
