@@ -255,6 +255,18 @@ pub fn quantiles(
     binary(alloc, BinaryRule::Buckets, false, rows, beside)
 }
 
+/// Each row of a sum, divided by the row of a count that has its labels.
+pub fn divided(
+    alloc: Global,
+    sum: Result<Part, Unbuilt>,
+    count: Result<Part, Unbuilt>,
+) -> Result<Part, Unbuilt>
+    ensures { (asked : Asked) (walk : Walk) (p left right : Plan) → p.node ≡ node.Ratio left right → IsPartOf asked walk left sum → IsPartOf asked walk right count → IsPartOf asked walk p result }
+{
+    let (sum, count) = both(sum, count)?;
+    binary(alloc, BinaryRule::Ratio, false, sum, count)
+}
+
 /// A set operator.
 pub fn combined(
     alloc: Global,
