@@ -1,15 +1,15 @@
 -- From what the matches hold to what the words ask for, and what holds of all that is asked for.
 use Rattle.std.proofs.Common.{arith, ◌≡◌, ◌<◌, ◌≤◌, ◌∙◌, ℕ, Bool, true, false, cond, ap, refl, subst, sym, length, List, [], ◌∷◌, Option, None, Some, Result}
-use Rattle.std.specs.Prelude.{String, codes, map, pos, slice_get, string_bytes, option_and_then, option_map, IfOk, IfSome}
+use Rattle.std.specs.Prelude.{String, ⊤, codes, map, pos, slice_get, string_bytes, option_and_then, option_map, IfOk, IfSome}
 use Rattle.std.specs.Str.{bytes_eq}
 use Rattle.std.proofs.lemmas.Slice.Eq.{bytes_eq-Decides}
 use Rattle.std.proofs.lemmas.Result.{IfOk-weaker}
 use Rattle.clap.specs.declared.parser.matches.ArgMatches.{ArgMatches}
-use Rattle.tool_words.specs.Asked.{AsksForBatch, AsksForEdges, BatchesAreAskedFor, EdgesAreAskedFor, Wish, asked, batch_in, batch_of, choices_in, choices_of, closed_edges, edges_in, edges_named, edges_of, if_grid, moments_of, query, query_at, query_of, query_worded, number_of, open_edges, said_batch, test, test_at, test_of, test_worded, time_of, moment_at, range_of, unsaid, unsaid_batch, workload, workload_at, workload_of, workload_worded}
+use Rattle.tool_words.specs.Asked.{AsksForBatch, AsksForEdges, BatchesAreAskedFor, EdgesAreAskedFor, Wish, asked, batch_in, batch_of, choices_in, choices_of, closed_edges, edges_in, edges_named, edges_of, format, format_of, format_worded, if_grid, moments_of, query, query_at, query_of, query_worded, number_of, open_edges, said_batch, test, test_at, test_of, test_worded, time_of, moment_at, range_of, unsaid, unsaid_batch, workload, workload_at, workload_of, workload_worded}
 use Rattle.ticks.specs.Moments.{Moments, is_grid}
 use Rattle.tool_words.specs.Said.{Item, Text, places_of, said, value_of}
 use Rattle.tool_words.specs.Tells.{Holds, Tells}
-use Rattle.tool_words.specs.Views.{HasBatch, HasFiles, HasSeries, IsOneInstant, wish_of}
+use Rattle.tool_words.specs.Views.{AreInBatches, HasBatch, HasFiles, HasSeries, IsOneInstant, wish_of}
 use Rattle.tool_words.specs.declared.asked.Asked.{Asked}
 use Rattle.tool_words.specs.declared.asked.Asked.TheVariants as wanted
 use Rattle.tool_words.specs.declared.asked.Choices.{Choices}
@@ -33,24 +33,22 @@ Alone m = m.instant ≡ true → m.start ≡ m.end
 abbrev Counted : ℕ → ℕ → Type 0
 Counted most n = (0 < n) × (n ≤ most)
 
-abbrev InBatches : Choices → Type 0
-InBatches choices = Counted 1024 choices.batch
-
 abbrev Sound : Wish → Type 0
-Sound (test choices files) = InBatches choices × (0 < length files)
-Sound (query choices moments file expr) = InBatches choices × Alone moments
-Sound (workload choices count) = InBatches choices × Counted 20000 count
+Sound (test choices files) = AreInBatches choices × (0 < length files)
+Sound (query choices moments file expr) = AreInBatches choices × Alone moments
+Sound (workload choices count) = AreInBatches choices × Counted 20000 count
+Sound (format expr) = ⊤
 
 batch_counted : (value : Option Text) → IfSome (batch_of value) (Counted 1024)
 batch_counted None = (omega arith, omega arith)
 batch_counted (Some text) = number_counted 1024 text
 
-choices_counted : (closed : Option Bool) (batch : Option ℕ) → IfSome batch (Counted 1024) → IfSome (choices_of closed batch) InBatches
+choices_counted : (closed : Option Bool) (batch : Option ℕ) → IfSome batch (Counted 1024) → IfSome (choices_of closed batch) AreInBatches
 choices_counted None batch few = tt
 choices_counted (Some closed) None few = tt
 choices_counted (Some closed) (Some batch) few = few
 
-chosen : (items : List Item) → IfSome (choices_in items) InBatches
+chosen : (items : List Item) → IfSome (choices_in items) AreInBatches
 chosen items = choices_counted (edges_in items) (batch_in items) (batch_counted (value_of (codes "batch") items))
 
 grid_alone : (m : Moments) → Alone m → IfSome (if_grid m) Alone
@@ -78,34 +76,38 @@ moments_alone (Some at) None None None = moment_alone (time_of at)
 moments_alone None (Some from) (Some to) (Some step) = range_alone (time_of from) (time_of to) (time_of step)
 moments_alone _ _ _ _ = tt
 
-test_sound : (choices : Choices) → InBatches choices → (words : List Text) → IfSome (test_worded choices words) Sound
+test_sound : (choices : Choices) → AreInBatches choices → (words : List Text) → IfSome (test_worded choices words) Sound
 test_sound choices few [] = tt
 test_sound choices few (file ∷ files) = (few, omega arith)
 
-test_chosen : (choices : Option Choices) → IfSome choices InBatches → (words : List Text) → IfSome (test_at choices words) Sound
+test_chosen : (choices : Option Choices) → IfSome choices AreInBatches → (words : List Text) → IfSome (test_at choices words) Sound
 test_chosen None few words = tt
 test_chosen (Some choices) few words = test_sound choices few words
 
-query_sound : (choices : Choices) → InBatches choices → (m : Moments) → Alone m → (words : List Text) → IfSome (query_worded choices m words) Sound
+query_sound : (choices : Choices) → AreInBatches choices → (m : Moments) → Alone m → (words : List Text) → IfSome (query_worded choices m words) Sound
 query_sound choices few m alone (file ∷ expr ∷ []) = (few, alone)
 query_sound choices few m alone _ = tt
 
-query_chosen : (choices : Option Choices) → IfSome choices InBatches → (m : Option Moments) → IfSome m Alone → (words : List Text) → IfSome (query_at choices m words) Sound
+query_chosen : (choices : Option Choices) → IfSome choices AreInBatches → (m : Option Moments) → IfSome m Alone → (words : List Text) → IfSome (query_at choices m words) Sound
 query_chosen None few m alone words = tt
 query_chosen (Some choices) few None alone words = tt
 query_chosen (Some choices) few (Some m) alone words = query_sound choices few m alone words
 
-counted : (choices : Choices) → InBatches choices → (n : Option ℕ) → IfSome n (Counted 20000) → IfSome (option_map (workload choices) n) Sound
+counted : (choices : Choices) → AreInBatches choices → (n : Option ℕ) → IfSome n (Counted 20000) → IfSome (option_map (workload choices) n) Sound
 counted choices few None h = tt
 counted choices few (Some n) h = (few, h)
 
-workload_sound : (choices : Choices) → InBatches choices → (words : List Text) → IfSome (workload_worded choices words) Sound
+workload_sound : (choices : Choices) → AreInBatches choices → (words : List Text) → IfSome (workload_worded choices words) Sound
 workload_sound choices few (count ∷ []) = counted choices few (number_of 20000 count) (number_counted 20000 count)
 workload_sound choices few _ = tt
 
-workload_chosen : (choices : Option Choices) → IfSome choices InBatches → (words : List Text) → IfSome (workload_at choices words) Sound
+workload_chosen : (choices : Option Choices) → IfSome choices AreInBatches → (words : List Text) → IfSome (workload_at choices words) Sound
 workload_chosen None few words = tt
 workload_chosen (Some choices) few words = workload_sound choices few words
+
+format_sound : (words : List Text) → IfSome (format_worded words) Sound
+format_sound (expr ∷ []) = tt
+format_sound _ = tt
 
 -- what the items of each command ask for
 pub tests_sound : (said : Option (List Item)) → IfSome (option_and_then test_of said) Sound
@@ -121,6 +123,10 @@ pub workloads_sound : (said : Option (List Item)) → IfSome (option_and_then wo
 workloads_sound None = tt
 workloads_sound (Some items) = workload_chosen (choices_in items) (chosen items) (places_of items)
 
+pub formats_sound : (said : Option (List Item)) → IfSome (option_and_then format_of said) Sound
+formats_sound None = tt
+formats_sound (Some items) = format_sound (places_of items)
+
 -- what an answer stands for is sound, so the answer is
 module _ (w : Option Wish) (sound : IfSome w Sound) where
   sound_too : (asked : Asked) → Some (wish_of asked) ≡ w → Sound (wish_of asked)
@@ -131,24 +137,28 @@ module _ (w : Option Wish) (sound : IfSome w Sound) where
   has_files (Some (wanted.Test choices files)) is = (sound_too (wanted.Test choices files) is).1
   has_files (Some (wanted.Query choices grid instant file expr)) is = tt
   has_files (Some (wanted.Workload choices count)) is = tt
+  has_files (Some (wanted.Format expr)) is = tt
 
   is_one_instant : (o : Option Asked) → option_map wish_of o ≡ w → IfSome o IsOneInstant
   is_one_instant None is = tt
   is_one_instant (Some (wanted.Test choices files)) is = tt
   is_one_instant (Some (wanted.Query choices grid instant file expr)) is = (sound_too (wanted.Query choices grid instant file expr) is).1
   is_one_instant (Some (wanted.Workload choices count)) is = tt
+  is_one_instant (Some (wanted.Format expr)) is = tt
 
   has_series : (o : Option Asked) → option_map wish_of o ≡ w → IfSome o HasSeries
   has_series None is = tt
   has_series (Some (wanted.Test choices files)) is = tt
   has_series (Some (wanted.Query choices grid instant file expr)) is = tt
   has_series (Some (wanted.Workload choices count)) is = (sound_too (wanted.Workload choices count) is).1
+  has_series (Some (wanted.Format expr)) is = tt
 
   has_batch : (o : Option Asked) → option_map wish_of o ≡ w → IfSome o HasBatch
   has_batch None is = tt
   has_batch (Some (wanted.Test choices files)) is = (sound_too (wanted.Test choices files) is).0
   has_batch (Some (wanted.Query choices grid instant file expr)) is = (sound_too (wanted.Query choices grid instant file expr) is).0
   has_batch (Some (wanted.Workload choices count)) is = (sound_too (wanted.Workload choices count) is).0
+  has_batch (Some (wanted.Format expr)) is = tt
 
   pub some_files : {E : Type 0} (r : Result (Option Asked) E) → IfOk r (λ asked. option_map wish_of asked ≡ w) → IfOk r (λ asked. IfSome asked HasFiles)
   some_files r read = IfOk-weaker r _ _ has_files read
@@ -172,16 +182,16 @@ apart x y other = go (bytes_eq x y) refl
     go false e = e
 
 unnamed : (command : Text) (rest : List Text) → (command ≡ codes "promqltest" → ⊥) → (command ≡ codes "query" → ⊥)
-    → (command ≡ codes "workload" → ⊥) → None ≡ asked (command ∷ rest)
-unnamed command rest no_test no_query no_workload =
-    rw (apart command (codes "promqltest") no_test, apart command (codes "query") no_query, apart command (codes "workload") no_workload) refl
+    → (command ≡ codes "workload" → ⊥) → (command ≡ codes "format" → ⊥) → None ≡ asked (command ∷ rest)
+unnamed command rest no_test no_query no_workload no_format =
+    rw (apart command (codes "promqltest") no_test, apart command (codes "query") no_query, apart command (codes "workload") no_workload, apart command (codes "format") no_format) refl
 
 pub no_command : {Z : Type 0} (words : List (String Z)) (first : String Z) (command : Text) → Some first ≡ slice_get words 0 → command ≡ string_bytes first
-    → (command ≡ codes "promqltest" → ⊥) → (command ≡ codes "query" → ⊥) → (command ≡ codes "workload" → ⊥) → None ≡ asked (map string_bytes words)
-no_command [] first command is value no_test no_query no_workload = absurd (cc)
-no_command (word ∷ words) first command is value no_test no_query no_workload =
+    → (command ≡ codes "promqltest" → ⊥) → (command ≡ codes "query" → ⊥) → (command ≡ codes "workload" → ⊥) → (command ≡ codes "format" → ⊥) → None ≡ asked (map string_bytes words)
+no_command [] first command is value no_test no_query no_workload no_format = absurd (cc)
+no_command (word ∷ words) first command is value no_test no_query no_workload no_format =
     let same : string_bytes word ≡ command = ap string_bytes (let e : word ≡ first = cc in e) ∙ sym value in
-    unnamed (string_bytes word) (map string_bytes words) (λ e. no_test (sym same ∙ e)) (λ e. no_query (sym same ∙ e)) (λ e. no_workload (sym same ∙ e))
+    unnamed (string_bytes word) (map string_bytes words) (λ e. no_test (sym same ∙ e)) (λ e. no_query (sym same ∙ e)) (λ e. no_workload (sym same ∙ e)) (λ e. no_format (sym same ∙ e))
 
 -- ---- the edges that are asked for
 

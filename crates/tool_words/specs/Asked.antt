@@ -13,18 +13,22 @@ use Rattle.tool_words.specs.Said.{Item, Text, places_of, said, value_of}
 use Rattle.tool_words.specs.declared.asked.Choices.{Choices}
 
 -- what a command asks for: to judge files, to answer an expression over a file's samples, or to judge a script that is made of
--- so many series; each with what is chosen for its evaluations
+-- so many series, each with what is chosen for its evaluations; or to print an expression, of which nothing is evaluated
 pub data Wish : Type 0 where
   test : Choices → List Text → Wish
   query : Choices → Moments → Text → Text → Wish
   workload : Choices → ℕ → Wish
+  format : Text → Wish
 
--- the options of `promqltest` and `workload`, and those of `query`
+-- the options of `promqltest` and `workload`, those of `query`, and those of `format`, which has none
 abbrev pub test_options : List Text
 test_options = codes "edges" ∷ codes "batch" ∷ []
 
 abbrev pub query_options : List Text
 query_options = codes "edges" ∷ codes "batch" ∷ codes "at" ∷ codes "from" ∷ codes "to" ∷ codes "step" ∷ []
+
+abbrev pub format_options : List Text
+format_options = []
 
 -- the value of `--edges`: windows are open on the left under v3, as without it, and closed under v2
 abbrev pub edges_named : Text → Option Bool
@@ -123,12 +127,21 @@ workload_at (Some choices) words = workload_worded choices words
 abbrev pub workload_of : List Item → Option Wish
 workload_of items = workload_at (choices_in items) (places_of items)
 
+-- an expression
+abbrev pub format_worded : List Text → Option Wish
+format_worded (expr ∷ []) = Some (format expr)
+format_worded _ = None
+
+abbrev pub format_of : List Item → Option Wish
+format_of items = format_worded (places_of items)
+
 abbrev pub command_of : Text → List Text → Option Wish
 command_of command rest =
     if bytes_eq command (codes "promqltest") then option_and_then test_of (said test_options rest)
     else (if bytes_eq command (codes "query") then option_and_then query_of (said query_options rest)
     else (if bytes_eq command (codes "workload") then option_and_then workload_of (said test_options rest)
-    else None))
+    else (if bytes_eq command (codes "format") then option_and_then format_of (said format_options rest)
+    else None)))
 
 -- what the program's words ask for, where they follow the rules
 abbrev pub asked : List Text → Option Wish

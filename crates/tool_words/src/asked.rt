@@ -32,4 +32,8 @@ pub enum Asked {
         choices: Choices,
         count: u32,
     },
+    /// To print an expression in its canonical form.
+    Format {
+        expr: Text,
+    },
 }

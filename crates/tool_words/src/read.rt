@@ -1,6 +1,6 @@
 //! What the words of the program ask for.
 ghost use Rattle.std.specs.Prelude.{◌≡◌, IfOk, IfSome, List, codes, drop, map, option_and_then, option_map, string_bytes};
-ghost use Rattle.tool_words.specs.Asked.{asked, batch_in, choices_in, edges_in, edges_named, moments_of, query_of, query_options, query_worded, test_of, test_options, workload_of, workload_worded};
+ghost use Rattle.tool_words.specs.Asked.{asked, batch_in, choices_in, edges_in, edges_named, format_of, format_options, format_worded, moments_of, query_of, query_options, query_worded, test_of, test_options, workload_of, workload_worded};
 ghost use Rattle.tool_words.specs.Said.{Item, said, value_of};
 ghost use Rattle.tool_words.specs.Tells.{Holds};
 ghost use Rattle.tool_words.specs.Views.{HasBatch, HasFiles, HasSeries, IsOneInstant, moments_seen, wish_of};
@@ -13,10 +13,12 @@ use clap::ArgMatches;
 use holders::{Items, Text};
 use std::alloc::{AllocError, Global};
 
-/// The options of `promqltest` and `workload`, and those of `query`.
+/// The options of `promqltest` and `workload`, those of `query`, and those of `format`.
 static TEST_OPTIONS: [&str; 2] = ["edges", "batch"];
 
 static QUERY_OPTIONS: [&str; 6] = ["edges", "batch", "at", "from", "to", "step"];
+
+static FORMAT_OPTIONS: [&str; 0] = [];
 
 /// No workload has more series than this.
 const MOST_SERIES: u32 = 20_000;
@@ -169,6 +171,27 @@ fn judge_workload(matches: &ArgMatches<'_>) -> Option<Asked>
     }
 }
 
+/// The expression that the words give.
+fn format_in(alloc: Global, words: &[&str]) -> Result<Option<Asked>, AllocError>
+    ensures { IfOk result (λ asked. option_map wish_of asked ≡ format_worded (map (λ w. w.now) words.now)) }
+{
+    let [expr] = words else {
+        return Ok(None);
+    };
+    Ok(Some(Asked::Format {
+        expr: Text::of(alloc, expr)?,
+    }))
+}
+
+fn judge_format(alloc: Global, matches: &ArgMatches<'_>) -> Result<Option<Asked>, AllocError>
+    ensures { (items : List Item) → Holds matches.now items → IfOk result (λ asked. option_map wish_of asked ≡ format_of items) }
+{
+    match places_in(matches) {
+        None => Ok(None),
+        Some(words) => format_in(alloc, words),
+    }
+}
+
 /// `promqltest [--edges E] [--batch B] FILE..`
 fn read_test(alloc: Global, words: &[String]) -> Result<Option<Asked>, AllocError>
     ensures { IfOk result (λ asked. option_map wish_of asked ≡ option_and_then test_of (said test_options (drop 1 (map string_bytes words.now)))) }
@@ -199,11 +222,21 @@ fn read_workload(alloc: Global, words: &[String]) -> Result<Option<Asked>, Alloc
     }
 }
 
+/// `format EXPR`
+fn read_format(alloc: Global, words: &[String]) -> Result<Option<Asked>, AllocError>
+    ensures { IfOk result (λ asked. option_map wish_of asked ≡ option_and_then format_of (said format_options (drop 1 (map string_bytes words.now)))) }
+{
+    match matches_in(alloc, "format", &FORMAT_OPTIONS, words)? {
+        Some(matches) => judge_format(alloc, &matches),
+        None => Ok(None),
+    }
+}
+
 /// What the words behind the program's name ask for, where they follow the rules: `promqltest FILE..`,
 /// `query [--at T | --from A --to B --step S] FILE EXPR`, or `workload N` with N from 1 to 20,000; each takes `--edges v3`,
-/// which is what holds without it, or `--edges v2` too, and `--batch B` with B from 1 to 1,024, which is 64 without it. Numbers
-/// are decimal digits without a leading zero. Each option stands at most once, in any place before a word `--`, as
-/// `--name value` or `--name=value`. The only error is want of memory.
+/// which is what holds without it, or `--edges v2` too, and `--batch B` with B from 1 to 1,024, which is 64 without it. Or
+/// `format EXPR`, which takes no option. Numbers are decimal digits without a leading zero. Each option stands at most once, in
+/// any place before a word `--`, as `--name value` or `--name=value`. The only error is want of memory.
 pub fn read_words(alloc: Global, words: &[String]) -> Result<Option<Asked>, AllocError>
     ensures wish { IfOk result (λ wanted. option_map wish_of wanted ≡ asked (map string_bytes words.now)) }
     ensures files { IfOk result (λ wanted. IfSome wanted HasFiles) }
@@ -218,6 +251,7 @@ pub fn read_words(alloc: Global, words: &[String]) -> Result<Option<Asked>, Allo
         "promqltest" => read_test(alloc, words),
         "query" => read_query(alloc, words),
         "workload" => read_workload(alloc, words),
+        "format" => read_format(alloc, words),
         _ => Ok(None),
     }
 }

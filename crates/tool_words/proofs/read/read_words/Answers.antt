@@ -1,8 +1,8 @@
 use Rattle.std.proofs.Common.{drop, map}
 use Rattle.std.specs.Prelude.{option_and_then, string_bytes}
-use Rattle.tool_words.specs.Asked.{query_of, query_options, test_of, test_options, workload_of}
+use Rattle.tool_words.specs.Asked.{format_of, format_options, query_of, query_options, test_of, test_options, workload_of}
 use Rattle.tool_words.specs.Said.{said}
-use Rattle.tool_words.proofs.Asking.{in_batches, no_command, one_instant, queries_sound, some_files, some_series, tests_sound, workloads_sound}
+use Rattle.tool_words.proofs.Asking.{formats_sound, in_batches, no_command, one_instant, queries_sound, some_files, some_series, tests_sound, workloads_sound}
 use Rattle.tool_words.proofs.read.read_words.Goals as goal
 
 pub returns-in-promqltest-clause-files : goal.returns-in-promqltest-clause-files
@@ -65,7 +65,27 @@ returns-in-workload-clause-batch c =
     let items = said test_options (drop 1 (map string_bytes c.args.words.now)) in
     in_batches (option_and_then workload_of items) (workloads_sound items) c.read_workload.result c.read_workload.ensures
 
+pub returns-in-format-clause-files : goal.returns-in-format-clause-files
+returns-in-format-clause-files c =
+    let items = said format_options (drop 1 (map string_bytes c.args.words.now)) in
+    some_files (option_and_then format_of items) (formats_sound items) c.read_format.result c.read_format.ensures
+
+pub returns-in-format-clause-alone : goal.returns-in-format-clause-alone
+returns-in-format-clause-alone c =
+    let items = said format_options (drop 1 (map string_bytes c.args.words.now)) in
+    one_instant (option_and_then format_of items) (formats_sound items) c.read_format.result c.read_format.ensures
+
+pub returns-in-format-clause-series : goal.returns-in-format-clause-series
+returns-in-format-clause-series c =
+    let items = said format_options (drop 1 (map string_bytes c.args.words.now)) in
+    some_series (option_and_then format_of items) (formats_sound items) c.read_format.result c.read_format.ensures
+
+pub returns-in-format-clause-batch : goal.returns-in-format-clause-batch
+returns-in-format-clause-batch c =
+    let items = said format_options (drop 1 (map string_bytes c.args.words.now)) in
+    in_batches (option_and_then format_of items) (formats_sound items) c.read_format.result c.read_format.ensures
+
 pub returns-in_default-as_str-clause-wish : goal.returns-in_default-as_str-clause-wish
 returns-in_default-as_str-clause-wish c =
     no_command c.args.words.now c.in-Some.command.now _ c.in-Some.ensures.value c.as_str.ensures.value c.in_default-as_str.not-promqltest c.in_default-as_str.not-query
-    c.in_default-as_str.not-workload
+    c.in_default-as_str.not-workload c.in_default-as_str.not-format

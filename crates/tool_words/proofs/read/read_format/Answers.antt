@@ -1,0 +1,6 @@
+use Rattle.tool_words.specs.Asked.{format_of}
+use Rattle.tool_words.proofs.Asking.{answered}
+use Rattle.tool_words.proofs.read.read_format.Goals as goal
+
+pub returns-in-Some : goal.returns-in-Some
+returns-in-Some c = answered c.in-Some.matches _ c.judge_format.result format_of (rw c.in-Some.is at c.in_ok-matches.ensures) c.judge_format.ensures
