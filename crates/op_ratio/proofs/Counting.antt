@@ -1,5 +1,5 @@
 -- The counts that are noted under numbers, and the quotients of rows by them.
-use Rattle.std.proofs.Common.{◌≡◌, ◌≢◌, ◌⊎◌, ◌∙◌, ◌+◌, ◌<◌, ℕ, zero, suc, arith, List, [], ◌∷◌, ◌++◌, length, get_or, set, take, refl, sym, ap, subst, Option, None, Some}
+use Rattle.std.proofs.Common.{◌≡◌, ◌≢◌, ◌⊎◌, ◌∙◌, ◌+◌, ◌<◌, ℕ, zero, suc, arith, List, [], ◌∷◌, ◌++◌, length, get_or, set, take, refl, sym, ap, subst, None, inl, inr}
 use Rattle.std.specs.Prelude.{◌==◌, true, false}
 use Rattle.std.specs.List.{AllByRecursion}
 use Rattle.std.proofs.lemmas.Bool.Decides.{eqb_tells}

@@ -1,5 +1,5 @@
 -- Labels by their numbers.
-use Rattle.std.proofs.Common.{◌≡◌, ◌∙◌, ◌<◌, ℕ, zero, suc, arith, List, [], ◌∷◌, length, get_or, slice_get, map, refl, sym, ap, subst, Some}
+use Rattle.std.proofs.Common.{◌≡◌, ◌∙◌, ◌<◌, ℕ, zero, suc, arith, List, [], ◌∷◌, length, get_or, slice_get, map, refl, ap, subst, Some}
 use Rattle.std.proofs.lemmas.Option.{slice_get_within}
 use Rattle.step_batch.specs.Lent.{Lent}
 use Rattle.step_put.specs.Placed.{IsPlaced, Naming, left_of}

@@ -1,5 +1,5 @@
 -- The quotients of slots are the ratio of the steps that they stand for.
-use Rattle.std.proofs.Common.{◌≡◌, ◌⊎◌, ◌∙◌, ◌+◌, ◌<◌, ℕ, zero, suc, arith, Bool, true, false, cond, List, [], ◌∷◌, ◌++◌, length, get_or, slice_get, map, refl, sym, ap, subst, Option, None, Some}
+use Rattle.std.proofs.Common.{◌≡◌, ◌⊎◌, ◌∙◌, ◌+◌, ◌<◌, ℕ, zero, suc, arith, Bool, true, false, cond, List, [], ◌∷◌, ◌++◌, length, get_or, slice_get, map, refl, sym, ap, subst, Option, None, Some, inl, inr}
 use Rattle.std.specs.Prelude.{pos}
 use Rattle.std.specs.BTreeMap.{is_at}
 use Rattle.std.specs.List.{AllByRecursion, IsDistinct}
@@ -28,7 +28,7 @@ use Rattle.step_table.specs.Groups.{Names}
 use Rattle.step_table.specs.Laws.{TakenIsTable}
 use Rattle.step_table.specs.Outcomes.{settled, taken}
 use Rattle.step_table.specs.Shuffles.{OutcomesIgnoreOrder, Shuffled, none, kept, swapped, joined}
-use Rattle.step_table.specs.Shuffling.{mapped_shuffled, turned_back}
+use Rattle.step_table.specs.Shuffling.{mapped_shuffled}
 use Rattle.step_table.specs.Timed.{StepAt}
 use Rattle.step_table.specs.Unions.{united}
 use Rattle.step_table.specs.WellFormed.{IsTable}
@@ -100,7 +100,7 @@ lacks_shuffled names _ _ none l = l
 lacks_shuffled names _ _ (kept x us vs s) l = (l.0, lacks_shuffled names us vs s l.1)
 lacks_shuffled names _ _ (swapped x y us) l =
     let rest : LacksRow names (y ∷ us) = lacks_more names x (y ∷ us) l in
-    (lacks_first names y us rest, lacks_first names x (y ∷ us) l, lacks_more names y us rest)
+    (lacks_first names y us rest, (lacks_first names x (y ∷ us) l, lacks_more names y us rest))
 lacks_shuffled names _ _ (joined us vs ws s t) l = lacks_shuffled names vs ws t (lacks_shuffled names us vs s l)
 
 is_equal : (o : Ordering) → is_eq o ≡ true → o ≡ Equal

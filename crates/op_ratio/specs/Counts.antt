@@ -1,5 +1,5 @@
 -- Labels by their numbers, the count that is noted under a number, and the quotients of rows by these.
-use Rattle.std.specs.Prelude.{◌≡◌, ◌<◌, ◌⊎◌, ℕ, List, [], ◌∷◌, length, slice_index_or, Option, None, Some, ⊤, ⊥}
+use Rattle.std.specs.Prelude.{◌≡◌, ◌<◌, ◌⊎◌, ℕ, List, [], ◌∷◌, length, slice_index_or, Option, None, Some, ⊤}
 use Rattle.std.specs.List.{AllByRecursion}
 use Rattle.logical_plan.specs.PlanRules.{divided_by}
 use Rattle.step_batch.specs.declared.steps.Slot.{Slot}

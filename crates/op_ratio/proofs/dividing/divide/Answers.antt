@@ -1,4 +1,4 @@
-use Rattle.std.proofs.Common.{◌≡◌, ◌∙◌, ◌+◌, ◌<◌, ℕ, arith, refl, length, sym, subst, take}
+use Rattle.std.proofs.Common.{◌+◌, ◌<◌, ℕ, arith, refl, length, sym, subst, take}
 use Rattle.step_batch.specs.declared.steps.Slot.{Slot}
 use Rattle.step_put.specs.declared.placed.PlacedOutcome.{PlacedOutcome}
 use Rattle.op_ratio.specs.Counts.{AreQuotients, IsCount, IsQuotient}

@@ -4,7 +4,6 @@ use Rattle.label_set.specs.LabelEquality.{labels_eq}
 use Rattle.step_batch.specs.Lent.{Lent, SlotsRise, entries_of, stages, step_of}
 use Rattle.step_put.specs.Placed.{PlacesRise}
 use Rattle.step_put.specs.Puts.{AreAt}
-use Rattle.step_put.specs.declared.placed.PlacedOutcome.{PlacedOutcome}
 use Rattle.step_table.specs.Groups.{Names}
 use Rattle.step_table.specs.Unions.{united}
 use Rattle.step_table.specs.declared.marks.Marks.{Marks}
