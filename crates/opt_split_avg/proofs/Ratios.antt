@@ -1,6 +1,6 @@
 -- A sum divided by a count is the average.
 use Rattle.std.proofs.Common.{◌≡◌, ◌∙◌, ℕ, List, [], ◌∷◌, ◌++◌, map, ap, ap₂, sym, refl, subst, Some, None, Bool, true, false, cond, append_assoc}
-use Rattle.std.specs.Prelude.{ℤ, Option, ◌||◌, length, fold}
+use Rattle.std.specs.Prelude.{ℤ, Option, ◌||◌, length, fold, nat_lt, if◌then◌else◌}
 use Rattle.std.specs.List.{AllByRecursion, filter_map, list_any}
 use Rattle.std.specs.BTreeMap.{is_at}
 use Rattle.std.specs.BTreeSet.{insert_key}
@@ -40,15 +40,17 @@ use Rattle.logical_plan.specs.PlanRules.{keyed, ratio, ratio_outcome}
 use Rattle.logical_plan.specs.declared.nodes.Plan.{Plan}
 use Rattle.logical_plan.specs.declared.nodes.PlanNode.TheVariants as node
 use Rattle.logical_plan.specs.declared.nodes.PlanNode.TheOpen.{PlanNode-F}
+use Rattle.logical_plan.specs.declared.nodes.PlanNode.TheViews.{roll-PlanNode, outs-Group}
+use Rattle.logical_plan.specs.declared.nodes.PlanNode.TheFolds.{fold_out-PlanNode}
 use Rattle.logical_plan.specs.Lowering.{planned}
 use Rattle.logical_plan.specs.PlanFolds.{of-Group}
-use Rattle.logical_plan.specs.PlanMeaning.{givens_at, node_meant, plan_meant}
+use Rattle.logical_plan.specs.PlanMeaning.{Meant, givens_at, node_meant, plan_meant}
 use Rattle.promql_meaning.specs.Meaning.{step_at, zero_number}
 use Rattle.promql_meaning.specs.Selecting.{Asked}
 use Rattle.promql_meaning.specs.declared.given.Given.TheVariants as given
 use Rattle.plan_rewrite.specs.NodeMeanings.{at_ratio, rolled_means}
-use Rattle.plan_rewrite.specs.Rebuilding.{KeepsMeaning}
-use Rattle.opt_split_avg.specs.Averages.{split_average}
+use Rattle.plan_rewrite.specs.Rebuilding.{KeepsMeaning, node_of}
+use Rattle.opt_split_avg.specs.Averages.{deepest_of, most_nested, nested, split_average}
 
 -- ---- one union more
 
@@ -254,11 +256,17 @@ module _ (asked : Asked) where
   group_means at f by arguments label = of-Group (node_meant asked) (λ p. p.node) at f by arguments label
 
   pub average_kept : KeepsMeaning asked split_average
-  average_kept at (PlanNode-F.Group Avg by arguments label) =
-      at_ratio asked (planned at (node.Group Sum by arguments label)) (planned at (node.Group Count by arguments label))
-      ∙ ap₂ (λ x y. node_meant asked (PlanNode-F.Ratio x y)) (group_means at Sum by arguments label) (group_means at Count by arguments label)
-      ∙ ap (λ (step : ℤ → Step). record { own = false; gives = λ (t : ℤ). given.Vector (step t) }) (λ i. λ (t : ℤ). ratio_is_average by zero_number [] (step_at (givens_at (map (plan_meant asked) arguments) t) 0) i)
-      ∙ sym (rolled_means asked (PlanNode-F.Group Avg by arguments label))
+  average_kept at (PlanNode-F.Group Avg by arguments label) = one (nat_lt (deepest_of (map nested arguments)) most_nested)
+    where
+      one : (b : Bool) → node_of asked (if b then node.Ratio (planned at (node.Group Sum by arguments label)) (planned at (node.Group Count by arguments label)) else node.Group Avg by arguments label) ≡ node_of asked (roll-PlanNode (PlanNode-F.Group Avg by arguments label))
+      one false =
+          fold_out-PlanNode Meant Meant (node_meant asked) (λ p. p.node) (node.Group Avg by arguments label) ∙ rw outs-Group refl
+          ∙ sym (rolled_means asked (PlanNode-F.Group Avg by arguments label))
+      one true =
+          at_ratio asked (planned at (node.Group Sum by arguments label)) (planned at (node.Group Count by arguments label))
+          ∙ ap₂ (λ x y. node_meant asked (PlanNode-F.Ratio x y)) (group_means at Sum by arguments label) (group_means at Count by arguments label)
+          ∙ ap (λ (step : ℤ → Step). record { own = false; gives = λ (t : ℤ). given.Vector (step t) }) (λ i. λ (t : ℤ). ratio_is_average by zero_number [] (step_at (givens_at (map (plan_meant asked) arguments) t) 0) i)
+          ∙ sym (rolled_means asked (PlanNode-F.Group Avg by arguments label))
   average_kept at (PlanNode-F.Group aggregate.Sum by arguments label) = refl
   average_kept at (PlanNode-F.Group aggregate.Min by arguments label) = refl
   average_kept at (PlanNode-F.Group aggregate.Max by arguments label) = refl

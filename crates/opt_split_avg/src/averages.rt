@@ -5,6 +5,7 @@ ghost use Rattle.opt_split_avg.specs.Averages.{split_average};
 ghost use Rattle.plan_rewrite.specs.Rebuilding.{MeanTheSame, rebuilt};
 ghost use Rattle.std.specs.Prelude.{◌≡◌, IfOk};
 
+use crate::nesting::{MOST_NESTED, all_nested};
 use func_table::Aggregate;
 use holders::{Boxed, Items, Text};
 use label_set::Grouping;
@@ -12,7 +13,7 @@ use logical_plan::{Plan, PlanNode};
 use plan_rewrite::{Rewrite, rewritten};
 use std::alloc::{AllocError, Global};
 
-/// Each average becomes a sum divided by a count.
+/// Averages become sums divided by counts.
 struct SplitAverages;
 
 impl Rewrite for SplitAverages {
@@ -21,7 +22,10 @@ impl Rewrite for SplitAverages {
     fn change(&self, alloc: Global, at: u32, node: PlanNode) -> Result<PlanNode, AllocError> {
         match node {
             PlanNode::Group(Aggregate::Avg, by, arguments, label) => {
-                ratio(alloc, at, by, arguments, label)
+                if all_nested(arguments.as_slice()) < MOST_NESTED {
+                    return ratio(alloc, at, by, arguments, label);
+                }
+                Ok(PlanNode::Group(Aggregate::Avg, by, arguments, label))
             }
             node => Ok(node),
         }
@@ -57,10 +61,11 @@ fn ratio(
     })
 }
 
-/// A plan in which each average is a sum divided by a count of the same grouping, both at its place. It means what the plan
-/// meant, rows, notes and marks, on every list of samples and at every instant. What an average is taken of stands twice in it,
-/// so that each average above a part doubles that part. The only error is want of memory. (thanos-io/promql-engine, the
-/// optimiser of averages.)
+/// A plan in which each average is a sum divided by a count of the same grouping, both at its place. What is split stands twice
+/// in it; so of averages that stand in each other four are split, from the innermost one on, and those above them stay, and no
+/// part stands more than 16 times. It means what the plan meant, rows, notes and marks, on every list of samples and at every
+/// instant. The only error is want of memory. (thanos-io/promql-engine, the optimiser of averages; the end to it is this
+/// project's own.)
 pub fn apply(alloc: Global, p: Plan) -> Result<Plan, AllocError>
     ensures plan { IfOk result (λ q. q ≡ rebuilt split_average p) }
     ensures means { IfOk result (λ q. MeanTheSame q p) }

@@ -2,5 +2,6 @@
 #![tactic(auto)]
 
 mod averages;
+mod nesting;
 
 pub use averages::apply;
