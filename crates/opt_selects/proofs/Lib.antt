@@ -1,5 +1,5 @@
-mod Lasts
 mod Merges
+mod Numbers
 mod Orders
 mod Parts
 mod Trims

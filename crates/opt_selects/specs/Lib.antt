@@ -1,3 +1,4 @@
 pub mod Bases
+pub mod RuleKeys
 pub mod Selectors
 pub mod Trimming

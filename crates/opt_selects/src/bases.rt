@@ -1,9 +1,11 @@
 //! The base of a selector.
 ghost use Rattle.opt_selects.specs.Bases.{base_among, is_base, is_equality, names_metric, same_fixed, same_flag, same_moment, same_range, share_metric};
-ghost use Rattle.plan_rewrite.specs.RuleLists.{is_part as is_part_of, lacking as lacking_of};
-ghost use Rattle.std.specs.Prelude.{◌≡◌, false, option_map, IfOk, IsTrue};
+ghost use Rattle.opt_selects.specs.RuleKeys.{rule_key};
+ghost use Rattle.plan_rewrite.specs.RuleLists.{lacking as lacking_of};
+ghost use Rattle.std.specs.Prelude.{◌≡◌, map, option_map, IfOk};
 
 use crate::found::Found;
+use crate::keyed::{Keyed, keys_of};
 use holders::Items;
 use label_set::{METRIC_NAME, Rule, RuleKind};
 use plan_rewrite::{has_rule, is_part};
@@ -71,25 +73,9 @@ fn share_metric(a: &[Rule], b: &[Rule]) -> bool
     false
 }
 
-/// Whether the last rule of the first list isn't among those of the second, which is asked first since it tells most lists apart.
-#[tactic(auto, using(crate::proofs::Lasts::no_part))]
-fn lacks_last(a: &[Rule], b: &[Rule]) -> bool
-    ensures { IsTrue result → is_part_of a.now b.now ≡ false }
-{
-    if a.is_empty() {
-        return false;
-    }
-    let rule = &a[a.len() - 1];
-    !has_rule(b, rule)
-}
-
-#[tactic(auto, using(crate::proofs::Lasts::no_base))]
-fn is_base(a: &Found, rules: &[Rule], moment: &Moment, range: Option<Ms>) -> bool
+fn is_base_of(a: &Found, rules: &[Rule], moment: &Moment, range: Option<Ms>) -> bool
     ensures { result ≡ is_base rules.now moment.now range a.now }
 {
-    if lacks_last(a.rules.as_slice(), rules) {
-        return false;
-    }
     same_moment(&a.moment, moment)
         && same_range(a.range, range)
         && share_metric(a.rules.as_slice(), rules)
@@ -97,21 +83,47 @@ fn is_base(a: &Found, rules: &[Rule], moment: &Moment, range: Option<Ms>) -> boo
         && !is_part(rules, a.rules.as_slice())
 }
 
-/// The rules of the first selector that is a base for rules at a moment and over a range.
-pub(crate) fn base_among<'f>(
-    found: &'f [Found],
+/// Whether a selector is a base for rules with these numbers. Numbers are asked first, since they tell most rules apart.
+fn is_base(a: &Keyed, keys: &[u64], rules: &[Rule], moment: &Moment, range: Option<Ms>) -> bool
+    requires { keys.now ≡ map rule_key rules.now }
+    ensures { result ≡ is_base rules.now moment.now range a.now }
+{
+    if !a.has_keys_in(keys) {
+        return false;
+    }
+    is_base_of(a.found(), rules, moment, range)
+}
+
+fn first_base<'f>(
+    found: &'f [Keyed],
+    keys: &[u64],
     rules: &[Rule],
     moment: &Moment,
     range: Option<Ms>,
 ) -> Option<&'f Items<Rule>>
+    requires { keys.now ≡ map rule_key rules.now }
     ensures { option_map (λ base. base.now) result ≡ base_among found.now rules.now moment.now range }
 {
     for a in found {
-        if is_base(a, rules, moment, range) {
-            return Some(&a.rules);
+        if is_base(a, keys, rules, moment, range) {
+            return Some(a.rules());
         }
     }
     None
+}
+
+/// The rules of the first selector that is a base for rules at a moment and over a range. The only error is want of memory.
+pub(crate) fn base_among<'f>(
+    alloc: Global,
+    found: &'f [Keyed],
+    rules: &[Rule],
+    moment: &Moment,
+    range: Option<Ms>,
+) -> Result<Option<&'f Items<Rule>>, AllocError>
+    ensures { IfOk result (λ base. option_map (λ b. b.now) base ≡ base_among found.now rules.now moment.now range) }
+{
+    let keys = keys_of(alloc, rules)?;
+    Ok(first_base(found, keys.as_slice(), rules, moment, range))
 }
 
 /// The rules of the second list that the first one lacks.

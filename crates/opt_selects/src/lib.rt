@@ -4,6 +4,7 @@
 
 mod bases;
 mod found;
+mod keyed;
 mod merging;
 mod trimming;
 

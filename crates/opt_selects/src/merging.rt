@@ -6,7 +6,8 @@ ghost use Rattle.plan_rewrite.specs.Rebuilding.{MeanTheSame, rebuilt};
 ghost use Rattle.std.specs.Prelude.{◌≡◌, false, Some, None, IfOk};
 
 use crate::bases::{base_among, lacking};
-use crate::found::{Found, found_in};
+use crate::found::found_in;
+use crate::keyed::{Keyed, with_keys};
 use holders::{Boxed, Items};
 use label_set::Rule;
 use logical_plan::{Plan, PlanNode};
@@ -19,7 +20,7 @@ use ticks::Ms;
 /// Selectors over those of fewer rules.
 #[derive(Clone, Copy)]
 struct MergeSelects<'f> {
-    found: &'f [Found],
+    found: &'f [Keyed],
 }
 
 impl<'f> Rewrite for MergeSelects<'f> {
@@ -57,14 +58,14 @@ fn filter(
 
 fn select_over_base(
     alloc: Global,
-    found: &[Found],
+    found: &[Keyed],
     at: u32,
     rules: Items<Rule>,
     moment: Moment,
 ) -> Result<PlanNode, AllocError>
     ensures { IfOk result (λ n. n ≡ over_base at (λ r. SelectNode r moment false) rules (base_among found.now rules moment None)) }
 {
-    match base_among(found, rules.as_slice(), &moment, None) {
+    match base_among(alloc, found, rules.as_slice(), &moment, None)? {
         None => Ok(PlanNode::Select {
             rules,
             moment,
@@ -84,7 +85,7 @@ fn select_over_base(
 
 fn range_over_base(
     alloc: Global,
-    found: &[Found],
+    found: &[Keyed],
     at: u32,
     rules: Items<Rule>,
     moment: Moment,
@@ -92,7 +93,7 @@ fn range_over_base(
 ) -> Result<PlanNode, AllocError>
     ensures { IfOk result (λ n. n ≡ over_base at (λ r. RangeNode r moment range) rules (base_among found.now rules moment (Some range))) }
 {
-    match base_among(found, rules.as_slice(), &moment, Some(range)) {
+    match base_among(alloc, found, rules.as_slice(), &moment, Some(range))? {
         None => Ok(PlanNode::Range {
             rules,
             moment,
@@ -121,7 +122,7 @@ pub fn merge(alloc: Global, p: Plan) -> Result<Plan, AllocError>
     ensures means { IfOk result (λ q. MeanTheSame q p) }
 {
     more_rules_filter();
-    let found = found_in(alloc, &p)?;
+    let found = with_keys(alloc, found_in(alloc, &p)?)?;
     let q = rewritten(
         alloc,
         &MergeSelects {

@@ -1,0 +1,6 @@
+use Rattle.std.proofs.Common.{◌≡◌, ◌++◌}
+use Rattle.std.specs.Vec.Iter.{into_iter_items}
+use Rattle.opt_selects.proofs.keyed.with_keys.Given as goal
+
+abbrev pub invariant-loop-one : goal.invariant-loop-one
+invariant-loop-one l = l.all.items ++ into_iter_items l.one-iterator ≡ into_iter_items l.initial.one-iterator
