@@ -1,0 +1,7 @@
+mod Follows
+mod Measures
+mod Onces
+mod Rebuilt
+mod Singles
+mod Trimmed
+mod Types

@@ -1,0 +1,5 @@
+//! Laws of the rewrites of plans together: a typed plan stays typed, a valid one valid, and what stands under Once nodes the same at
+//! each instant, so that each rewrite may follow any other.
+#![tactic(auto)]
+
+pub mod laws;
