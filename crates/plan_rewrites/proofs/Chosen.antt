@@ -1,0 +1,77 @@
+-- What each rewrite keeps is kept by those that are chosen, one after another.
+use Rattle.std.proofs.Common.{◌≡◌, ◌∙◌, ℕ, Bool, true, false, List, ap, refl, subst, sym}
+use Rattle.logical_plan.specs.PlanTypes.{IsTyped}
+use Rattle.logical_plan.specs.Steadiness.{OncesAreSteady}
+use Rattle.logical_plan.specs.Validity.{IsValid}
+use Rattle.logical_plan.specs.declared.nodes.Plan.{Plan}
+use Rattle.plan_rewrite.specs.Rebuilding.{rebuilt}
+use Rattle.opt_matchers.specs.Handing.{hand_rules}
+use Rattle.opt_matchers.specs.RuleOrder.{order_rules}
+use Rattle.opt_selects.specs.Trimming.{trim}
+use Rattle.opt_split_avg.specs.Averages.{split_average}
+use Rattle.rewrite_laws.specs.Keeping.{KeepsOnces, KeepsTypes, KeepsValidity, StaysTyped}
+use Rattle.plan_rewrites.specs.Rewriting.{chosen, merged, rewrites}
+use Rattle.plan_rewrites.specs.declared.choosing.Choices.{Choices}
+
+-- ---- one rewrite, chosen or not
+
+types_kept : (b : Bool) (rewrite : Plan → Plan) (p q : Plan) → KeepsTypes rewrite → q ≡ chosen b rewrite p → IsTyped p → StaysTyped p q
+types_kept true rewrite p q keeps is typed = subst (StaysTyped p) (sym is) (keeps p typed)
+types_kept false rewrite p q keeps is typed = subst (StaysTyped p) (sym is) (record { typed = typed; kind = refl })
+
+validity_kept : (b : Bool) (rewrite : Plan → Plan) (p q : Plan) (longest latest : ℕ) → KeepsValidity rewrite → q ≡ chosen b rewrite p → IsValid longest latest p → IsValid longest latest q
+validity_kept true rewrite p q longest latest keeps is valid = subst (IsValid longest latest) (sym is) (keeps longest latest p valid)
+validity_kept false rewrite p q longest latest keeps is valid = subst (IsValid longest latest) (sym is) valid
+
+onces_kept : (b : Bool) (rewrite : Plan → Plan) (p q : Plan) → KeepsOnces rewrite → q ≡ chosen b rewrite p → OncesAreSteady p → OncesAreSteady q
+onces_kept true rewrite p q keeps is steady = subst OncesAreSteady (sym is) (keeps p steady)
+onces_kept false rewrite p q keeps is steady = subst OncesAreSteady (sym is) steady
+
+stays_on : (p q r : Plan) → StaysTyped p q → StaysTyped q r → StaysTyped p r
+stays_on p q r first second = record { typed = second.typed; kind = second.kind ∙ first.kind }
+
+-- ---- all of them
+
+module _ (choices : Choices) (kept : List (Bool × List ℕ)) (p ordered handed joined bare q : Plan)
+    (ordered_is : ordered ≡ chosen choices.sort (rebuilt (order_rules kept)) p)
+    (handed_is : handed ≡ chosen choices.propagate (rebuilt hand_rules) ordered)
+    (joined_is : joined ≡ chosen choices.merge merged handed)
+    (bare_is : bare ≡ chosen choices.trim trim joined)
+    (split_is : q ≡ chosen choices.avg (rebuilt split_average) bare) where
+  pub all_is : q ≡ rewrites choices kept p
+  all_is =
+      split_is ∙ ap (chosen choices.avg (rebuilt split_average)) (bare_is ∙ ap (chosen choices.trim trim) (joined_is ∙ ap (chosen choices.merge merged) (handed_is ∙ ap (chosen choices.propagate (rebuilt hand_rules)) ordered_is)))
+
+  module _ (orders : KeepsTypes (rebuilt (order_rules kept))) (hands : KeepsTypes (rebuilt hand_rules)) (merges : KeepsTypes merged) where
+    -- a typed plan is typed before its sorts go
+    pub joined_typed : IsTyped p → StaysTyped p joined
+    joined_typed typed =
+        let first = types_kept choices.sort (rebuilt (order_rules kept)) p ordered orders ordered_is typed in
+        let second = types_kept choices.propagate (rebuilt hand_rules) ordered handed hands handed_is first.typed in
+        let third = types_kept choices.merge merged handed joined merges joined_is second.typed in
+        stays_on p handed joined (stays_on p ordered handed first second) third
+
+    pub all_typed : KeepsTypes trim → KeepsTypes (rebuilt split_average) → IsTyped p → StaysTyped p q
+    all_typed trims splits typed =
+        let third = joined_typed typed in
+        let fourth = types_kept choices.trim trim joined bare trims bare_is third.typed in
+        let last = types_kept choices.avg (rebuilt split_average) bare q splits split_is fourth.typed in
+        stays_on p bare q (stays_on p joined bare third fourth) last
+
+  pub all_valid : KeepsValidity (rebuilt (order_rules kept)) → KeepsValidity (rebuilt hand_rules) → KeepsValidity merged → KeepsValidity trim → KeepsValidity (rebuilt split_average)
+      → (longest latest : ℕ) → IsValid longest latest p → IsValid longest latest q
+  all_valid orders hands merges trims splits longest latest valid =
+      validity_kept choices.avg (rebuilt split_average) bare q longest latest splits split_is
+      (validity_kept choices.trim trim joined bare longest latest trims bare_is
+      (validity_kept choices.merge merged handed joined longest latest merges joined_is
+      (validity_kept choices.propagate (rebuilt hand_rules) ordered handed longest latest hands handed_is
+      (validity_kept choices.sort (rebuilt (order_rules kept)) p ordered longest latest orders ordered_is valid))))
+
+  pub all_steady : KeepsOnces (rebuilt (order_rules kept)) → KeepsOnces (rebuilt hand_rules) → KeepsOnces merged → KeepsOnces trim → KeepsOnces (rebuilt split_average)
+      → OncesAreSteady p → OncesAreSteady q
+  all_steady orders hands merges trims splits steady =
+      onces_kept choices.avg (rebuilt split_average) bare q splits split_is
+      (onces_kept choices.trim trim joined bare trims bare_is
+      (onces_kept choices.merge merged handed joined merges joined_is
+      (onces_kept choices.propagate (rebuilt hand_rules) ordered handed hands handed_is
+      (onces_kept choices.sort (rebuilt (order_rules kept)) p ordered orders ordered_is steady))))
