@@ -1,0 +1,123 @@
+-- Parts for functions of windows: what may be fed, and what is given.
+use Rattle.std.proofs.Common.{◌≡◌, ◌∙◌, ℕ, ◌<◌, length, get_or, Bool, false, List, [], ◌∷◌, map, Option, Some, None, refl, sym, ap, subst}
+use Rattle.std.specs.Prelude.{ℤ, pos, ◌<ℤ◌, IfOk, IfSome, IsTrue, Result, Ok, Err}
+use Rattle.std.proofs.lemmas.List.Elements.{All-contains_itself, recursion_from_All}
+use Rattle.func_table.specs.declared.table.Window.{Window as WindowFunction}
+use Rattle.label_set.specs.declared.rules.Rule.{Rule}
+use Rattle.logical_plan.specs.Lowering.{planned}
+use Rattle.logical_plan.specs.PlanMeaning.{givens_at, plan_meant}
+use Rattle.logical_plan.specs.declared.nodes.Plan.{Plan}
+use Rattle.logical_plan.specs.declared.nodes.PlanNode.TheVariants as node
+use Rattle.op_window.specs.Rules.{takes_scalar}
+use Rattle.plan_tree.specs.Nodes.{CanGo, shape_of}
+use Rattle.plan_tree.specs.Shapes.{IsFit, PointsOf, SeriesOf, Shape, StaysInTimes, rule}
+use Rattle.promql_ast.specs.declared.tree.Moment.{Moment}
+use Rattle.promql_meaning.specs.Laws.{MultiplesAreAll}
+use Rattle.promql_meaning.specs.Meaning.{step_at, windowed_by}
+use Rattle.promql_meaning.specs.Selecting.{AllSeries, Asked}
+use Rattle.promql_meaning.specs.Givens.{step_of}
+use Rattle.promql_meaning.specs.WalkMoments.{IsMomentOf, WalkMomentIsMoment}
+use Rattle.sample_store.specs.Samples.{IsSelected, chosen}
+use Rattle.series_marks.specs.Reaches.{AreThere, numbered}
+use Rattle.step_table.specs.declared.step.Step.{Step}
+use Rattle.ticks.specs.Walks.{HasTimes, IsInstant, IsTime, moment_at, multiples-instants}
+use Rattle.ticks.specs.declared.moment.Ms.{Ms}
+use Rattle.ticks.specs.declared.walk.Walk.{Walk}
+use Rattle.ticks.specs.declared.walk.Walk.TheVariants.{Multiples}
+use Rattle.ticks.specs.declared.walk.WalkMoment.{WalkMoment}
+use Rattle.xfrac.specs.declared.value.XFrac.{XFrac}
+use Rattle.plan_parts.specs.Gives.{Gives}
+use Rattle.plan_parts.specs.Parts.{IsChild, IsPart, OncesStay, below, of_subquery, of_window, of_window_argument}
+use Rattle.plan_parts.specs.declared.parts.Part.{Part}
+use Rattle.window_parts.specs.Over.{GivesRange, IsArgument, IsScalarOf}
+use Rattle.window_parts.specs.declared.selectors.RangeSelector.{RangeSelector}
+use Rattle.window_parts.proofs.Giving.{given_step, points_give, series_gives, without_scalar}
+
+pub ok_at : {X E : Type 0} (P : X → Type 0) (r : Result X E) (x : X) → r ≡ Ok x → IfOk r P → P x
+ok_at P r x e h = subst (λ z. IfOk z P) e h
+
+pub some_at : {X : Type 0} (P : X → Type 0) (o : Option X) (x : X) → o ≡ Some x → IfSome o P → P x
+some_at P o x e h = subst (λ z. IfSome z P) e h
+
+pub ok_then : {X E : Type 0} {P Q : X → Type 0} (r : Result X E) → IfOk r P → ((x : X) → P x → Q x) → IfOk r Q
+ok_then (Ok x) h f = f x h
+ok_then (Err e) h f = h
+
+-- ---- scalars
+
+-- where a function takes no scalar, any part that may be fed stands for it
+pub unread : (asked : Asked) (walk : Walk) (f : WindowFunction) (arguments : List Plan) (part : Part) (value : XFrac) → takes_scalar f ≡ false
+    → ((asked : Asked) (walk : Walk) (p : Plan) → p.node ≡ node.Number value → IsPart asked walk p part) → IsScalarOf asked walk f arguments part
+unread asked walk f arguments part value e number = record {
+  sound = (number asked walk (planned 0 (node.Number value)) refl).sound;
+  scalar = λ h. absurd (cc);
+  gives = λ stay t on w. without_scalar f t (rule asked.samples asked.kept (shape_of part.tree) t) (step_at (givens_at (map (plan_meant asked) arguments) t) 0) w e;
+}
+
+-- a part of the argument is a scalar for it
+pub read : (asked : Asked) (walk : Walk) (f : WindowFunction) (arguments : List Plan) (part : Part) → IsTrue part.scalar → IsArgument asked walk arguments (Some part) → IsScalarOf asked walk f arguments part
+read asked walk f [] part s i = absurd i
+read asked walk f (a ∷ []) part s i = record {
+  sound = i.sound;
+  scalar = λ h. i.scalar s;
+  gives = λ stay t on w. ap (λ (x : Step). windowed_by f t x w)
+      (sym (ap step_of ((i.gives (stay a refl)).gives t on) ∙ given_step part.scalar (rule asked.samples asked.kept (shape_of part.tree) t)));
+}
+read asked walk f (a ∷ b ∷ arguments) part s i = absurd i
+
+-- ---- the series of a selector
+
+pub selected_there : (kept : List (Bool × List ℕ)) (rules : List Rule) (store : AllSeries) (series : List ℕ) → IsSelected kept rules store series → AreThere store series
+selected_there kept rules store series selected =
+    recursion_from_All (λ (n : ℕ). n < length store) series (λ k d w. ((selected.exact (get_or series k d)).0 (All-contains_itself series k d w)).0)
+
+-- ---- parts
+
+onces_below : (asked : Asked) (c p : Plan) → IsChild c p → OncesStay asked p → OncesStay asked c
+onces_below asked c p child stay = record { same = λ q once. stay.same q (below c p child once) }
+
+-- what stands below the Once nodes of an argument stays where it does below those of the function
+argument_stays : (asked : Asked) (p inner : Plan) (f : WindowFunction) (arguments : List Plan) → p.node ≡ node.Window f inner arguments → OncesStay asked p → (a : Plan) → arguments ≡ a ∷ [] → OncesStay asked a
+argument_stays asked p inner f arguments e stay a is = onces_below asked a p (of_window_argument f inner [] [] (e ∙ ap (node.Window f inner) is)) stay
+
+module _ (asked : Asked) (walk : Walk) (p inner : Plan) (f : WindowFunction) (arguments : List Plan) (e : p.node ≡ node.Window f inner arguments) (part scalar : Part) (one : IsScalarOf asked walk f arguments scalar) where
+  abbrev S : AllSeries
+  S = asked.samples
+
+  abbrev K : List (Bool × List ℕ)
+  K = asked.kept
+
+  -- a part of this shape
+  shaped : (shape : Shape) → shape_of part.tree ≡ shape → part.scalar ≡ false → part.own ≡ false → IsFit S shape → CanGo S K None part.tree → ((t : ℤ) → IsInstant walk t → StaysInTimes shape t)
+      → (OncesStay asked p → Gives asked (IsInstant walk) p false false (rule S K shape)) → IsPart asked walk p part
+  shaped shape is plain rows fit can times gives = record {
+    sound = record {
+      fit = subst (IsFit S) (sym is) fit;
+      can = can;
+      times = λ t i. subst (λ (s : Shape). StaysInTimes s t) (sym is) (times t i);
+    };
+    scalar = λ h. absurd (cc);
+    gives = λ stay. subst (λ (b : Bool). Gives asked (IsInstant walk) p b part.own (rule S K (shape_of part.tree))) (sym plain)
+        (subst (λ (o : Bool). Gives asked (IsInstant walk) p false o (rule S K (shape_of part.tree))) (sym rows)
+        (subst (λ (s : Shape). Gives asked (IsInstant walk) p false false (rule S K s)) (sym is) (gives stay)));
+  }
+
+  pub series_part : WalkMomentIsMoment → (selector : RangeSelector) (series : List ℕ) (at : WalkMoment) → shape_of part.tree ≡ SeriesOf series f at selector.range (shape_of scalar.tree) → part.scalar ≡ false → part.own ≡ false
+      → CanGo S K None part.tree → IsSelected K selector.rules S series → numbered S series ≡ chosen K selector.rules S → IsMomentOf asked selector.moment at → at.closed ≡ selector.moment.closed → pos 0 <ℤ selector.range.0
+      → ((t : ℤ) → IsInstant walk t → IsTime t) → ((t : ℤ) → IsInstant walk t → HasTimes (moment_at at t) selector.range.0) → GivesRange asked inner selector → IsPart asked walk p part
+  series_part moments selector series at is plain rows can selected these timed closed forward on times i =
+      shaped (SeriesOf series f at selector.range (shape_of scalar.tree)) is plain rows (selected_there K selector.rules S series selected, forward, one.scalar, one.sound.fit) can
+      (λ t w. (on t w, times t w, one.sound.times t w))
+      (λ stay. series_gives asked (IsInstant walk) moments p inner f arguments selector.rules selector.moment selector.range series at (rule S K (shape_of scalar.tree)) these timed closed e i (one.gives (argument_stays asked p inner f arguments e stay)))
+
+  pub points_part : WalkMomentIsMoment → MultiplesAreAll → (q : Plan) (moment : Moment) (range step : Ms) (at : WalkMoment) (child : Part) → shape_of part.tree ≡ PointsOf f (Multiples walk at range step) at range step (shape_of child.tree) (shape_of scalar.tree)
+      → part.scalar ≡ false → part.own ≡ false → CanGo S K None part.tree → IsPart asked (Multiples walk at range step) q child → IsMomentOf asked moment at → at.closed ≡ moment.closed → pos 0 <ℤ step.0
+      → ((t : ℤ) → IsInstant walk t → IsTime t) → inner.node ≡ node.Subquery q range step moment → IsPart asked walk p part
+  points_part moments law q moment range step at child is plain rows can r timed closed forward on i =
+      shaped (PointsOf f (Multiples walk at range step) at range step (shape_of child.tree) (shape_of scalar.tree)) is plain rows (r.sound.times, one.scalar, r.sound.fit, one.sound.fit) can
+      (λ t w. (on t w, (walk, refl, w), one.sound.times t w))
+      (λ stay.
+      let given = r.gives (onces_below asked q inner (of_subquery range step moment i) (onces_below asked inner p (of_window f arguments e) stay)) in
+      points_give asked (IsInstant walk) moments law p inner q f arguments moment range step at (rule S K (shape_of scalar.tree)) (rule S K (shape_of child.tree)) timed closed forward e i
+      (λ t u w v. ap step_of (given.gives u (coe 1 0 (k. multiples-instants walk at range step u k) (t, w, v))) ∙ given_step child.scalar (rule S K (shape_of child.tree) u))
+      (one.gives (argument_stays asked p inner f arguments e stay)))

@@ -1,0 +1,31 @@
+use Rattle.std.proofs.Common.{◌∙◌, None, refl, subst, sym}
+use Rattle.op_window.specs.Sliding.{walked_of}
+use Rattle.plan_tree.specs.Nodes.{CanGo, shape_of}
+use Rattle.plan_tree.specs.Shapes.{SeriesOf}
+use Rattle.plan_tree.specs.declared.node.Node.{Node}
+use Rattle.promql_meaning.specs.Selecting.{asked_over}
+use Rattle.series_marks.specs.Reaches.{IsReached}
+use Rattle.window_parts.proofs.Made.{series_part}
+use Rattle.window_parts.proofs.over.over_selector.Goals as goal
+
+pub returns-clause-part : goal.returns-clause-part
+returns-clause-part g c = λ p inner arguments e i one.
+    let asked = asked_over c.args.store.now c.args.patterns.now c.args.span.now in
+    let walk = c.args.course.now.walk in
+    let kernel = c.in_ok-kernel.kernel in
+    let made = c.in_ok-kernel.ensures in
+    let scalar = c.args.scalar in
+    let same = c.in_ok-new.ensures.ok in
+    let m = sym made.moment in
+    let r = sym made.range in
+    series_part asked walk p inner c.args.f arguments e _ scalar one c.walk_moments_are_moments.ensures c.args.selector.now c.in_ok-series.series c.settled-moment.result
+    (λ j. SeriesOf (made.series j) (made.f j) (made.moment j) (made.range j) (shape_of (same j))) refl refl (
+      record {
+        walked = made.walked asked.samples ∙ (λ j. walked_of (m j).closed (r j).0 (sym made.fresh j) asked.samples (sym made.series j));
+        reached = made.fresh;
+        edge = subst (IsReached kernel.moment.closed kernel.range.0) (sym made.fresh) tt;
+      },
+      subst (λ (n : Node). CanGo asked.samples asked.kept None n) (sym same) one.sound.can,
+    )
+    c.in_ok-series.ensures.selected c.in_ok-series.ensures.chosen (c.settled-moment.ensures.moment c.args.store.now c.args.patterns.now) c.settled-moment.ensures.closed
+    (c.if-not-are_within.ensures.forward refl) c.walk.ensures.instants (c.if-not-are_within.ensures.times refl) i

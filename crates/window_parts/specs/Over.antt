@@ -1,0 +1,58 @@
+-- What functions of windows stand over: range selectors or the inner instants of subqueries, and their scalars. (This project's own.)
+use Rattle.std.specs.Prelude.{◌≡◌, ℤ, List, [], ◌∷◌, map, Option, None, Some, Result, IfOk, IsTrue, ⊤}
+use Rattle.func_table.specs.declared.table.Window.{Window as WindowFunction}
+use Rattle.logical_plan.specs.Lowering.{planned}
+use Rattle.logical_plan.specs.PlanMeaning.{givens_at, plan_meaning, plan_meant}
+use Rattle.logical_plan.specs.declared.nodes.Plan.{Plan}
+use Rattle.logical_plan.specs.declared.nodes.PlanNode.TheVariants as node
+use Rattle.op_window.specs.Rules.{takes_scalar}
+use Rattle.plan_parts.specs.Parts.{IsPart, IsSound, OncesStay}
+use Rattle.plan_parts.specs.declared.parts.Part.{Part}
+use Rattle.plan_parts.specs.declared.unbuilt.Unbuilt.{Unbuilt}
+use Rattle.plan_tree.specs.Nodes.{shape_of}
+use Rattle.plan_tree.specs.Shapes.{is_scalar, rule}
+use Rattle.promql_ast.specs.declared.tree.Moment.{Moment}
+use Rattle.promql_meaning.specs.Meaning.{step_at, windowed_by}
+use Rattle.promql_meaning.specs.Selecting.{Asked}
+use Rattle.promql_meaning.specs.WalkMoments.{IsMomentOf}
+use Rattle.promql_meaning.specs.declared.given.Windows.{Windows}
+use Rattle.ticks.specs.Walks.{IsInstant}
+use Rattle.ticks.specs.declared.moment.Ms.{Ms}
+use Rattle.ticks.specs.declared.walk.Walk.{Walk}
+use Rattle.window_parts.specs.declared.over.Subquery.{Subquery}
+use Rattle.window_parts.specs.declared.selectors.RangeSelector.{RangeSelector}
+
+-- ---- scalars
+
+-- the part of the only argument beside the windows, or none where there is no argument
+abbrev pub IsArgument : Asked → Walk → List Plan → Option Part → Type 0
+IsArgument asked walk [] None = ⊤
+IsArgument asked walk (a ∷ []) (Some part) = IsPart asked walk a part
+IsArgument asked walk arguments part = ⊥
+
+-- where it is built
+abbrev pub IsArgumentOf : Asked → Walk → List Plan → Result (Option Part) Unbuilt → Type 0
+IsArgumentOf asked walk arguments built = IfOk built (λ part. IsArgument asked walk arguments part)
+
+-- a part may stand for the scalar of a function: it may be fed, it is a scalar where the function reads it, and with it the function
+-- gives of any windows what it gives with the argument, if what stands below the argument's Once nodes stays
+pub record IsScalarOf (asked : Asked) (walk : Walk) (f : WindowFunction) (arguments : List Plan) (part : Part) : Type 0 where
+  pub sound : IsSound asked.samples asked.kept walk part.tree
+  pub scalar : IsTrue (takes_scalar f) → IsTrue (is_scalar (shape_of part.tree))
+  pub gives : ((a : Plan) → arguments ≡ a ∷ [] → OncesStay asked a) → (t : ℤ) → IsInstant walk t → (windows : Windows)
+      → windowed_by f t (rule asked.samples asked.kept (shape_of part.tree) t) windows ≡ windowed_by f t (step_at (givens_at (map (plan_meant asked) arguments) t) 0) windows
+
+-- ---- range selectors
+
+-- a plan gives the windows of a range selector: what a range in its place gives
+abbrev pub GivesRange : Asked → Plan → RangeSelector → Type 0
+GivesRange asked p selector = (t : ℤ) → plan_meaning asked p t ≡ plan_meaning asked (planned p.at (node.Range selector.rules selector.moment selector.range)) t
+
+-- ---- subqueries
+
+-- a subquery with this moment, range and step
+pub record IsInside (asked : Asked) (moment : Moment) (range step : Ms) (inside : Subquery) : Type 0 where
+  pub timed : IsMomentOf asked moment inside.moment
+  pub closed : inside.moment.closed ≡ moment.closed
+  pub range_is : inside.range ≡ range
+  pub step_is : inside.step ≡ step

@@ -1,0 +1,178 @@
+//! The trees of functions of windows.
+ghost use Rattle.logical_plan.specs.declared.nodes.Plan.{Plan};
+ghost use Rattle.logical_plan.specs.declared.nodes.PlanNode.TheVariants as node;
+ghost use Rattle.plan_parts.specs.Parts.{IsPartOf};
+ghost use Rattle.promql_ast.specs.declared.tree.Moment.{Moment};
+ghost use Rattle.promql_meaning.specs.Selecting.{Asked, asked_over};
+ghost use Rattle.std.specs.Prelude.{◌≡◌, ◌<ℤ◌, ℤ, pos, List, IfOk, IsTrue};
+ghost use Rattle.ticks.specs.Walks.{HasTimes, IsInstant, moment_at};
+ghost use Rattle.ticks.specs.declared.moment.Ms.{Ms};
+ghost use Rattle.ticks.specs.declared.walk.Walk.TheVariants.{Multiples};
+ghost use Rattle.window_parts.specs.Over.{GivesRange, IsArgumentOf, IsInside, IsScalarOf};
+
+use crate::scalars::scalar_for;
+use crate::selectors::{RangeSelector, range_selector};
+use func_table::Window;
+use logical_plan::Plan;
+use match_rule::Patterns;
+use op_window::WindowRows;
+use plan_parts::{Course, Part, Unbuilt, are_rules_kept, settled};
+use plan_tree::Node;
+use promql_ast::Moment;
+use promql_meaning::laws::{multiples_are_all, walk_moments_are_moments};
+use sample_store::Store;
+use std::alloc::Global;
+use std::sync::ledger::Ledger;
+use subquery_rows::SubqueryRows;
+use ticks::{Grid, Ms, WalkMoment, Work};
+
+/// Whether the windows that end at the moments of the instants lie within the times, and have a length. It takes no memory.
+fn are_within(course: &Course, moment: &WalkMoment, range: Ms) -> bool
+    ensures forward { IsTrue result → pos 0 <ℤ range.0 }
+    ensures times { IsTrue result → (t : ℤ) → IsInstant course.now.walk t → HasTimes (moment_at moment.now t) range.0 }
+{
+    match course.windows(moment, range) {
+        Some(_) => true,
+        None => false,
+    }
+}
+
+/// A function of the windows of a range selector, at the instants of a course.
+fn over_selector<W: Ledger>(
+    alloc: Global,
+    store: &Store,
+    span: &Grid,
+    course: &Course,
+    f: Window,
+    selector: &RangeSelector,
+    scalar: Part,
+    patterns: &mut Patterns<'_>,
+    work: &mut Work<W>,
+) -> Result<Part, Unbuilt>
+    ensures part { (p inner : Plan) (arguments : List Plan) → p.node ≡ node.Window f inner arguments → GivesRange (asked_over store.now patterns.old span.now) inner selector.now → IsScalarOf (asked_over store.now patterns.old span.now) course.now.walk f arguments scalar → IsPartOf (asked_over store.now patterns.old span.now) course.now.walk p result }
+    ensures same { patterns.new ≡ patterns.old }
+{
+    walk_moments_are_moments();
+    if !are_rules_kept(patterns, selector.rules.as_slice()) {
+        return Err(Unbuilt::Invalid);
+    }
+    let moment = settled(&selector.moment, span);
+    if !are_within(course, &moment, selector.range) {
+        return Err(Unbuilt::Invalid);
+    }
+    let _ = course.walk();
+    let series = store.select(&selector.rules, patterns, work)?;
+    let kernel = WindowRows::new(alloc, series, f, moment, selector.range)?;
+    Ok(Part {
+        tree: Node::Series {
+            kernel,
+            scalar: Box::new(alloc, scalar.tree)?,
+        },
+        scalar: false,
+        own: false,
+    })
+}
+
+/// A function of windows of the store, at the instants of a course: of those of a range, or of those that pass the filters over one.
+/// `argument` is what became of the function's other argument, if it has one. Each series that is looked at is counted as tested, and
+/// no sample is read. It hands on why the argument wasn't built, and is `Invalid` where the windows are another plan's, where the
+/// function takes another number of arguments or one that isn't a scalar, where a pattern isn't kept, a window leads beyond the times,
+/// or the range isn't positive; else the only error is want of memory.
+pub fn series<W: Ledger>(
+    alloc: Global,
+    store: &Store,
+    span: &Grid,
+    course: &Course,
+    f: Window,
+    windows: &Plan,
+    argument: Result<Option<Part>, Unbuilt>,
+    patterns: &mut Patterns<'_>,
+    work: &mut Work<W>,
+) -> Result<Part, Unbuilt>
+    ensures part { (p : Plan) (arguments : List Plan) → p.node ≡ node.Window f windows.now arguments → IsArgumentOf (asked_over store.now patterns.old span.now) course.now.walk arguments argument → IsPartOf (asked_over store.now patterns.old span.now) course.now.walk p result }
+    ensures same { patterns.new ≡ patterns.old }
+{
+    let argument = argument?;
+    let scalar = scalar_for(alloc, f, argument)?;
+    let Some(selector) = range_selector(windows)? else {
+        return Err(Unbuilt::Invalid);
+    };
+    over_selector(
+        alloc, store, span, course, f, &selector, scalar, patterns, work,
+    )
+}
+
+/// A subquery at the instants of an outer course: its moment, whose `@` is a time, its range and step in milliseconds, and the course
+/// of its inner instants.
+#[derive(Drop)]
+pub struct Subquery {
+    pub course: Course,
+    pub moment: WalkMoment,
+    pub range: Ms,
+    pub step: Ms,
+}
+
+/// A subquery at the instants of a course. It is `Invalid` where a range leads beyond the times, or the range or the step isn't
+/// positive; else the only error is want of memory.
+pub fn inside(
+    alloc: Global,
+    span: &Grid,
+    outer: &Course,
+    moment: &Moment,
+    range: Ms,
+    step: Ms,
+) -> Result<Subquery, Unbuilt>
+    ensures walk { IfOk result (λ s. s.course.walk ≡ Multiples outer.now.walk s.moment s.range s.step) }
+    ensures inside { IfOk result (λ s. (samples kept : _) → IsInside (asked_over samples kept span.now) moment.now range step s) }
+{
+    let moment = settled(moment, span);
+    match outer.inner(alloc, &moment, range, step)? {
+        None => Err(Unbuilt::Invalid),
+        Some(course) => Ok(Subquery {
+            course,
+            moment,
+            range,
+            step,
+        }),
+    }
+}
+
+/// A function of the windows of a subquery, at the instants of a course; `rows` is what became of the inner expression at the inner
+/// instants, and `argument` what became of the function's other argument, if it has one. It hands on why one of these wasn't built, and is
+/// `Invalid` where the function takes another number of arguments or one that isn't a scalar; else the only error is want of memory.
+pub fn points(
+    alloc: Global,
+    outer: &Course,
+    inside: &Subquery,
+    f: Window,
+    rows: Result<Part, Unbuilt>,
+    argument: Result<Option<Part>, Unbuilt>,
+) -> Result<Part, Unbuilt>
+    requires { inside.now.course.walk ≡ Multiples outer.now.walk inside.now.moment inside.now.range inside.now.step }
+    ensures { (asked : Asked) (p inner q : Plan) (moment : Moment) (range step : Ms) (arguments : List Plan) → p.node ≡ node.Window f inner arguments → inner.node ≡ node.Subquery q range step moment → IsInside asked moment range step inside.now → IsPartOf asked inside.now.course.walk q rows → IsArgumentOf asked outer.now.walk arguments argument → IsPartOf asked outer.now.walk p result }
+{
+    walk_moments_are_moments();
+    multiples_are_all();
+    let rows = rows?;
+    let argument = argument?;
+    let scalar = scalar_for(alloc, f, argument)?;
+    let _ = inside.course.walk();
+    let kernel = SubqueryRows::new(
+        alloc,
+        f,
+        inside.moment,
+        inside.range,
+        inside.step,
+        outer.walk(),
+    )?;
+    Ok(Part {
+        tree: Node::Points {
+            kernel,
+            fed: None,
+            inner: Box::new(alloc, rows.tree)?,
+            scalar: Box::new(alloc, scalar.tree)?,
+        },
+        scalar: false,
+        own: false,
+    })
+}
