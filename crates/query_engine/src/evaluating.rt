@@ -1,18 +1,14 @@
 //! The outcome of a query's text.
-ghost use Rattle.match_rule.specs.Gains.{Gains};
-ghost use Rattle.promql_type.specs.Answers.{MayFault};
 ghost use Rattle.query_engine.specs.Batches.{IsBatch};
-ghost use Rattle.query_engine.specs.Evaluating.{ComesTo, IsRefused, IsRefusedWith};
-ghost use Rattle.query_engine.specs.Readiness.{IsReadyTree};
-ghost use Rattle.std.specs.Prelude.{◌≡◌, [], IfErr, IfOk};
+ghost use Rattle.query_engine.specs.Evaluating.{ComesTo, IsRefused};
+ghost use Rattle.std.specs.Prelude.{◌≡◌, IfOk};
 
+use crate::reading::typed_tree;
 use crate::streaming::answered;
 use match_rule::{PatternRoom, Patterns};
-use promql_lex::LexFault;
 use promql_meaning::Outcome;
 use promql_meaning::laws::needs_are_met;
-use promql_parse::parse;
-use promql_type::{TypeFault, Typed, check, edges_are_typed_alike};
+use promql_type::TypeFault;
 use query_places::laws::calls_stand_apart;
 use sample_store::Store;
 use std::alloc::{AllocError, Global};
@@ -26,26 +22,6 @@ pub struct Options {
     pub closed: bool,
     /// The most instants that are computed at once, from 1 to 1,024. No answer depends on it.
     pub batch: u32,
-}
-
-/// The typed tree of a text, with the edge that is asked for and its patterns, of which there are none before; or its one
-/// refusal.
-fn typed_tree(
-    alloc: Global,
-    text: &str,
-    closed: bool,
-    patterns: &mut Patterns,
-) -> Result<Typed, TypeFault>
-    requires { patterns.old ≡ [] }
-    ensures tree { IfOk result (IsReadyTree text.now closed patterns.new) }
-    ensures refused { IfErr result (MayFault (IsRefusedWith text.now)) }
-{
-    edges_are_typed_alike();
-    match parse(alloc, text, patterns) {
-        Ok(tree) => check(alloc, tree.edged(closed)?, patterns),
-        Err(LexFault::Refused(refusal)) => Err(TypeFault::Refused(refusal)),
-        Err(LexFault::Memory) => Err(TypeFault::Memory),
-    }
 }
 
 /// What the text of a query comes to over the samples of a store: its one refusal, with its place in the text, or its result

@@ -4,7 +4,7 @@ use Rattle.promql_parse.specs.Parsing.{Parses, Refuses}
 use Rattle.promql_type.specs.Replacements.{Kept}
 use Rattle.query_engine.specs.Evaluating.{IsRefusedWith, unread}
 use Rattle.query_engine.proofs.Ready.{ready_of, refused_of}
-use Rattle.query_engine.proofs.evaluating.typed_tree.Goals as goal
+use Rattle.query_engine.proofs.reading.typed_tree.Goals as goal
 
 pub returns-in_ok-edged-in-Ok-clause-tree : goal.returns-in_ok-edged-in-Ok-clause-tree
 returns-in_ok-edged-in-Ok-clause-tree c =
