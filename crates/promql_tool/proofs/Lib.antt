@@ -11,4 +11,5 @@ pub mod WordsRun
 pub mod Reported
 pub mod OneReport
 pub mod WorkloadRun
-pub mod Batched
+pub mod Alike
+pub mod Formatting

@@ -3,13 +3,15 @@ use Rattle.std.proofs.Common.{◌≡◌, ℕ, Bool, List, [], ◌∷◌, Option,
 use Rattle.std.specs.List.{AllByRecursion}
 use Rattle.ticks.specs.Moments.{Moments, moments_in}
 use Rattle.ticks.specs.declared.grid.Grid.{Grid}
-use Rattle.tool_words.specs.Asked.{Wish, asked, query, test, workload}
+use Rattle.tool_words.specs.Asked.{Wish, asked, format, query, test, workload}
 use Rattle.promql_tool.specs.Files.{All, Gone, JudgedFile, Last, Refused, Sees, all, gone, judged, refused, report_of}
 use Rattle.promql_tool.specs.Found.{Have, Just}
+use Rattle.promql_tool.specs.Printed as printed
+use Rattle.promql_tool.specs.Printed.{Formatted, refused_report, tree_report}
 use Rattle.promql_tool.specs.Query.{Queried, outcome_report}
 use Rattle.promql_tool.specs.Query as queries
-use Rattle.promql_tool.specs.Report.{IsReport, misused, queried, tested, worked, workload_report}
-use Rattle.promql_tool.specs.Settled.{Came, ComesToOne, IsAnsweredOnce, IsSeen, IsSettled, IsToldSo, NoFile, NoScript, NotRun, NotThere, Run, Seen, Told}
+use Rattle.promql_tool.specs.Report.{IsReport, formatted, misused, queried, tested, worked, workload_report}
+use Rattle.promql_tool.specs.Settled.{Came, ComesToOne, IsAnsweredOnce, IsReadOnce, IsReadSo, IsSeen, IsSettled, IsToldSo, NoFile, NoScript, NoTree, NotRun, NotThere, Read, Run, Seen, Told, Tree}
 use Rattle.promql_tool.specs.Texts.{Report, fault_report, refusal_report, usage_report}
 use Rattle.promql_tool.specs.Workload.{workload_path, workload_text}
 
@@ -99,6 +101,24 @@ module _ (closed : Bool) (moments : Moments) (found : List ℕ → Option (List 
   answers_once : IsAnsweredOnce closed moments found path expr → (one other : Report) → Says one → Says other → one ≡ other
   answers_once once one other a b = a.same ∙ ap says (once a.told b.told a.is b.is) ∙ sym b.same
 
+-- ---- expressions that are printed
+
+abbrev prints : Read → Report
+prints (Tree kept tree) = tree_report kept tree
+prints (NoTree refusal) = refused_report refusal
+
+record Prints (expr : List ℕ) (report : Report) : Type 0 where
+  read : Read
+  is : IsReadSo expr read
+  same : report ≡ prints read
+
+printed_so : (expr : List ℕ) (report : Report) → Formatted expr report → Prints expr report
+printed_so expr report (printed.taken kept tree stands) = record { read = Tree kept tree; is = stands; same = refl }
+printed_so expr report (printed.refused refusal is) = record { read = NoTree refusal; is = is; same = refl }
+
+printed_once : (expr : List ℕ) → IsReadOnce expr → (one other : Report) → Prints expr one → Prints expr other → one ≡ other
+printed_once expr once one other a b = a.same ∙ ap prints (once a.read b.read a.is b.is) ∙ sym b.same
+
 -- ---- words
 
 module _ (files : List ℕ → Option (List ℕ)) where
@@ -109,12 +129,14 @@ module _ (files : List ℕ → Option (List ℕ)) where
   SaysOf (Some (query choices moments path expr)) report = Says choices.closed moments (Have files) path expr report
   SaysOf (Some (workload choices series)) report =
       (seen : List JudgedFile) × (last : Last) × Sees choices.closed (Just (workload_text series)) (workload_path ∷ []) seen last × (report ≡ workload_report series seen last)
+  SaysOf (Some (format expr)) report = Prints expr report
 
   says_of : (words : List (List ℕ)) (report : Report) → IsReport words (Have files) report → SaysOf (asked words) report
   says_of words report (misused none) = subst (λ (w : Option Wish). SaysOf w usage_report) (sym none) refl
   says_of words report (tested choices paths seen last is sees) = subst (λ (w : Option Wish). SaysOf w (report_of seen last)) (sym is) (seen, last, sees, refl)
   says_of words report (queried choices grid instant path expr said_so is q) = subst (λ (w : Option Wish). SaysOf w said_so) (sym is) (said choices.closed (moments_in grid instant) (Have files) path expr grid instant refl said_so q)
   says_of words report (worked choices series seen last is sees) = subst (λ (w : Option Wish). SaysOf w (workload_report series seen last)) (sym is) (seen, last, sees, refl)
+  says_of words report (formatted expr said_so is f) = subst (λ (w : Option Wish). SaysOf w said_so) (sym is) (printed_so expr said_so f)
 
   one_of : (wish : Option Wish) → IsSettled wish files → (one other : Report) → SaysOf wish one → SaysOf wish other → one ≡ other
   one_of None once one other a b = a ∙ sym b
@@ -122,6 +144,7 @@ module _ (files : List ℕ → Option (List ℕ)) where
   one_of (Some (query choices moments path expr)) once one other a b = answers_once choices.closed moments (Have files) path expr once one other a b
   one_of (Some (workload choices series)) once one other a b =
       a.3 ∙ reports_once choices.closed (Just (workload_text series)) (workload_path ∷ []) (once, tt) (workload_report series) a.0 b.0 a.1 b.1 a.2 b.2 ∙ sym b.3
+  one_of (Some (format expr)) once one other a b = printed_once expr once one other a b
 
 pub one_report : (words : List (List ℕ)) (files : List ℕ → Option (List ℕ)) → IsSettled (asked words) files → (one other : Report) → IsReport words (Have files) one → IsReport words (Have files) other → one ≡ other
 one_report words files once one other a b = one_of files (asked words) once one other (says_of files words one a) (says_of files words other b)

@@ -4,14 +4,15 @@ use Rattle.edge_io.specs.Fetches.{FetchesFront}
 use Rattle.edge_io.specs.Written.{appended, WroteFront}
 use Rattle.edge_io.specs.declared.sink.SinkFail.{SinkFail}
 use Rattle.ticks.specs.declared.grid.Grid.{Grid}
-use Rattle.tool_words.specs.Asked.{asked, query, test, workload}
+use Rattle.tool_words.specs.Asked.{asked, format, query, test, workload}
 use Rattle.tool_words.specs.declared.asked.Choices.{Choices}
 use Rattle.ticks.specs.Moments.{moments_in}
 use Rattle.promql_tool.specs.Ends.{IsCut, judging, reporting, unwritten, working}
 use Rattle.promql_tool.specs.Files.{report_of}
+use Rattle.promql_tool.specs.Printed.{Formatted}
 use Rattle.promql_tool.specs.Query.{Queried}
-use Rattle.promql_tool.specs.Report.{misused, queried, tested, worked, workload_report}
-use Rattle.promql_tool.specs.Runs.{Almost, Begun, Early, Ends, IsCutFiles, IsCutReport, IsCutWorkload, Late, Misused, Nothing, Partly, Queries, ReportsFiles, ReportsQuery, ReportsWorkload, ReportsWords, Tested, Unmade, Works}
+use Rattle.promql_tool.specs.Report.{formatted, misused, queried, tested, worked, workload_report}
+use Rattle.promql_tool.specs.Runs.{Almost, Begun, Early, Ends, Formats, IsCutFiles, IsCutReport, IsCutWorkload, Late, Misused, Nothing, Partly, Queries, ReportsFiles, ReportsQuery, ReportsWorkload, ReportsWords, Tested, Unmade, Works}
 use Rattle.promql_tool.specs.Texts.{usage, usage_report}
 use Rattle.promql_tool.specs.declared.print.Status.{Status}
 
@@ -25,6 +26,16 @@ pub misuse_ends : (words : List (List ℕ)) (found : List ℕ → Option (List �
     → IfOk r (λ status. (status.0 ≡ 2) × (now ≡ appended before usage)) → OnErr r (WroteFront before now usage) → Ends (ReportsWords words found idle) (IsCut words found before now) before now r
 misuse_ends words found before now idle (Ok status) none rests ok err = (usage_report, Misused none rests, record { status_is = ok.0; text_is = ok.1 })
 misuse_ends words found before now idle (Err cause) none rests ok err = reporting usage_report (misused none) err
+
+-- an expression that is printed
+module _ (words : List (List ℕ)) (found : List ℕ → Option (List ℕ) → Type 0) (before now : Option (List ℕ)) (idle : Type 0) (expr : List ℕ) (is : asked words ≡ Some (format expr)) where
+  format_cut : IsCutReport (Formatted expr) before now → IsCut words found before now
+  format_cut (Nothing same) = unwritten same
+  format_cut (Partly report f front) = reporting report (formatted expr report is f) front
+
+  pub format_end : (r : Result Status SinkFail) → Ends (Formatted expr) (IsCutReport (Formatted expr) before now) before now r → Ends (ReportsWords words found idle) (IsCut words found before now) before now r
+  format_end (Ok status) e = (e.0, Formats expr e.0 is e.1, e.2)
+  format_end (Err cause) e = format_cut e
 
 module _ (words : List (List ℕ)) (choices : Choices) (found : List ℕ → Option (List ℕ) → Type 0) (before now : Option (List ℕ)) (idle : Type 0) where
   -- files

@@ -3,10 +3,11 @@ pub mod Found
 pub mod Texts
 pub mod Files
 pub mod Query
+pub mod Printed
 pub mod Workload
 pub mod Report
 pub mod Ends
 pub mod Runs
 pub mod Reached
 pub mod Settled
-pub mod Batches
+pub mod Alike

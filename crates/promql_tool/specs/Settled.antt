@@ -1,14 +1,18 @@
--- What files and queries come to, where that is one thing. (This project's own.)
+-- What files, queries and expressions come to, where that is one thing. (This project's own.)
 use Rattle.std.specs.Prelude.{◌≡◌, ℕ, Bool, List, Option, None, Some, Ok}
 use Rattle.std.specs.List.{AllByRecursion}
+use Rattle.promql_ast.specs.declared.refusal.QueryRefusal.{QueryRefusal}
+use Rattle.promql_ast.specs.declared.tree.Expr.{Expr}
 use Rattle.promql_meaning.specs.declared.answer.Outcome.{Outcome}
+use Rattle.promql_type.specs.Replacements.{Kept}
+use Rattle.query_engine.specs.Evaluating.{IsRefusedWith, StandsFor}
 use Rattle.script_read.specs.Outcomes.{PatternList}
 use Rattle.script_read.specs.declared.script.Script.{Script}
 use Rattle.test_runner.specs.Running.{IsAnswerOver}
 use Rattle.test_runner.specs.Verdicts.{Judged}
 use Rattle.ticks.specs.Moments.{Moments, moments_in}
 use Rattle.ticks.specs.declared.grid.Grid.{Grid}
-use Rattle.tool_words.specs.Asked.{Wish, query, test, workload}
+use Rattle.tool_words.specs.Asked.{Wish, format, query, test, workload}
 use Rattle.promql_tool.specs.Files.{IsJudged}
 use Rattle.promql_tool.specs.Found.{Have, Just}
 use Rattle.promql_tool.specs.Query.{AreNoteLines, notes_in}
@@ -61,9 +65,24 @@ IsToldSo closed moments found path expr (Came got notes) = CameOver closed momen
 abbrev pub IsAnsweredOnce : Bool → Moments → (List ℕ → Option (List ℕ) → Type 0) → List ℕ → List ℕ → Type 0
 IsAnsweredOnce closed moments found path expr = (a b : Told) → IsToldSo closed moments found path expr a → IsToldSo closed moments found path expr b → a ≡ b
 
--- What words ask for comes to one thing: each of the files, the query, or the script of the workload.
+-- what an expression is read as: the typed tree that it stands for, whose patterns are kept, or its refusal
+pub data Read : Type 0 where
+  Tree : Kept → Expr → Read
+  NoTree : QueryRefusal → Read
+
+abbrev pub IsReadSo : List ℕ → Read → Type 0
+IsReadSo expr (Tree kept tree) = StandsFor expr kept tree
+IsReadSo expr (NoTree refusal) = IsRefusedWith expr refusal
+
+-- an expression is read as one thing
+abbrev pub IsReadOnce : List ℕ → Type 0
+IsReadOnce expr = (a b : Read) → IsReadSo expr a → IsReadSo expr b → a ≡ b
+
+-- What words ask for comes to one thing: each of the files, the query, the script of the workload, or the expression that is
+-- printed.
 abbrev pub IsSettled : Option Wish → (List ℕ → Option (List ℕ)) → Type 0
 IsSettled None files = Unit {0}
 IsSettled (Some (test choices paths)) files = AllByRecursion (ComesToOne choices.closed (Have files)) paths
 IsSettled (Some (query choices moments path expr)) files = IsAnsweredOnce choices.closed moments (Have files) path expr
 IsSettled (Some (workload choices series)) files = ComesToOne choices.closed (Just (workload_text series)) workload_path
+IsSettled (Some (format expr)) files = IsReadOnce expr

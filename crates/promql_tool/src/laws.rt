@@ -1,20 +1,20 @@
 //! Laws of reports that users rely on. The functions do nothing: each stands for what its contract says.
-ghost use Rattle.promql_tool.specs.Batches.{in_batches};
+ghost use Rattle.promql_tool.specs.Alike.{AskAlike};
 ghost use Rattle.promql_tool.specs.Found.{Have};
 ghost use Rattle.promql_tool.specs.Report.{IsReport};
 ghost use Rattle.promql_tool.specs.Settled.{IsSettled};
 ghost use Rattle.promql_tool.specs.Texts.{Report};
-ghost use Rattle.std.specs.Prelude.{◌≡◌, ◌↔◌, ℕ, List, Option, option_map};
+ghost use Rattle.std.specs.Prelude.{◌≡◌, ◌↔◌, ℕ, List, Option};
 ghost use Rattle.tool_words.specs.Asked.{asked};
 
-/// Words over files have one report, where each file that they name, or the query, comes to one thing. It may come to two only
-/// because of a pattern of which it isn't told whether the crate `regex` takes it.
+/// Words over files have one report, where each file that they name, the query, or the expression that is printed comes to one
+/// thing. It may come to two only because of a pattern of which it isn't told whether the crate `regex` takes it.
 pub fn words_have_one_report()
     ensures { (words : List (List ℕ)) (files : List ℕ → Option (List ℕ)) → IsSettled (asked words) files → (one other : Report) → IsReport words (Have files) one → IsReport words (Have files) other → one ≡ other }
 {}
 
-/// Words that ask for the same in batches of another size have the same reports.
-pub fn batches_leave_reports()
-    ensures { (words others : List (List ℕ)) (batch : ℕ) → asked others ≡ option_map (in_batches batch) (asked words) → (files : List ℕ → Option (List ℕ)) (report : Report) →
+/// Words that ask for the same, but for batches of another size, have the same reports.
+pub fn choices_leave_reports()
+    ensures { (words others : List (List ℕ)) → AskAlike (asked words) (asked others) → (files : List ℕ → Option (List ℕ)) (report : Report) →
         IsReport words (Have files) report ↔ IsReport others (Have files) report }
 {}

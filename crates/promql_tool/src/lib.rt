@@ -8,6 +8,7 @@ mod files;
 mod judge;
 mod laws;
 mod print;
+mod printing;
 mod query;
 mod text;
 mod tool;
@@ -15,7 +16,7 @@ mod working;
 mod workload;
 
 pub use fault::Refusal;
-pub use laws::{batches_leave_reports, words_have_one_report};
+pub use laws::{choices_leave_reports, words_have_one_report};
 pub use print::Status;
 pub use tool::run_tool;
 pub use workload::{loaded_line, workload_text};

@@ -1,0 +1,61 @@
+-- From the typed tree of an expression to what is printed of it.
+use Rattle.std.proofs.Common.{◌≡◌, ◌∙◌, ℕ, Bool, List, ◌++◌, Option, Result, Err, IfOk, ap, refl, subst, sym}
+use Rattle.std.specs.Prelude.{codes}
+use Rattle.std.proofs.lemmas.Result.{IfOk-weaker}
+use Rattle.edge_io.specs.Written.{WroteFront}
+use Rattle.edge_io.specs.declared.sink.SinkFail.{SinkFail}
+use Rattle.promql_ast.specs.Edged.{edged}
+use Rattle.promql_ast.specs.EdgedFolds.{fold_unmoved, with_edge}
+use Rattle.promql_ast.specs.declared.refusal.QueryRefusal.{QueryRefusal}
+use Rattle.promql_ast.specs.declared.tree.Expr.{Expr}
+use Rattle.promql_ast.specs.declared.tree.Node.TheOpen.{Node-F}
+use Rattle.promql_print.specs.Canonical.{canonical, node_text}
+use Rattle.promql_type.specs.Replacements.{Kept}
+use Rattle.promql_type.specs.TypedTrees.{tree_of}
+use Rattle.promql_type.specs.declared.typed_tree.Typed.{Typed}
+use Rattle.query_engine.specs.Evaluating.{IsRefusedWith, StandsFor}
+use Rattle.query_engine.specs.Readiness.{IsReadyTree}
+use Rattle.promql_tool.specs.Printed.{Formatted, refused, refused_report, taken, tree_report}
+use Rattle.promql_tool.specs.Runs.{Ends, IsCutReport, Partly, line_report}
+use Rattle.promql_tool.specs.Texts.{Report}
+use Rattle.promql_tool.specs.declared.print.Status.{Status}
+use Rattle.promql_tool.specs.declared.printing.Line.{Line}
+
+-- the left edge of windows stands in no text
+unmoved : (kept : Kept) (closed : Bool) (y : Node-F (List ℕ) (List ℕ)) → node_text kept (with_edge closed y) ≡ node_text kept y
+unmoved kept closed (Node-F.Number value) = refl
+unmoved kept closed (Node-F.Words text) = refl
+unmoved kept closed (Node-F.Paren inner) = refl
+unmoved kept closed (Node-F.Negate inner) = refl
+unmoved kept closed (Node-F.Select selector) = refl
+unmoved kept closed (Node-F.Range selector range) = refl
+unmoved kept closed (Node-F.Subquery inner range step moment) = refl
+unmoved kept closed (Node-F.Call f arguments) = refl
+unmoved kept closed (Node-F.Aggregate f grouping arguments) = refl
+unmoved kept closed (Node-F.Pair op left right pairing) = refl
+unmoved kept closed (Node-F.Set op left right pairing) = refl
+
+canonical_unmoved : (kept : Kept) (closed : Bool) (tree : Expr) → canonical kept (edged closed tree) ≡ canonical kept tree
+canonical_unmoved kept closed = fold_unmoved closed (node_text kept) (λ e. e.node) (unmoved kept closed)
+
+module _ (expr : List ℕ) where
+  -- the tree that is printed has the text of the one that the expression stands for
+  taken_so : (kept : Kept) (closed : Bool) (open_tree tree : Expr) (report : Report) → StandsFor expr kept open_tree → tree ≡ edged closed open_tree → report ≡ tree_report kept tree → Formatted expr report
+  taken_so kept closed open_tree tree report stands edge is =
+      let same : canonical kept tree ≡ canonical kept open_tree = ap (canonical kept) edge ∙ canonical_unmoved kept closed open_tree in
+      subst (Formatted expr) (sym (is ∙ ap (λ (text : List ℕ). record { text = text ++ codes "\n"; status = 0 }) same)) (taken kept open_tree stands)
+
+  pub tree_formatted : {E : Type 0} (kept : Kept) (closed : Bool) (typed : Typed) (r : Result Line E) → IsReadyTree expr closed kept typed
+      → IfOk r (λ line. line_report line ≡ tree_report kept (tree_of typed)) → IfOk r (λ line. Formatted expr (line_report line))
+  tree_formatted kept closed typed r ready made =
+      IfOk-weaker r _ _ (λ line is. taken_so kept closed ready.open_tree (tree_of typed) (line_report line) ready.stands ready.edge is) made
+
+  pub refusal_formatted : {E : Type 0} (refusal : QueryRefusal) (r : Result Line E) → IsRefusedWith expr refusal → IfOk r (λ line. line_report line ≡ refused_report refusal)
+      → IfOk r (λ line. Formatted expr (line_report line))
+  refusal_formatted refusal r why made = IfOk-weaker r _ _ (λ line is. subst (Formatted expr) (sym is) (refused refusal why)) made
+
+  -- a line was cut off
+  pub line_cut : (report : Report) (before now : Option (List ℕ)) (r : Result Status SinkFail) (cause : SinkFail) → r ≡ Err cause → Formatted expr report → WroteFront before now report.text
+      → Ends (Formatted expr) (IsCutReport (Formatted expr) before now) before now r
+  line_cut report before now r cause is f front =
+      subst (Ends (Formatted expr) (IsCutReport (Formatted expr) before now) before now) (sym is) (Partly report f front)
