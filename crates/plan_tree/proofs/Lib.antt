@@ -1,6 +1,8 @@
 pub mod Beside
+pub mod Bounds
 pub mod Chained
 pub mod Copies
+pub mod Courses
 pub mod Going
 pub mod Heights
 pub mod Leaves
@@ -8,4 +10,5 @@ pub mod Parts
 pub mod Repeats
 pub mod Rings
 pub mod Scalars
+pub mod Spent
 pub mod Walked

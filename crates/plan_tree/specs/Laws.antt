@@ -1,15 +1,20 @@
 -- What builders of trees rely on. (This project's own.)
-use Rattle.std.specs.Prelude.{◌≡◌, ℤ, List, length, take, None, IsTrue}
+use Rattle.std.specs.Prelude.{◌≡◌, ℤ, List, length, take, Option, None, IsTrue}
 use Rattle.op_labels.specs.Rules.{Kept}
 use Rattle.sample_store.specs.Samples.{AllSeries}
+use Rattle.series_marks.specs.Reads.{AreRising}
 use Rattle.step_kernels.specs.Laws.{HasOneRow}
 use Rattle.step_table.specs.WellFormed.{AreSets}
 use Rattle.ticks.specs.Listed.{IsListed}
+use Rattle.ticks.specs.Works.{Counts}
 use Rattle.ticks.specs.declared.moment.Ms.{Ms}
 use Rattle.ticks.specs.declared.walk.Walk.{Walk}
 use Rattle.plan_tree.specs.Chains.{Chain, IsComing}
 use Rattle.plan_tree.specs.Feeds.{fed_on}
-use Rattle.plan_tree.specs.Shapes.{Shape, is_scalar, rule}
+use Rattle.plan_tree.specs.Shapes.{IsFit, Shape, is_scalar, rule}
+use Rattle.plan_tree.specs.Spending.{Cost, HasSpent, IsAlong, IsAtMost, IsBound, IsFresh, MayRead}
+use Rattle.plan_tree.specs.declared.tree.Tree.{Tree}
+use Rattle.plan_tree.specs.declared.turns.Fed.{Fed}
 
 abbrev pub ScalarsHaveOneRow : Type 0
 ScalarsHaveOneRow = (store : AllSeries) (kept : Kept) (shape : Shape) (t : ℤ) → IsTrue (is_scalar shape) → HasOneRow (rule store kept shape t)
@@ -20,3 +25,13 @@ MarksAreSets = (store : AllSeries) (kept : Kept) (shape : Shape) (t : ℤ) → A
 -- the instants of a tree's turns from its first one on are the first ones of its walk, and all of them once there is none left
 abbrev pub TurnsAreTheWalk : Type 0
 TurnsAreTheWalk = (walk : Walk) (times at : List Ms) → IsListed walk times → Chain walk None at → (at ≡ take (length at) times) × (IsComing walk (fed_on None at) None → at ≡ times)
+
+-- what the leaves of a tree may have read when it was fed the first instants of a walk is within the bound over the whole walk
+abbrev pub SpendingIsBounded : Type 0
+SpendingIsBounded =
+    (store : AllSeries) (walk : Walk) (fed : Option Fed) (shape : Shape) (read most : Cost) (times : List Ms) →
+    AreRising store → IsFit store shape → IsAlong walk fed → MayRead store fed shape read → IsListed walk times → IsBound store times shape most → IsAtMost read most
+
+-- a tree that was fed nothing has spent nothing
+abbrev pub FreshTreesBegin : Type 0
+FreshTreesBegin = (store : AllSeries) (tree : Tree) (now : Counts) → tree.fed ≡ None → IsFresh tree.node → HasSpent store tree now now

@@ -3,3 +3,4 @@ pub mod Feeds
 pub mod Laws
 pub mod Nodes
 pub mod Shapes
+pub mod Spending

@@ -1,5 +1,5 @@
 //! Laws of trees. The functions do nothing: each stands for what its contract says.
-ghost use Rattle.plan_tree.specs.Laws.{MarksAreSets, ScalarsHaveOneRow, TurnsAreTheWalk};
+ghost use Rattle.plan_tree.specs.Laws.{FreshTreesBegin, MarksAreSets, ScalarsHaveOneRow, SpendingIsBounded, TurnsAreTheWalk};
 
 use step_kernels::laws::{marks_stay_sets, scalars_stay};
 use ticks::walks_are_listed;
@@ -24,3 +24,15 @@ pub fn turns_are_the_walk()
 {
     walks_are_listed();
 }
+
+/// What the leaves of a tree may have read when it was fed the first instants of a walk is within the bound over the walk.
+pub fn spending_is_bounded()
+    ensures { SpendingIsBounded }
+{
+    turns_are_the_walk();
+}
+
+/// A tree that was fed nothing has spent nothing, whatever the counters are.
+pub fn fresh_trees_begin()
+    ensures { FreshTreesBegin }
+{}

@@ -2,6 +2,7 @@
 ghost use Rattle.plan_tree.specs.Feeds.{fed_on, last_of, once};
 ghost use Rattle.plan_tree.specs.Nodes.{CanFeed, CanFill, CanGo, IsRepeated, lent_by, shape_of};
 ghost use Rattle.plan_tree.specs.Shapes.{IsFit, StaysInTimes, is_single as is_single_shape, rule};
+ghost use Rattle.plan_tree.specs.Spending.{FeedSpends, FillSpends};
 ghost use Rattle.op_subquery.specs.Rings.{IsReady};
 ghost use Rattle.subquery_rows.specs.Rings.{IsAsked, IsNextAfter, Stands};
 ghost use Rattle.std.specs.Prelude.{◌≡◌, ◌∷◌, [], Option, Some, IfOk, OnOk};
@@ -114,7 +115,7 @@ impl Node {
 
     /// Makes the steps of more instants, one at least, later than those that were fed before, and takes out those of the last
     /// feed. In all feeds of one tree the store and the kept patterns are the same. The only error is want of memory; then the
-    /// tree may only be dropped.
+    /// tree may only be dropped. On any answer the counters rise by at most what its leaves read more.
     #[cycle(running)]
     pub fn feed<W: Ledger>(
         &mut self,
@@ -129,6 +130,7 @@ impl Node {
         ensures same { patterns.new ≡ patterns.old }
         ensures lent { OnOk result (stages (lent_by self.new) ≡ steps_over (rule store.now patterns.old (shape_of self.old)) at.now) }
         ensures can { OnOk result (CanGo store.now patterns.old (fed_on fed at.now) self.new) }
+        ensures spent { FeedSpends store.now fed (fed_on fed at.now) result self.old self.new work.old work.new }
     {
         match self {
             Node::Instants { kernel, none } => kernel.feed(at, &none.lend()),
@@ -207,6 +209,7 @@ fn fill<W: Ledger>(
     ensures ready { OnOk result (IsReady kernel.new.points t) }
     ensures next { IfOk result (λ now. IsNextAfter kernel.new.walk (last_of now) kernel.new.next) }
     ensures can { IfOk result (λ now. CanGo store.now patterns.old now inner.new) }
+    ensures spent { FillSpends store.now kernel.old.walk fed result inner.old inner.new work.old work.new }
 {
     marks_are_sets();
     let mut now = fed;
@@ -238,6 +241,7 @@ fn ready<W: Ledger>(
     ensures can { OnOk result (CanGo store.now patterns.old (Some (record { first = first; last = first })) child.new) }
     ensures lent { OnOk result (stages (lent_by child.new) ≡ steps_over (rule store.now patterns.old (shape_of child.old)) (first ∷ [])) }
     ensures named { OnOk result (steps.new.labels ≡ (lent_by child.new).labels) }
+    ensures spent { FeedSpends store.now (once first fed) (Some (record { first = first; last = first })) result child.old child.new work.old work.new }
 {
     match fed {
         Some(_) => Ok(()),

@@ -2,11 +2,14 @@
 ghost use Rattle.plan_tree.specs.Chains.{Chain, IsComing, IsReady, IsSame, IsTurn};
 ghost use Rattle.plan_tree.specs.Nodes.{lent_by, shape_of};
 ghost use Rattle.plan_tree.specs.Shapes.{is_single, rule};
+ghost use Rattle.plan_tree.specs.Spending.{HasSpent, IsWithinBound};
 ghost use Rattle.std.specs.Prelude.{◌≡◌, ◌<◌, ◌≤◌, List, None, length, if◌then◌else◌, IfNone, IfOk, IfSome, OnOk};
 ghost use Rattle.step_batch.specs.Lent.{stages};
 ghost use Rattle.step_table.specs.Timed.{steps_over};
+ghost use Rattle.ticks.specs.Works.{Counts};
 ghost use Rattle.ticks.specs.declared.moment.Ms.{Ms};
 
+use crate::laws::spending_is_bounded;
 use crate::node::Node;
 use crate::turns::{Fed, fed_with, instants};
 use match_rule::Patterns;
@@ -46,7 +49,8 @@ impl Tree {
     }
 
     /// Goes on by one to `batch` instants of the walk; there is none left where it answers false. The only error is want of
-    /// memory; then the tree may only be dropped.
+    /// memory; then the tree may only be dropped. On any answer the counters rose since the tree's start by at most the bound over
+    /// its whole walk.
     pub fn step<W: Ledger>(
         &mut self,
         store: &Store,
@@ -58,7 +62,11 @@ impl Tree {
         ensures same { OnOk result (IsSame self.old self.new) }
         ensures patterns { patterns.new ≡ patterns.old }
         ensures turn { IfOk result (λ more. (at : List Ms) × IsTurn store.now patterns.old self.old self.new more at) }
+        ensures bounded { (start : Counts) → HasSpent store.now self.old start work.old → IsWithinBound store.now self.old.walk (shape_of self.old.node) start work.new }
+        ensures spent { OnOk result ((start : Counts) → HasSpent store.now self.old start work.old → HasSpent store.now self.new start work.new) }
     {
+        spending_is_bounded();
+        let _ = store.series();
         let at = instants(self.alloc, &self.walk, self.fed, self.batch)?;
         let at = at.as_slice();
         if at.is_empty() {
@@ -77,7 +85,7 @@ impl Tree {
     }
 
     /// The steps of the next one to `batch` instants of the walk; there is none exactly behind its last one. The only error is want
-    /// of memory; then the tree may only be dropped.
+    /// of memory; then the tree may only be dropped. The counters stay within the bound as in `step`.
     pub fn next<W: Ledger>(
         &mut self,
         store: &Store,
@@ -88,6 +96,7 @@ impl Tree {
         ensures lent { IfOk result (λ given. IfSome given (λ batch. (at : List Ms) × Chain self.old.walk self.old.fed at × (0 < length at) × (length at ≤ self.old.batch)
             × (stages batch ≡ steps_over (rule store.now patterns.old (shape_of self.old.node)) at))) }
         ensures over { IfOk result (λ given. IfNone given (IsComing self.old.walk self.old.fed None)) }
+        ensures bounded { (start : Counts) → HasSpent store.now self.old start work.old → IsWithinBound store.now self.old.walk (shape_of self.old.node) start work.new }
     {
         if self.step(store, patterns, work)? {
             Ok(Some(self.lend()))

@@ -3,6 +3,7 @@ use Rattle.std.specs.Prelude.{ℤ, pos, ◌<ℤ◌, ◌||◌, IsTrue, true}
 use Rattle.std.specs.List.{AllByRecursion}
 use Rattle.op_labels.specs.Rules.{Kept}
 use Rattle.op_window.specs.Rules.{takes_scalar as reads_scalar, windows_of_series}
+use Rattle.promql_meaning.specs.Selecting.{lookback}
 use Rattle.step_batch.specs.Lent.{Lent, stages}
 use Rattle.step_kernels.specs.Unaries.{unary_rule, unary_step}
 use Rattle.step_table.specs.Timed.{steps_over}
@@ -16,6 +17,7 @@ use Rattle.plan_tree.specs.declared.turns.Fed.{Fed}
 use Rattle.plan_tree.specs.Feeds.{Goes, fed_on, last_of, once}
 use Rattle.plan_tree.specs.Nodes.{CanFeed, CanFill, CanGo, IsRepeated, lent_by, shape_of}
 use Rattle.plan_tree.specs.Shapes.{IsAskedOn, IsFit, Shape, StaysInTimes, is_single, rule}
+use Rattle.plan_tree.specs.Spending.{HasRead, IsAlong, IsSum, LeafMayRead, MayRead, leaf_read, nothing}
 use Rattle.plan_tree.proofs.Beside.{scalars_at, windowed_over}
 use Rattle.plan_tree.proofs.Going.{at_some, goes_rise, once_end}
 use Rattle.plan_tree.proofs.Heights.{height}
@@ -23,6 +25,7 @@ use Rattle.plan_tree.proofs.Leaves.{instants_are, on_ok, on_ok_all, select_follo
 use Rattle.plan_tree.proofs.Parts.{Told, all_weaker, fed_given, or_left, or_right, part_fed, scalar_told, steps_told}
 use Rattle.plan_tree.proofs.Repeats.{repeated_end}
 use Rattle.plan_tree.proofs.Rings.{last_end, last_next, next_goes, next_on, one_at, points_asked, points_over}
+use Rattle.plan_tree.proofs.Spent.{Filled, failed_as, fed_once, fill_fails, fill_made, fill_waits, filled_end, filled_fails, filled_more, filled_none, leaf_spends, leaf_unread, made_as, once_fails, once_feeds, once_made, once_stays, part_fails, part_made, part_spends, stays_made, sum_fails, sum_made, three_fail, three_made, two_fail, two_made, unread, up_to_on}
 use Rattle.plan_tree.proofs.node.+running.Goals as goal
 
 pub Node::feed-feed-requires : goal.Node::feed-feed-requires
@@ -581,6 +584,8 @@ fill-loop-u-preserved g t c =
     ap (λ (l : Lent). stages l) c.lend.ensures ∙ c.in_ok-feed.ensures.lent ∙ (λ j. steps_over (rule S (inv.same j) (inv.shape j)) (u ∷ [])) in
     let took = c.take.ensures in
     let ok = c.in_ok-take.ensures in
+    let walk = c.args.kernel.now.walk in
+    let more = filled_more S walk c.args.fed c.loop-u.now u c.args.inner.now c.loop-u.inner c.feed.new.self c.args.work.now c.loop-u.work c.feed.new.work inv.spent inv.shape k.walk inv.walk after c.in_ok-feed.ensures.spent in
     let now : c.fed_with-now.result ≡ fed_on c.loop-u.now (u ∷ []) = c.fed_with-now.ensures in
     let stands : (outer : Walk) (last : Option Ms) → IsAsked c.args.kernel.now outer inner last c.args.t → Stands c.take.new.self outer inner last =
     λ outer last asked. ok.stands outer inner last u (record { stands = inv.stands outer last asked; next = next; step = rows; sets = c.marks_are_sets.ensures S K (shape_of c.args.inner.now) u.0 }) in
@@ -595,4 +600,193 @@ fill-loop-u-preserved g t c =
       stands = stands;
       next = subst (λ (o : Option Ms). IsNextAfter c.take.new.self.walk o c.take.new.self.next) (ok.last ∙ next ∙ sym (ap last_of now ∙ last_next c.loop-u.now u)) (stands r.outer r.last r.asked).behind;
       can = subst (λ (o : Option Fed). CanGo S K o c.feed.new.self) (sym now) (subst (λ (x : Kept). CanGo S x (fed_on c.loop-u.now (u ∷ [])) c.feed.new.self) inv.same c.in_ok-feed.ensures.can);
+      spent = subst (λ (o : Option Fed). Filled S walk c.args.fed o c.args.inner.now c.feed.new.self c.args.work.now c.feed.new.work) (sym now) more;
     }
+
+-- ---- what is spent
+
+pub Node::feed-returns-in-Instants-clause-spent : goal.Node::feed-returns-in-Instants-clause-spent
+Node::feed-returns-in-Instants-clause-spent g t c =
+    let S = c.args.store.now in let to = fed_on c.args.fed c.args.at.now in let w = c.args.work.now in
+    made_as S c.args.fed to c.feed.result c.args.self.now _ (λ read. read ≡ nothing) w w c.in-Instants.is
+    (stays_made (λ read. read ≡ nothing) w)
+
+pub Node::feed-returns-in-Select-clause-spent : goal.Node::feed-returns-in-Select-clause-spent
+Node::feed-returns-in-Select-clause-spent g t c =
+    let S = c.args.store.now in let to = fed_on c.args.fed c.args.at.now in let w = c.args.work.now in
+    let k = c.in-Select.kernel in let e = c.feed-in-Select.ensures in let new = c.feed-in-Select.new.self in
+    let own = (subst (λ (n : Node). CanFeed c.args.store.now c.args.patterns.now c.args.fed c.args.at.now n) c.in-Select.is c.requires) in
+    made_as S c.args.fed to c.feed-in-Select.result c.args.self.now _ (λ read. read ≡ leaf_read lookback S new.series new.moment to) w c.feed-in-Select.new.work c.in-Select.is
+    (leaf_spends lookback lookback S k.series new.series k.moment new.moment c.args.fed c.args.at.now k.reached w c.feed-in-Select.new.work own.can.reached e.fetched e.probed e.tested refl e.series e.moment)
+
+pub Node::feed-returns-in_err-feed-in-Series-clause-spent : goal.Node::feed-returns-in_err-feed-in-Series-clause-spent
+Node::feed-returns-in_err-feed-in-Series-clause-spent g t c =
+    let S = c.args.store.now in let to = fed_on c.args.fed c.args.at.now in let w = c.args.work.now in
+    let k = c.in-Series.kernel in let scalar = c.in-Series.scalar.value in
+    failed_as _ S c.args.fed to c.from_residual.result c.from_residual.ensures.1 c.args.self.now _ (IsSum (HasRead S to c.feed-in-Series.new.self) (λ read. read ≡ leaf_read k.range.0 S k.series k.moment to)) w c.feed-in-Series.new.work c.in-Series.is
+    (λ was h. sum_fails (HasRead S c.args.fed scalar) (λ read. read ≡ leaf_read k.range.0 S k.series k.moment c.args.fed) (MayRead S to (shape_of scalar)) (LeafMayRead k.range.0 S k.series k.moment to) w c.feed-in-Series.new.work c.feed-in-Series.new.work was h
+    (part_fails S c.args.fed to c.feed-in-Series.result c.deref_mut.result.now scalar c.feed-in-Series.new.self w c.feed-in-Series.new.work c.deref_mut.ensures.value c.feed-in-Series.ensures.spent)
+    (leaf_unread k.range.0 S k.series k.moment c.args.fed to c.feed-in-Series.new.work (up_to_on c.args.fed c.args.at.now c.requires.goes)))
+
+pub Node::feed-returns-in_ok-feed-in-Series-clause-spent : goal.Node::feed-returns-in_ok-feed-in-Series-clause-spent
+Node::feed-returns-in_ok-feed-in-Series-clause-spent g t c =
+    let S = c.args.store.now in let to = fed_on c.args.fed c.args.at.now in let w = c.args.work.now in
+    let k = c.in-Series.kernel in let e = c.feed_store.ensures in let new = c.feed_store.new.self in let scalar = c.in-Series.scalar.value in
+    let own = (subst (λ (n : Node). CanFeed c.args.store.now c.args.patterns.now c.args.fed c.args.at.now n) c.in-Series.is c.requires) in
+    made_as S c.args.fed to c.feed_store.result c.args.self.now _ (IsSum (HasRead S to c.feed-in-Series.new.self) (λ read. read ≡ leaf_read new.range.0 S new.series new.moment to)) w c.feed_store.new.work c.in-Series.is
+    (λ was h. sum_made (HasRead S c.args.fed scalar) (λ read. read ≡ leaf_read k.range.0 S k.series k.moment c.args.fed) (MayRead S to (shape_of scalar)) (LeafMayRead k.range.0 S k.series k.moment to)
+    (HasRead S to c.feed-in-Series.new.self) (λ read. read ≡ leaf_read new.range.0 S new.series new.moment to) w c.feed-in-Series.new.work c.feed_store.new.work was h
+    (part_spends S c.args.fed to c.deref_mut.result.now scalar c.feed-in-Series.new.self w c.feed-in-Series.new.work c.deref_mut.ensures.value c.in_ok-feed-in-Series.ensures.spent)
+    (leaf_spends k.range.0 new.range.0 S k.series new.series k.moment new.moment c.args.fed c.args.at.now k.reached c.feed-in-Series.new.work c.feed_store.new.work own.can.0.reached e.fetched e.probed e.tested (ap (λ (r : Ms). r.0) e.range) e.series e.moment))
+
+pub Node::feed-returns-in_err-feed-in-Unary-clause-spent : goal.Node::feed-returns-in_err-feed-in-Unary-clause-spent
+Node::feed-returns-in_err-feed-in-Unary-clause-spent g t c =
+    let S = c.args.store.now in let to = fed_on c.args.fed c.args.at.now in let w = c.args.work.now in
+    failed_as _ S c.args.fed to c.from_residual-in_err-feed-in-Unary.result c.from_residual-in_err-feed-in-Unary.ensures.1 c.args.self.now _ (HasRead S to c.feed-in-Unary.new.self) w c.feed-in-Unary.new.work c.in-Unary.is
+    (part_fails S c.args.fed to c.feed-in-Unary.result c.deref_mut-in-Unary.result.now c.in-Unary.rows.value c.feed-in-Unary.new.self w c.feed-in-Unary.new.work c.deref_mut-in-Unary.ensures.value c.feed-in-Unary.ensures.spent)
+
+pub Node::feed-returns-in_ok-feed-in-Unary-clause-spent : goal.Node::feed-returns-in_ok-feed-in-Unary-clause-spent
+Node::feed-returns-in_ok-feed-in-Unary-clause-spent g t c =
+    let S = c.args.store.now in let to = fed_on c.args.fed c.args.at.now in let w = c.args.work.now in
+    made_as S c.args.fed to c.feed_unary.result c.args.self.now _ (HasRead S to c.feed-in-Unary.new.self) w c.feed-in-Unary.new.work c.in-Unary.is
+    (part_spends S c.args.fed to c.deref_mut-in-Unary.result.now c.in-Unary.rows.value c.feed-in-Unary.new.self w c.feed-in-Unary.new.work c.deref_mut-in-Unary.ensures.value c.in_ok-feed-in-Unary.ensures.spent)
+
+pub Node::feed-returns-in_err-feed-in-Binary-clause-spent : goal.Node::feed-returns-in_err-feed-in-Binary-clause-spent
+Node::feed-returns-in_err-feed-in-Binary-clause-spent g t c =
+    let S = c.args.store.now in let to = fed_on c.args.fed c.args.at.now in let w = c.args.work.now in
+    let rows = c.in-Binary.rows.value in let beside = c.in-Binary.beside.value in
+    let x = c.feed-in-Binary.new.work in
+    failed_as _ S c.args.fed to c.from_residual-in_err-feed-in-Binary.result c.from_residual-in_err-feed-in-Binary.ensures.1 c.args.self.now _ (IsSum (HasRead S to c.feed-in-Binary.new.self) (HasRead S to beside)) w x c.in-Binary.is
+    (two_fail S c.args.fed to rows beside w x x (part_fails S c.args.fed to c.feed-in-Binary.result c.deref_mut-in-Binary.result.now rows c.feed-in-Binary.new.self w x c.deref_mut-in-Binary.ensures.value c.feed-in-Binary.ensures.spent) (unread S c.args.fed to beside x (up_to_on c.args.fed c.args.at.now c.requires.goes)))
+
+pub Node::feed-returns-in_err-feed-in-Binary-2-clause-spent : goal.Node::feed-returns-in_err-feed-in-Binary-2-clause-spent
+Node::feed-returns-in_err-feed-in-Binary-2-clause-spent g t c =
+    let S = c.args.store.now in let to = fed_on c.args.fed c.args.at.now in let w = c.args.work.now in
+    let rows = c.in-Binary.rows.value in let beside = c.in-Binary.beside.value in
+    let x = c.feed-in-Binary.new.work in let y = c.feed-in-Binary-2.new.work in
+    failed_as _ S c.args.fed to c.from_residual-in_err-feed-in-Binary-2.result c.from_residual-in_err-feed-in-Binary-2.ensures.1 c.args.self.now _ (IsSum (HasRead S to c.feed-in-Binary.new.self) (HasRead S to c.feed-in-Binary-2.new.self)) w y c.in-Binary.is
+    (two_fail S c.args.fed to rows beside w x y (part_made S c.args.fed to rows c.feed-in-Binary.new.self w x (part_spends S c.args.fed to c.deref_mut-in-Binary.result.now rows c.feed-in-Binary.new.self w x c.deref_mut-in-Binary.ensures.value c.in_ok-feed-in-Binary.ensures.spent))
+    (part_fails S c.args.fed to c.feed-in-Binary-2.result c.deref_mut-in-Binary-2.result.now beside c.feed-in-Binary-2.new.self x y c.deref_mut-in-Binary-2.ensures.value c.feed-in-Binary-2.ensures.spent))
+
+pub Node::feed-returns-in_ok-feed-in-Binary-2-clause-spent : goal.Node::feed-returns-in_ok-feed-in-Binary-2-clause-spent
+Node::feed-returns-in_ok-feed-in-Binary-2-clause-spent g t c =
+    let S = c.args.store.now in let to = fed_on c.args.fed c.args.at.now in let w = c.args.work.now in
+    let rows = c.in-Binary.rows.value in let beside = c.in-Binary.beside.value in
+    let x = c.feed-in-Binary.new.work in let y = c.feed-in-Binary-2.new.work in
+    made_as S c.args.fed to c.feed_binary.result c.args.self.now _ (IsSum (HasRead S to c.feed-in-Binary.new.self) (HasRead S to c.feed-in-Binary-2.new.self)) w y c.in-Binary.is
+    (two_made S c.args.fed to rows beside c.feed-in-Binary.new.self c.feed-in-Binary-2.new.self w x y (part_spends S c.args.fed to c.deref_mut-in-Binary.result.now rows c.feed-in-Binary.new.self w x c.deref_mut-in-Binary.ensures.value c.in_ok-feed-in-Binary.ensures.spent)
+    (part_spends S c.args.fed to c.deref_mut-in-Binary-2.result.now beside c.feed-in-Binary-2.new.self x y c.deref_mut-in-Binary-2.ensures.value c.in_ok-feed-in-Binary-2.ensures.spent))
+
+pub Node::feed-returns-in_err-feed-in-Clamp-clause-spent : goal.Node::feed-returns-in_err-feed-in-Clamp-clause-spent
+Node::feed-returns-in_err-feed-in-Clamp-clause-spent g t c =
+    let S = c.args.store.now in let to = fed_on c.args.fed c.args.at.now in let w = c.args.work.now in
+    let rows = c.in-Clamp.rows.value in let low = c.in-Clamp.low.value in let high = c.in-Clamp.high.value in
+    let x = c.feed-in-Clamp.new.work in let up = up_to_on c.args.fed c.args.at.now c.requires.goes in
+    failed_as _ S c.args.fed to c.from_residual-in_err-feed-in-Clamp.result c.from_residual-in_err-feed-in-Clamp.ensures.1 c.args.self.now _ (IsSum (HasRead S to c.feed-in-Clamp.new.self) (IsSum (HasRead S to low) (HasRead S to high))) w x c.in-Clamp.is
+    (three_fail S c.args.fed to rows low high w x x x (part_fails S c.args.fed to c.feed-in-Clamp.result c.deref_mut-in-Clamp.result.now rows c.feed-in-Clamp.new.self w x c.deref_mut-in-Clamp.ensures.value c.feed-in-Clamp.ensures.spent) (unread S c.args.fed to low x up) (unread S c.args.fed to high x up))
+
+pub Node::feed-returns-in_err-feed-in-Clamp-2-clause-spent : goal.Node::feed-returns-in_err-feed-in-Clamp-2-clause-spent
+Node::feed-returns-in_err-feed-in-Clamp-2-clause-spent g t c =
+    let S = c.args.store.now in let to = fed_on c.args.fed c.args.at.now in let w = c.args.work.now in
+    let rows = c.in-Clamp.rows.value in let low = c.in-Clamp.low.value in let high = c.in-Clamp.high.value in
+    let x = c.feed-in-Clamp.new.work in let y = c.feed-in-Clamp-2.new.work in
+    failed_as _ S c.args.fed to c.from_residual-in_err-feed-in-Clamp-2.result c.from_residual-in_err-feed-in-Clamp-2.ensures.1 c.args.self.now _ (IsSum (HasRead S to c.feed-in-Clamp.new.self) (IsSum (HasRead S to c.feed-in-Clamp-2.new.self) (HasRead S to high))) w y c.in-Clamp.is
+    (three_fail S c.args.fed to rows low high w x y y (part_made S c.args.fed to rows c.feed-in-Clamp.new.self w x (part_spends S c.args.fed to c.deref_mut-in-Clamp.result.now rows c.feed-in-Clamp.new.self w x c.deref_mut-in-Clamp.ensures.value c.in_ok-feed-in-Clamp.ensures.spent))
+    (part_fails S c.args.fed to c.feed-in-Clamp-2.result c.deref_mut-in-Clamp-2.result.now low c.feed-in-Clamp-2.new.self x y c.deref_mut-in-Clamp-2.ensures.value c.feed-in-Clamp-2.ensures.spent) (unread S c.args.fed to high y (up_to_on c.args.fed c.args.at.now c.requires.goes)))
+
+pub Node::feed-returns-in_err-feed-in-Clamp-3-clause-spent : goal.Node::feed-returns-in_err-feed-in-Clamp-3-clause-spent
+Node::feed-returns-in_err-feed-in-Clamp-3-clause-spent g t c =
+    let S = c.args.store.now in let to = fed_on c.args.fed c.args.at.now in let w = c.args.work.now in
+    let rows = c.in-Clamp.rows.value in let low = c.in-Clamp.low.value in let high = c.in-Clamp.high.value in
+    let x = c.feed-in-Clamp.new.work in let y = c.feed-in-Clamp-2.new.work in let z = c.feed-in-Clamp-3.new.work in
+    failed_as _ S c.args.fed to c.from_residual-in_err-feed-in-Clamp-3.result c.from_residual-in_err-feed-in-Clamp-3.ensures.1 c.args.self.now _ (IsSum (HasRead S to c.feed-in-Clamp.new.self) (IsSum (HasRead S to c.feed-in-Clamp-2.new.self) (HasRead S to c.feed-in-Clamp-3.new.self))) w z c.in-Clamp.is
+    (three_fail S c.args.fed to rows low high w x y z (part_made S c.args.fed to rows c.feed-in-Clamp.new.self w x (part_spends S c.args.fed to c.deref_mut-in-Clamp.result.now rows c.feed-in-Clamp.new.self w x c.deref_mut-in-Clamp.ensures.value c.in_ok-feed-in-Clamp.ensures.spent))
+    (part_made S c.args.fed to low c.feed-in-Clamp-2.new.self x y (part_spends S c.args.fed to c.deref_mut-in-Clamp-2.result.now low c.feed-in-Clamp-2.new.self x y c.deref_mut-in-Clamp-2.ensures.value c.in_ok-feed-in-Clamp-2.ensures.spent))
+    (part_fails S c.args.fed to c.feed-in-Clamp-3.result c.deref_mut-in-Clamp-3.result.now high c.feed-in-Clamp-3.new.self y z c.deref_mut-in-Clamp-3.ensures.value c.feed-in-Clamp-3.ensures.spent))
+
+pub Node::feed-returns-in_ok-feed-in-Clamp-3-clause-spent : goal.Node::feed-returns-in_ok-feed-in-Clamp-3-clause-spent
+Node::feed-returns-in_ok-feed-in-Clamp-3-clause-spent g t c =
+    let S = c.args.store.now in let to = fed_on c.args.fed c.args.at.now in let w = c.args.work.now in
+    let rows = c.in-Clamp.rows.value in let low = c.in-Clamp.low.value in let high = c.in-Clamp.high.value in
+    let x = c.feed-in-Clamp.new.work in let y = c.feed-in-Clamp-2.new.work in let z = c.feed-in-Clamp-3.new.work in
+    made_as S c.args.fed to c.feed_clamp.result c.args.self.now _ (IsSum (HasRead S to c.feed-in-Clamp.new.self) (IsSum (HasRead S to c.feed-in-Clamp-2.new.self) (HasRead S to c.feed-in-Clamp-3.new.self))) w z c.in-Clamp.is
+    (three_made S c.args.fed to rows low high c.feed-in-Clamp.new.self c.feed-in-Clamp-2.new.self c.feed-in-Clamp-3.new.self w x y z (part_spends S c.args.fed to c.deref_mut-in-Clamp.result.now rows c.feed-in-Clamp.new.self w x c.deref_mut-in-Clamp.ensures.value c.in_ok-feed-in-Clamp.ensures.spent)
+    (part_spends S c.args.fed to c.deref_mut-in-Clamp-2.result.now low c.feed-in-Clamp-2.new.self x y c.deref_mut-in-Clamp-2.ensures.value c.in_ok-feed-in-Clamp-2.ensures.spent)
+    (part_spends S c.args.fed to c.deref_mut-in-Clamp-3.result.now high c.feed-in-Clamp-3.new.self y z c.deref_mut-in-Clamp-3.ensures.value c.in_ok-feed-in-Clamp-3.ensures.spent))
+
+pub Node::feed-returns-in_err-feed-in-Points-clause-spent : goal.Node::feed-returns-in_err-feed-in-Points-clause-spent
+Node::feed-returns-in_err-feed-in-Points-clause-spent g t c =
+    let S = c.args.store.now in let to = fed_on c.args.fed c.args.at.now in let w = c.args.work.now in
+    let k = c.in-Points.kernel in let inner_fed = c.in-Points.inner_fed in
+    let inner = c.in-Points.inner.value in let scalar = c.in-Points.scalar.value in let x = c.feed-in-Points.new.work in
+    failed_as _ S c.args.fed to c.from_residual-in_err-feed-in-Points.result c.from_residual-in_err-feed-in-Points.ensures.1 c.args.self.now _ (λ read. IsAlong k.walk inner_fed × IsSum (HasRead S to c.feed-in-Points.new.self) (HasRead S inner_fed inner) read) w x c.in-Points.is
+    (fill_waits S k.walk inner_fed c.args.fed to inner inner inner scalar w x x refl (part_fails S c.args.fed to c.feed-in-Points.result c.deref_mut-in-Points.result.now scalar c.feed-in-Points.new.self w x c.deref_mut-in-Points.ensures.value c.feed-in-Points.ensures.spent))
+
+pub Node::feed-returns-in_err-inner_fed-in-Points-clause-spent : goal.Node::feed-returns-in_err-inner_fed-in-Points-clause-spent
+Node::feed-returns-in_err-inner_fed-in-Points-clause-spent g t c =
+    let S = c.args.store.now in let to = fed_on c.args.fed c.args.at.now in let w = c.args.work.now in
+    let k = c.in-Points.kernel in let inner_fed = c.in-Points.inner_fed in
+    let inner = c.in-Points.inner.value in let scalar = c.in-Points.scalar.value in let x = c.feed-in-Points.new.work in
+    failed_as _ S c.args.fed to c.from_residual-in_err-inner_fed-in-Points.result c.from_residual-in_err-inner_fed-in-Points.ensures.1 c.args.self.now _ (λ read. IsAlong c.fill.new.kernel.walk inner_fed × IsSum (HasRead S to c.feed-in-Points.new.self) (HasRead S inner_fed c.fill.new.inner) read) w c.fill.new.work c.in-Points.is
+    (fill_fails S k.walk inner_fed c.args.fed to inner c.deref_mut-in-Points-2.result.now c.fill.new.inner scalar w x c.fill.new.work c.deref_mut-in-Points-2.ensures.value c.fill.result
+    (part_made S c.args.fed to scalar c.feed-in-Points.new.self w x (part_spends S c.args.fed to c.deref_mut-in-Points.result.now scalar c.feed-in-Points.new.self w x c.deref_mut-in-Points.ensures.value c.in_ok-feed-in-Points.ensures.spent)) c.fill.ensures.spent)
+
+pub Node::feed-returns-in_ok-inner_fed-in-Points-clause-spent : goal.Node::feed-returns-in_ok-inner_fed-in-Points-clause-spent
+Node::feed-returns-in_ok-inner_fed-in-Points-clause-spent g t c =
+    let S = c.args.store.now in let to = fed_on c.args.fed c.args.at.now in let w = c.args.work.now in
+    let k = c.in-Points.kernel in let inner_fed = c.in-Points.inner_fed in
+    let inner = c.in-Points.inner.value in let scalar = c.in-Points.scalar.value in let x = c.feed-in-Points.new.work in
+    let end = c.in_ok-inner_fed-in-Points.field-0 in
+    made_as S c.args.fed to c.give.result c.args.self.now _ (λ read. IsAlong c.give.new.self.walk end × IsSum (HasRead S to c.feed-in-Points.new.self) (HasRead S end c.fill.new.inner) read) w c.fill.new.work c.in-Points.is
+    (fill_made S k.walk inner_fed c.args.fed to inner c.deref_mut-in-Points-2.result.now c.fill.new.inner scalar w x c.fill.new.work c.deref_mut-in-Points-2.ensures.value end c.give.new.self.walk c.feed-in-Points.new.self (c.give.ensures.walk ∙ c.fill.ensures.walk)
+    (part_spends S c.args.fed to c.deref_mut-in-Points.result.now scalar c.feed-in-Points.new.self w x c.deref_mut-in-Points.ensures.value c.in_ok-feed-in-Points.ensures.spent) c.in_ok-inner_fed-in-Points.ensures.spent)
+
+pub Node::feed-returns-in_err-ready-in-Once-clause-spent : goal.Node::feed-returns-in_err-ready-in-Once-clause-spent
+Node::feed-returns-in_err-ready-in-Once-clause-spent g t c =
+    let S = c.args.store.now in let to = fed_on c.args.fed c.args.at.now in let w = c.args.work.now in
+    let first = c.in-Once.first in let child = c.in-Once.child.value in let x = c.ready.new.work in
+    failed_as _ S c.args.fed to c.from_residual-in_err-ready-in-Once.result c.from_residual-in_err-ready-in-Once.ensures.1 c.args.self.now _ (HasRead S (once first to) c.ready.new.child) w x c.in-Once.is
+    (once_fails S first c.args.fed c.args.at.now c.requires.some child w x (part_fails S (once first c.args.fed) (fed_once first) c.ready.result c.deref_mut-in-Once.result.now child c.ready.new.child w x c.deref_mut-in-Once.ensures.value c.ready.ensures.spent))
+
+pub Node::feed-returns-in_ok-ready-in-Once-clause-spent : goal.Node::feed-returns-in_ok-ready-in-Once-clause-spent
+Node::feed-returns-in_ok-ready-in-Once-clause-spent g t c =
+    let S = c.args.store.now in let to = fed_on c.args.fed c.args.at.now in let w = c.args.work.now in
+    let first = c.in-Once.first in let child = c.in-Once.child.value in let x = c.ready.new.work in
+    made_as S c.args.fed to c.repeat_all.result c.args.self.now _ (HasRead S (once first to) c.ready.new.child) w x c.in-Once.is
+    (once_made S first c.args.fed c.args.at.now c.requires.some child w x c.ready.new.child (part_spends S (once first c.args.fed) (fed_once first) c.deref_mut-in-Once.result.now child c.ready.new.child w x c.deref_mut-in-Once.ensures.value c.in_ok-ready-in-Once.ensures.spent))
+
+pub fill-loop-u-init : goal.fill-loop-u-init
+fill-loop-u-init g t c =
+    let spent = filled_none c.args.store.now c.args.kernel.now.walk c.args.fed c.args.inner.now c.args.work.now in
+    record { f = refl; walk = refl; moment = refl; range = refl; step = refl; shape = refl; same = refl; stands = λ outer last asked. asked.stands; next = c.requires.next; can = c.requires.can; spent = spent }
+
+pub fill-returns-in_err-feed-clause-spent : goal.fill-returns-in_err-feed-clause-spent
+fill-returns-in_err-feed-clause-spent g t c =
+    let inv = c.loop-u.invariant in
+    let k = c.loop-u.kernel in
+    let u = c.in-Some.u in
+    let next : k.next ≡ Some u = subst (λ (o : Option Ms). Rattle.std.specs.Prelude.IfSome o (λ v. k.next ≡ Some v)) c.in-Some.is c.wanted.ensures.next in
+    let after : IsNextAfter k.walk (last_of c.loop-u.now) (Some u) = subst (λ (o : Option Ms). IsNextAfter k.walk (last_of c.loop-u.now) o) next inv.next in
+    filled_fails c.args.store.now c.args.kernel.now.walk c.args.fed c.loop-u.now u c.args.inner.now c.loop-u.inner c.feed.new.self c.args.work.now c.loop-u.work c.feed.new.work inv.spent inv.shape k.walk inv.walk after
+    _ c.from_residual.result c.from_residual.ensures.1 c.feed.new.self (λ was h. (c.feed.ensures.spent was h).0)
+
+pub fill-returns-in_err-take-clause-spent : goal.fill-returns-in_err-take-clause-spent
+fill-returns-in_err-take-clause-spent g t c =
+    let inv = c.loop-u.invariant in
+    let k = c.loop-u.kernel in
+    let u = c.in-Some.u in
+    let next : k.next ≡ Some u = subst (λ (o : Option Ms). Rattle.std.specs.Prelude.IfSome o (λ v. k.next ≡ Some v)) c.in-Some.is c.wanted.ensures.next in
+    let after : IsNextAfter k.walk (last_of c.loop-u.now) (Some u) = subst (λ (o : Option Ms). IsNextAfter k.walk (last_of c.loop-u.now) o) next inv.next in
+    filled_fails c.args.store.now c.args.kernel.now.walk c.args.fed c.loop-u.now u c.args.inner.now c.loop-u.inner c.feed.new.self c.args.work.now c.loop-u.work c.feed.new.work inv.spent inv.shape k.walk inv.walk after
+    _ c.from_residual-in_err-take.result c.from_residual-in_err-take.ensures.1 c.feed.new.self (λ was h. (c.feed.ensures.spent was h).0)
+
+pub fill-returns-clause-spent : goal.fill-returns-clause-spent
+fill-returns-clause-spent g t c =
+    filled_end c.args.store.now c.args.kernel.now.walk c.args.fed c.loop-u.now c.args.inner.now c.loop-u.inner c.args.work.now c.loop-u.work c.loop-u.invariant.spent
+
+pub ready-returns-in-Some-clause-spent : goal.ready-returns-in-Some-clause-spent
+ready-returns-in-Some-clause-spent g t c = once_stays c.args.store.now c.args.first c.args.fed c.in-Some.field-0 c.args.child.now c.args.work.now c.in-Some.is
+
+pub ready-returns-in_ok-feed-in-None-clause-spent : goal.ready-returns-in_ok-feed-in-None-clause-spent
+ready-returns-in_ok-feed-in-None-clause-spent g t c =
+    once_feeds c.args.store.now c.args.first c.args.fed c.name_all.result c.args.child.now c.feed.new.self c.args.work.now c.feed.new.work c.in-None.is c.in_ok-feed-in-None.ensures.spent

@@ -8,6 +8,7 @@ use Rattle.plan_tree.specs.Feeds.{last_of}
 use Rattle.plan_tree.specs.Nodes.{CanGo, shape_of}
 use Rattle.plan_tree.specs.Shapes.{rule}
 use Rattle.plan_tree.proofs.Heights.{height}
+use Rattle.plan_tree.proofs.Spent.{Filled}
 use Rattle.plan_tree.proofs.node.+running.Given as goal
 
 abbrev pub decreases-Node::feed : goal.decreases-Node::feed
@@ -33,6 +34,7 @@ invariant-fill-loop-u g l =
       stands : (outer : Walk) (last : Option Ms) → IsAsked l.fn.kernel outer inner last l.t → Stands l.kernel outer inner last;
       next : IsNextAfter l.kernel.walk (last_of l.now) l.kernel.next;
       can : CanGo l.store l.fn.patterns l.now l.inner;
+      spent : Filled l.store l.fn.kernel.walk l.fn.fed l.now l.fn.inner l.inner l.fn.work l.work;
     }
 
 abbrev pub decreases-fill-loop-u : goal.decreases-fill-loop-u
