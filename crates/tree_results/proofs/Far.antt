@@ -7,6 +7,7 @@ use Rattle.plan_tree.specs.Feeds.{fed_on}
 use Rattle.plan_tree.specs.Laws.{TurnsAreTheWalk}
 use Rattle.plan_tree.specs.Nodes.{lent_by, shape_of}
 use Rattle.plan_tree.specs.Shapes.{Shape, rule}
+use Rattle.plan_tree.specs.Spending.{IsWithinBound}
 use Rattle.plan_tree.specs.declared.tree.Tree.{Tree}
 use Rattle.plan_tree.specs.declared.turns.Fed.{Fed}
 use Rattle.promql_ast.specs.declared.tree.Expr.{Expr}
@@ -18,6 +19,7 @@ use Rattle.sample_store.specs.Samples.{AllSeries}
 use Rattle.step_batch.specs.Lent.{Lent, stages}
 use Rattle.step_table.specs.Timed.{StepAt, steps_over}
 use Rattle.step_table.specs.declared.step.Step.{Step}
+use Rattle.ticks.specs.Works.{Counts}
 use Rattle.ticks.specs.declared.grid.Grid.{Grid}
 use Rattle.ticks.specs.declared.moment.Ms.{Ms}
 use Rattle.ticks.specs.declared.walk.Walk.{Walk}
@@ -97,3 +99,10 @@ all_taken store kept now shape grid tree new taken more far turn stopped numbere
     let end = subst (λ (f : Option Fed). IsComing (GridWalk grid) f None) far.fed (subst (λ (w : Walk). IsComing w tree.fed None) far.walk over) in
     let is = (turns (GridWalk grid) (grid_times grid) far.done (grid_listed numbered grid) far.chain).1 end in
     subst (λ (ts : List Ms). HasTaken taken (steps_over (rule store kept shape) ts)) is far.has
+
+-- the bound is that of the tree at the start
+pub within_at :
+    (store : AllSeries) (kept : Rules) (shape : Shape) (grid : Grid) (tree : Tree) (taken : Kept) (walk : Walk) (start now : Counts) →
+    IsFar store kept shape grid tree taken → walk ≡ GridWalk grid → IsWithinBound store tree.walk (shape_of tree.node) start now → IsWithinBound store walk shape start now
+within_at store kept shape grid tree taken walk start now far is h =
+    subst (λ (s : Shape). IsWithinBound store walk s start now) far.shape_is (subst (λ (w : Walk). IsWithinBound store w (shape_of tree.node) start now) (far.walk ∙ sym is) h)
