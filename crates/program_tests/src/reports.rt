@@ -2,7 +2,7 @@ ghost use Rattle.std.specs.Prelude.{◌≡◌, None, Some};
 
 use edge_io::{Fetch, Fetched, Library, MemLibrary, MemSink, Sink, SinkFail};
 use holders::{Items, Text};
-use promql_tool::{Status, batches_leave_reports, run_tool};
+use promql_tool::{Status, choices_leave_reports, run_tool};
 use std::alloc::{AllocError, Global};
 use std::marker::Brand;
 use std::process::Abort;
@@ -206,6 +206,18 @@ const RUNS: &str = r##"
 0|x{i="1"} 2@60000 3@120000;x{i="2"} 20@0 10@60000;|query  --batch=2  --from  0  --to  2m  --step  1m  s.test  (x > 1) < 4 or x > 5|0|0
 1|FAILED at 60000 irrational result;|query  --batch  3  --from  0  --to  2m  --step  1m  s.test  2 ^ (1 / scalar(x{i="1"}))|0|0
 0|series 5 samples 305;PASS workload:8;PASS workload:11;PASS workload:17;passed 3 failed 0;|workload  --batch  3  5|0|0
+0|rate(x{b!="c"}[5m] @ 3 offset 1h) + -1;|format  rate(x{b!="c"}[300s]offset 60m@3)+-1|0|0
+0|x;|format  x {}|1|0
+0|-1;|format  --  -1|0|0
+0|label_replace(x{a=~"b"}, "c", "$1", "d", "(.*)");|format  label_replace(x{a=~'b'}, 'c', '$1', 'd', '(.*)')|0|0
+1|REFUSED WrongType at 4;|format  sum(x{b!="c"}[5m:] offset 1h @ 3) by(a)|0|0
+1|REFUSED Expected at 3;|format  1 +|0|0
+1|REFUSED UnknownFunction foo at 4;|format  1 + foo(x)|0|0
+1|REFUSED BadPattern at 5;|format  x{a=~"("}|0|0
+4||format  x|0|1
+2|usage: promqltest [options] FILE.. or query [options] FILE EXPR;|format|0|0
+2|usage: promqltest [options] FILE.. or query [options] FILE EXPR;|format  x  y|0|0
+2|usage: promqltest [options] FILE.. or query [options] FILE EXPR;|format  --edges=v2  x|0|0
 "##;
 
 /// Appends a text with a line feed for each sign.
@@ -506,7 +518,7 @@ fn reports(rt: HostRuntime) -> Result<(), Fail> {
 
 #[test]
 fn words_are_run(rt: HostRuntime) -> Result<(), Fail> {
-    batches_leave_reports();
+    choices_leave_reports();
     let mut rows = 0u32;
     for row in RUNS.lines() {
         if !row.is_empty() {
@@ -514,6 +526,6 @@ fn words_are_run(rt: HostRuntime) -> Result<(), Fail> {
             rows = rows.saturating_add(1);
         }
     }
-    assert_eq!(rt; rows, 98);
+    assert_eq!(rt; rows, 110);
     Ok(())
 }

@@ -242,7 +242,30 @@ refused|workload|--batch=01|7
 refused|workload|--batch|1025|7
 refused|workload|--batch|x|7
 refused|workload|--batch=3|--batch=3|7
-refused|workload|--batch|7";
+refused|workload|--batch|7
+format <x>|format|x
+format <x>|format|--|x
+format <x>|format|x|--
+format <>|format|
+format <->|format|-
+format <-1>|format|--|-1
+format <--help>|format|--|--help
+format <sum by (a) (x{b='ü'})>|format|sum by (a) (x{b='ü'})
+refused|format
+refused|format|--
+refused|format|x|y
+refused|format|x|--|y
+refused|format|--|x|y
+refused|format|-1
+refused|format|--help
+refused|format|x|-h
+refused|format|--edges|v2|x
+refused|format|--edges=v2|x
+refused|format|--batch|1|x
+refused|format|x|--batch=1
+refused|format|--at=1|x
+refused|Format|x
+refused|formats|x";
 
 /// What is chosen is told, but for what holds without an option.
 fn chosen(alloc: Global, choices: Choices) -> Result<String, AllocError> {
@@ -283,6 +306,10 @@ fn told(alloc: Global, asked: Option<Asked>) -> Result<String, AllocError> {
         Some(Asked::Workload { choices, count }) => {
             let chosen = chosen(alloc, choices)?;
             format!(in alloc; "{chosen}workload {count}")
+        }
+        Some(Asked::Format { expr }) => {
+            let expr = expr.as_str();
+            format!(in alloc; "format <{expr}>")
         }
     }
 }
