@@ -1,7 +1,7 @@
 #!/usr/bin/env bash
 # Judges each script below tests/scripts/, whose README.md says which must pass and which must fail, and runs it in batches of
 # other sizes too, which must print the same bytes. It prints a line for each script that does otherwise, and last how many
-# scripts passed and failed. It runs tests/refusals.sh and tests/limits.sh too. It ends with 0 where all passed.
+# scripts passed and failed. It runs tests/refusals.sh, tests/texts.sh and tests/limits.sh too. It ends with 0 where all passed.
 #   tests/scripts.sh                   by bin/promqltest; it fails where the release isn't of the sources that stand here
 #   tests/scripts.sh --program FILE    by this program, whatever the release is
 set -u
@@ -97,7 +97,7 @@ for file in "${files[@]}"; do
 done
 judge_all "${together[@]}"
 for file in "${alone[@]}"; do judge_one "$file"; done
-for more in refusals limits; do
+for more in refusals texts limits; do
     [ ! -e "$top/tests/$more.sh" ] || "$top/tests/$more.sh" "${program[0]}" || failed=$((failed + 1))
 done
 echo "scripts: ${#together[@]} that pass as they stand, ${#alone[@]} with files beside them, $failed failed"
