@@ -1,7 +1,7 @@
 -- A tree that was built of a part, before its walk's first instant.
 use Rattle.std.proofs.Common.{◌≡◌, ◌∙◌, ◌<◌, ◌≤◌, ℕ, Bool, true, false, Option, None, refl, sym, ap, subst, arith}
 use Rattle.std.specs.Prelude.{ℤ, IsTrue, if◌then◌else◌}
-use Rattle.logical_plan.specs.PlanMeaning.{plan_meaning, plan_step}
+use Rattle.logical_plan.specs.PlanMeaning.{plan_step}
 use Rattle.logical_plan.specs.declared.nodes.Plan.{Plan}
 use Rattle.op_labels.specs.Rules.{Kept}
 use Rattle.plan_parts.specs.Gives.{Gives, given_as}

@@ -1,10 +1,9 @@
 -- What stands below the Once nodes of a plan gives the same at all instants, where it is steady.
 use Rattle.std.proofs.Common.{◌≡◌, ◌∙◌, ℕ, List, [], ◌∷◌, ◌++◌, map, ap, ap₂, refl, sym, subst, Bool, true, false}
-use Rattle.std.specs.Prelude.{ℤ, ◌&&◌}
+use Rattle.std.specs.Prelude.{◌&&◌}
 use Rattle.logical_plan.specs.Lowering.{planned}
 use Rattle.logical_plan.specs.PlanFolds.{of-Absent, of-Buckets, of-Element, of-Filter, of-Group, of-Once, of-Pair, of-Ratio, of-Relabel, of-ScalarOf, of-Set, of-Sort, of-Stamp, of-Subquery, of-VectorOf, of-Window}
-use Rattle.logical_plan.specs.PlanMeaning.{plan_meaning}
-use Rattle.logical_plan.specs.Steadiness.{Checked, OncesAreSteady, SteadyPlanStays, all_good, all_of, both, checked, constant, is_steady, known, node_checked, node_facts, node_good, selected, still_if}
+use Rattle.logical_plan.specs.Steadiness.{Checked, OncesAreSteady, SteadyPlanStays, all_good, all_of, both, checked, constant, is_steady, known, node_checked, node_facts, still_if}
 use Rattle.logical_plan.specs.declared.nodes.Plan.{Plan}
 use Rattle.logical_plan.specs.declared.nodes.PlanNode.{PlanNode}
 use Rattle.logical_plan.specs.declared.nodes.PlanNode.TheVariants as node

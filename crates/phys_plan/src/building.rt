@@ -21,10 +21,9 @@ use std::sync::ledger::Ledger;
 use ticks::{Grid, Walk, Work};
 
 /// The tree of kernels of a plan that is asked at the instants of a walk over a store, at most `batch` of them at once; `span`
-/// has the start and the end that `@ start()` and `@ end()` stand for. It reads no sample. It is `Invalid` where a part of the
-/// plan has no kernel, as a function of windows and a ratio, where the plan isn't typed, where its patterns aren't kept, where it
-/// leads beyond the times, or where the walk is neither a grid nor one instant; else the only error is want of memory. (The
-/// kernels are those of thanos-io/promql-engine.)
+/// has the start and the end that `@ start()` and `@ end()` stand for. It reads no sample. It is `Invalid` where the plan isn't
+/// typed, where its patterns aren't kept, where it leads beyond the times, or where the walk is neither a grid nor one instant;
+/// else the only error is want of memory. (The kernels are those of thanos-io/promql-engine.)
 pub fn build<W: Ledger>(
     alloc: Global,
     p: &Plan,

@@ -1,19 +1,22 @@
 //! The tree of a plan, node by node.
+ghost use Rattle.logical_plan.specs.declared.nodes.PlanNode.TheVariants as node;
 ghost use Rattle.plan_parts.specs.Parts.{IsPartOf};
 ghost use Rattle.promql_meaning.specs.Selecting.{asked_over};
 ghost use Rattle.std.specs.Prelude.{◌≡◌};
+ghost use Rattle.window_parts.specs.Over.{IsArgumentOf};
 
 use crate::site::Site;
 use label_set::Relabel;
 use logical_plan::{Plan, PlanNode};
 use match_rule::Patterns;
 use plan_parts::kinds::{
-    absent, applied, applied_with, as_scalar, as_vector, clamped, combined, copied, grouped,
-    number, paired, quantiles, ranked, relabelled, stamped, time,
+    absent, applied, applied_with, as_scalar, as_vector, clamped, combined, copied, divided,
+    grouped, number, paired, quantiles, ranked, relabelled, stamped, time,
 };
 use plan_parts::{Course, Part, Unbuilt, repeated, select};
 use std::sync::ledger::Ledger;
 use ticks::Work;
+use window_parts::{inside, points, series};
 
 /// The tree of a plan that is asked at the instants of a course.
 #[cycle(growing)]
@@ -39,10 +42,12 @@ pub(crate) fn grown<W: Ledger>(
         ),
         PlanNode::Once(_) => once(site, course, p, patterns, work),
         PlanNode::Element(_, _, _) => element(site, course, p, patterns, work),
+        PlanNode::Window(_, _, _) => window(site, course, p, patterns, work),
         PlanNode::Group(_, _, _, _) => group(site, course, p, patterns, work),
-        PlanNode::Buckets(_, _) | PlanNode::Pair(_, _, _, _) | PlanNode::Set(_, _, _, _) => {
-            over_two(site, course, p, patterns, work)
-        }
+        PlanNode::Buckets(_, _)
+        | PlanNode::Pair(_, _, _, _)
+        | PlanNode::Set(_, _, _, _)
+        | PlanNode::Ratio { .. } => over_two(site, course, p, patterns, work),
         PlanNode::ScalarOf(_) | PlanNode::Sort { .. } | PlanNode::VectorOf(_) => {
             retyped(site, course, p, patterns, work)
         }
@@ -145,6 +150,11 @@ fn over_two<W: Ledger>(
             let beside = grown(site, course, right.get(), patterns, work);
             combined(site.alloc, *op, pairing, rows, beside)
         }
+        PlanNode::Ratio { sum, count } => {
+            let rows = grown(site, course, sum.get(), patterns, work);
+            let beside = grown(site, course, count.get(), patterns, work);
+            divided(site.alloc, rows, beside)
+        }
         _ => Err(Unbuilt::Invalid),
     }
 }
@@ -220,6 +230,108 @@ fn beside_two<W: Ledger>(
     let low = grown(site, course, a, patterns, work);
     let high = grown(site, course, b, patterns, work);
     clamped(site.alloc, *f, rows, low, high)
+}
+
+/// The tree of a function of windows; none of another node.
+#[cycle(growing)]
+fn window<W: Ledger>(
+    site: &Site<'_>,
+    course: &Course,
+    p: &Plan,
+    patterns: &mut Patterns<'_>,
+    work: &mut Work<W>,
+) -> Result<Part, Unbuilt>
+    ensures part { IsPartOf (asked_over site.now.store.now patterns.old site.now.span.now) course.now.walk p.now result }
+    ensures same { patterns.new ≡ patterns.old }
+{
+    let PlanNode::Window(_, windows, _) = &p.node else {
+        return Err(Unbuilt::Invalid);
+    };
+    match &windows.get().node {
+        PlanNode::Subquery { .. } => over_points(site, course, p, patterns, work),
+        _ => over_series(site, course, p, patterns, work),
+    }
+}
+
+/// The tree of a function of the windows of series; none of another node.
+#[cycle(growing)]
+fn over_series<W: Ledger>(
+    site: &Site<'_>,
+    course: &Course,
+    p: &Plan,
+    patterns: &mut Patterns<'_>,
+    work: &mut Work<W>,
+) -> Result<Part, Unbuilt>
+    ensures part { IsPartOf (asked_over site.now.store.now patterns.old site.now.span.now) course.now.walk p.now result }
+    ensures same { patterns.new ≡ patterns.old }
+{
+    let PlanNode::Window(f, windows, _) = &p.node else {
+        return Err(Unbuilt::Invalid);
+    };
+    let beside = only_argument(site, course, p, patterns, work);
+    series(
+        site.alloc,
+        site.store,
+        site.span,
+        course,
+        *f,
+        windows.get(),
+        beside,
+        patterns,
+        work,
+    )
+}
+
+/// The tree of a function of the windows of a subquery; none of another node.
+#[cycle(growing)]
+fn over_points<W: Ledger>(
+    site: &Site<'_>,
+    course: &Course,
+    p: &Plan,
+    patterns: &mut Patterns<'_>,
+    work: &mut Work<W>,
+) -> Result<Part, Unbuilt>
+    ensures part { IsPartOf (asked_over site.now.store.now patterns.old site.now.span.now) course.now.walk p.now result }
+    ensures same { patterns.new ≡ patterns.old }
+{
+    let PlanNode::Window(f, windows, _) = &p.node else {
+        return Err(Unbuilt::Invalid);
+    };
+    let PlanNode::Subquery {
+        inner,
+        range,
+        step,
+        moment,
+    } = &windows.get().node
+    else {
+        return Err(Unbuilt::Invalid);
+    };
+    let below = inside(site.alloc, site.span, course, moment, *range, *step)?;
+    let rows = grown(site, &below.course, inner.get(), patterns, work);
+    let beside = only_argument(site, course, p, patterns, work);
+    points(site.alloc, course, &below, *f, rows, beside)
+}
+
+/// The tree of the only argument of a function of windows beside these, if it has one; none of another node.
+#[cycle(growing)]
+fn only_argument<W: Ledger>(
+    site: &Site<'_>,
+    course: &Course,
+    p: &Plan,
+    patterns: &mut Patterns<'_>,
+    work: &mut Work<W>,
+) -> Result<Option<Part>, Unbuilt>
+    ensures part { (f inner arguments : _) → p.now.node ≡ node.Window f inner arguments → IsArgumentOf (asked_over site.now.store.now patterns.old site.now.span.now) course.now.walk arguments result }
+    ensures same { patterns.new ≡ patterns.old }
+{
+    let PlanNode::Window(_, _, arguments) = &p.node else {
+        return Err(Unbuilt::Invalid);
+    };
+    match arguments.as_slice() {
+        [] => Ok(None),
+        [a] => Ok(Some(grown(site, course, a, patterns, work)?)),
+        _ => Err(Unbuilt::Invalid),
+    }
 }
 
 /// The tree of an aggregation; none of another node.

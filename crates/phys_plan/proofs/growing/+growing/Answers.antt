@@ -1,9 +1,11 @@
-use Rattle.std.proofs.Common.{◌≡◌, List, ap, refl}
-use Rattle.label_set.specs.declared.rules.Relabel.{Relabel}
+use Rattle.std.proofs.Common.{◌∙◌, Bool, List, ap, refl, subst, sym, ℕ}
 use Rattle.label_set.specs.declared.rules.Relabel.TheVariants.{Filter}
 use Rattle.label_set.specs.declared.rules.Rule.{Rule}
+use Rattle.logical_plan.specs.declared.nodes.Plan.{Plan}
+use Rattle.logical_plan.specs.declared.nodes.PlanNode.TheVariants as node
 use Rattle.promql_meaning.specs.Selecting.{asked_over}
-use Rattle.phys_plan.proofs.Arms.{child_of, ok_then}
+use Rattle.plan_parts.specs.Parts.{IsPartOf}
+use Rattle.phys_plan.proofs.Arms.{argument_of, child_of, ok_then}
 use Rattle.phys_plan.proofs.growing.+growing.Goals as goal
 
 pub grown-returns-in-Number-clause-part : goal.grown-returns-in-Number-clause-part
@@ -32,3 +34,35 @@ retyped-returns-in-Sort-clause-part g t c =
     let inner = c.in-Sort.inner in
     let rows = child_of asked asked walk inner c.get-in-Sort.result.now c.grown-rows-in-Sort.result refl c.get-in-Sort.ensures c.grown-rows-in-Sort.ensures.part in
     c.as_vector.ensures.sort asked walk c.args.p.now inner c.in-Sort.down c.in-Sort.is rows
+
+pub over_series-returns-clause-part : goal.over_series-returns-clause-part
+over_series-returns-clause-part g t c =
+    let store = c.args.site.now.store.now in
+    let span = c.args.site.now.span.now in
+    let asked = asked_over store c.args.patterns.now span in
+    let walk = c.args.course.now.walk in
+    let p = c.args.p.now in
+    let f = c.in-Window.f in
+    let arguments = c.in-Window.field-2 in
+    let same = ap (λ (kept : List (Bool × List ℕ)). asked_over store kept span) c.only_argument-beside.ensures.same in
+    let beside = c.only_argument-beside.ensures.part f c.in-Window.windows arguments c.in-Window.is in
+    let given = argument_of (asked_over store c.only_argument-beside.new.patterns span) asked walk arguments c.only_argument-beside.result (sym same) beside in
+    let is = c.in-Window.is ∙ ap (λ (windows : Plan). node.Window f windows arguments) (sym c.get.ensures) in
+    subst (λ z. IsPartOf z walk p c.series.result) same (c.series.ensures.part p arguments is given)
+
+pub over_points-returns-clause-part : goal.over_points-returns-clause-part
+over_points-returns-clause-part g t c =
+    let store = c.args.site.now.store.now in
+    let span = c.args.site.now.span.now in
+    let asked = asked_over store c.args.patterns.now span in
+    let walk = c.args.course.now.walk in
+    let f = c.in-Window.f in
+    let windows = c.in-Window.windows in
+    let arguments = c.in-Window.field-2 in
+    let below = c.in_ok-below.below in
+    let inner = c.in-Subquery.inner in
+    let is = sym (ap (λ (q : Plan). q.node) c.get.ensures) ∙ c.in-Subquery.is in
+    let rows = child_of asked asked below.course.walk inner c.get-2.result.now c.grown-rows.result refl c.get-2.ensures c.grown-rows.ensures.part in
+    let same = ap (λ (kept : List (Bool × List ℕ)). asked_over store kept span) c.grown-rows.ensures.same in
+    let beside = argument_of asked (asked_over store c.grown-rows.new.patterns span) walk arguments c.only_argument-beside.result same (c.only_argument-beside.ensures.part f windows arguments c.in-Window.is) in
+    c.points.ensures asked c.args.p.now windows inner c.in-Subquery.moment c.in-Subquery.range c.in-Subquery.step arguments c.in-Window.is is (c.in_ok-below.ensures.inside store c.args.patterns.now) rows beside
