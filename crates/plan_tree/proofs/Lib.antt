@@ -6,6 +6,7 @@ pub mod Courses
 pub mod Going
 pub mod Heights
 pub mod Leaves
+pub mod OneBound
 pub mod Parts
 pub mod Repeats
 pub mod Rings

@@ -12,7 +12,7 @@ use Rattle.ticks.specs.declared.walk.Walk.{Walk}
 use Rattle.plan_tree.specs.Chains.{Chain, IsComing}
 use Rattle.plan_tree.specs.Feeds.{fed_on}
 use Rattle.plan_tree.specs.Shapes.{IsFit, Shape, is_scalar, rule}
-use Rattle.plan_tree.specs.Spending.{Cost, HasSpent, IsAlong, IsAtMost, IsBound, IsFresh, MayRead}
+use Rattle.plan_tree.specs.Spending.{Cost, HasLists, HasSpent, IsAlong, IsAtMost, IsBound, IsFresh, MayRead}
 use Rattle.plan_tree.specs.declared.tree.Tree.{Tree}
 use Rattle.plan_tree.specs.declared.turns.Fed.{Fed}
 
@@ -25,6 +25,11 @@ MarksAreSets = (store : AllSeries) (kept : Kept) (shape : Shape) (t : ℤ) → A
 -- the instants of a tree's turns from its first one on are the first ones of its walk, and all of them once there is none left
 abbrev pub TurnsAreTheWalk : Type 0
 TurnsAreTheWalk = (walk : Walk) (times at : List Ms) → IsListed walk times → Chain walk None at → (at ≡ take (length at) times) × (IsComing walk (fed_on None at) None → at ≡ times)
+
+-- a tree whose subqueries' walks lead to times has a bound, and only one
+abbrev pub EachTreeHasOneBound : Type 0
+EachTreeHasOneBound =
+    (store : AllSeries) (times : List Ms) (shape : Shape) → HasLists shape → (most : Cost) × IsBound store times shape most × ((other : Cost) → IsBound store times shape other → other ≡ most)
 
 -- what the leaves of a tree may have read when it was fed the first instants of a walk is within the bound over the whole walk
 abbrev pub SpendingIsBounded : Type 0

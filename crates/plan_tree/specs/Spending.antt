@@ -5,6 +5,7 @@ use Rattle.promql_meaning.specs.Selecting.{lookback}
 use Rattle.sample_store.specs.Samples.{AllSeries}
 use Rattle.series_marks.specs.Reaches.{fetched_bound, probed_bound, reads_of, searches_of}
 use Rattle.ticks.specs.Listed.{IsListed}
+use Rattle.ticks.specs.Walks.{LeadsToTimes}
 use Rattle.ticks.specs.Works.{Counts}
 use Rattle.ticks.specs.declared.moment.Ms.{Ms}
 use Rattle.ticks.specs.declared.walk.Walk.{Walk}
@@ -63,6 +64,17 @@ IsBound store at (ClampOf one rows low high) = IsSum (IsBound store at rows) (Is
 IsBound store at (PointsOf f walk moment range step inner scalar) =
     λ most. (times : List Ms) × IsListed walk times × IsSum (IsBound store at scalar) (IsBound store times inner) most
 IsBound store at (OnceOf first child) = IsBound store (once_at first at) child
+
+-- the walks of all subqueries lead to times, so that each has one list
+abbrev pub HasLists : Shape → Type 0
+HasLists (InstantsOf one) = ⊤
+HasLists (SelectOf series moment stamped) = ⊤
+HasLists (SeriesOf series f moment range scalar) = HasLists scalar
+HasLists (UnaryOf one rows) = HasLists rows
+HasLists (BinaryOf one rows beside) = HasLists rows × HasLists beside
+HasLists (ClampOf one rows low high) = HasLists rows × HasLists low × HasLists high
+HasLists (PointsOf f walk moment range step inner scalar) = LeadsToTimes walk × HasLists inner × HasLists scalar
+HasLists (OnceOf first child) = HasLists child
 
 -- ---- counters
 

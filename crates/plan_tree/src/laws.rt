@@ -1,5 +1,5 @@
 //! Laws of trees. The functions do nothing: each stands for what its contract says.
-ghost use Rattle.plan_tree.specs.Laws.{FreshTreesBegin, MarksAreSets, ScalarsHaveOneRow, SpendingIsBounded, TurnsAreTheWalk};
+ghost use Rattle.plan_tree.specs.Laws.{EachTreeHasOneBound, FreshTreesBegin, MarksAreSets, ScalarsHaveOneRow, SpendingIsBounded, TurnsAreTheWalk};
 
 use step_kernels::laws::{marks_stay_sets, scalars_stay};
 use ticks::walks_are_listed;
@@ -21,6 +21,13 @@ pub fn marks_are_sets()
 /// The instants of a tree's turns are those of its walk, each once, in their order and none left out.
 pub fn turns_are_the_walk()
     ensures { TurnsAreTheWalk }
+{
+    walks_are_listed();
+}
+
+/// A tree whose subqueries' walks lead to times has a bound, and only one.
+pub fn each_tree_has_one_bound()
+    ensures { EachTreeHasOneBound }
 {
     walks_are_listed();
 }
