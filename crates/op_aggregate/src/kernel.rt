@@ -3,7 +3,7 @@ ghost use Rattle.op_aggregate.specs.OwedCells.{cells_at};
 ghost use Rattle.op_aggregate.specs.Rules.{aggregated_at, aggregations, is_grouped as makes_groups, owed_cells};
 ghost use Rattle.promql_meaning.specs.Ranks.{kept_labels};
 ghost use Rattle.std.specs.Option.{option_map};
-ghost use Rattle.std.specs.Prelude.{◌≡◌, ◌<◌, ◌<ℤ◌, ◌++◌, ◌∷◌, [], Some, true, false, length, map, slice_get, IfOk, IsTrue, OnOk};
+ghost use Rattle.std.specs.Prelude.{◌≡◌, ◌<◌, ◌<ℤ◌, ◌++◌, ◌∷◌, [], Some, true, false, length, map, slice_get, if◌then◌else◌, IfOk, IsTrue, OnOk};
 ghost use Rattle.step_batch.specs.Lent.{IsLater, stages};
 ghost use Rattle.step_cells.specs.Owed.{is_partial as asks_engines};
 ghost use Rattle.step_put.specs.Puts.{AreAt};
@@ -50,8 +50,8 @@ impl Model for Grouped {
     ghost invariant = { λ k. (k.placing.left ≡ Signature (not k.by.without) k.by.names) × IsPlaced k.buffer k.placing × IsTrue (makes_groups k.groups.f) };
 }
 
-/// Whether an aggregation makes one value of a group and takes no parameter, as `Grouped::new` asks: those but `TopK`,
-/// `BottomK`, `Quantile` and `CountValues`. It takes no memory.
+/// Whether an aggregation makes one value of a group and takes no parameter, as `Grouped::new` asks of one that isn't partial:
+/// those but `TopK`, `BottomK`, `Quantile` and `CountValues`. It takes no memory.
 pub fn is_grouped(f: Aggregate) -> bool
     ensures { result ≡ makes_groups f }
 {
@@ -62,8 +62,8 @@ pub fn is_grouped(f: Aggregate) -> bool
     }
 }
 
-/// Whether an aggregation is asked of engines, as `Grouped::partial` asks: `Sum`, `Avg`, `Min`, `Max`, `Count` and `Group`. It
-/// takes no memory.
+/// Whether an aggregation is asked of engines, as `Grouped::new` asks of a partial one: `Sum`, `Avg`, `Min`, `Max`, `Count` and
+/// `Group`. It takes no memory.
 pub fn is_partial(f: Aggregate) -> bool
     ensures { result ≡ asks_engines f }
 {
@@ -76,34 +76,18 @@ pub fn is_partial(f: Aggregate) -> bool
 }
 
 impl Grouped {
-    /// A kernel that was fed nothing. The only error is want of memory.
-    pub fn new(alloc: Global, f: Aggregate, by: Grouping) -> Result<Grouped, AllocError>
-        requires { IsTrue (makes_groups f) }
+    /// A kernel that was fed nothing; a partial one gives the cells of groups as well. The only error is want of memory.
+    pub fn new(
+        alloc: Global,
+        f: Aggregate,
+        by: Grouping,
+        partial: bool,
+    ) -> Result<Grouped, AllocError>
+        requires { IsTrue (if partial then asks_engines f else makes_groups f) }
         ensures f { IfOk result (λ k. k.f ≡ f) }
         ensures by { IfOk result (λ k. k.by ≡ by) }
         ensures lent { IfOk result (λ k. stages k.lent ≡ []) }
-        ensures partial { IfOk result (λ k. k.partial ≡ false) }
-    {
-        Grouped::with(alloc, f, by, false)
-    }
-
-    /// A kernel that was fed nothing, and that gives the cells of groups as well. The only error is want of memory.
-    pub fn partial(alloc: Global, f: Aggregate, by: Grouping) -> Result<Grouped, AllocError>
-        requires { IsTrue (asks_engines f) }
-        ensures f { IfOk result (λ k. k.f ≡ f) }
-        ensures by { IfOk result (λ k. k.by ≡ by) }
-        ensures lent { IfOk result (λ k. stages k.lent ≡ []) }
-        ensures partial { IfOk result (λ k. k.partial ≡ true) }
-    {
-        Grouped::with(alloc, f, by, true)
-    }
-
-    fn with(alloc: Global, f: Aggregate, by: Grouping, wanted: bool) -> Result<Grouped, AllocError>
-        requires { IsTrue (makes_groups f) }
-        ensures f { IfOk result (λ k. k.f ≡ f) }
-        ensures by { IfOk result (λ k. k.by ≡ by) }
-        ensures lent { IfOk result (λ k. stages k.lent ≡ []) }
-        ensures partial { IfOk result (λ k. k.partial ≡ wanted) }
+        ensures partial { IfOk result (λ k. k.partial ≡ partial) }
     {
         let left = Left::Signature {
             on: !by.without,
@@ -116,7 +100,7 @@ impl Grouped {
             groups: Groups::new(alloc, f),
             buffer: StepBuffer::new(alloc),
             owed: Owed {
-                wanted,
+                wanted: partial,
                 steps: Vec::new(alloc),
             },
         })

@@ -81,7 +81,7 @@ impl Unary {
         match rule {
             UnaryRule::Small(rule) => Ok(Unary::Small(Small::new(alloc, rule)?)),
             UnaryRule::Apply(rule) => Ok(Unary::Elements(ElementRows::new(alloc, rule)?)),
-            UnaryRule::Group(f, by) => Ok(Unary::Groups(Grouped::new(alloc, f, by)?)),
+            UnaryRule::Group(f, by) => Ok(Unary::Groups(Grouped::new(alloc, f, by, false)?)),
             UnaryRule::Relabel(rule) => Ok(Unary::Labels(Relabelled::new(alloc, rule)?)),
         }
     }

@@ -57,7 +57,7 @@ fn kernel(alloc: Global, rule: &str) -> Result<Grouped, Fail> {
         return Err(Fail::new("an aggregation with a parameter"));
     }
     let by = grouping(alloc, by)?;
-    Ok(Grouped::new(alloc, f, by)?)
+    Ok(Grouped::new(alloc, f, by, false)?)
 }
 
 /// Feeds steps, and answers whether what is lent are the wanted ones.
