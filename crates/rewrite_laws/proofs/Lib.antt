@@ -1,3 +1,4 @@
+mod Ands
 mod Follows
 mod Measures
 mod Onces

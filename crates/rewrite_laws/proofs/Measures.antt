@@ -26,22 +26,11 @@ use Rattle.opt_selects.specs.Selectors.{ordered, selectors}
 use Rattle.opt_selects.specs.Trimming.{trim}
 use Rattle.opt_split_avg.specs.Averages.{split_average}
 use Rattle.rewrite_laws.specs.Keeping.{KeepsValidity, StaysTyped}
+use Rattle.rewrite_laws.proofs.Ands.{and, left, right}
 use Rattle.rewrite_laws.proofs.Follows.{Child, Follows, after_of, bares, before_of, befores}
 use Rattle.rewrite_laws.proofs.Singles.{handed_follows, merged_follows, ordered_follows, split_follows}
 use Rattle.rewrite_laws.proofs.Trimmed.{trimmed_follows}
 use Rattle.rewrite_laws.proofs.Types.{handed_typed, merged_typed, ordered_typed, split_typed, trimmed_typed}
-
-left : (a b : Bool) → (a && b) ≡ true → a ≡ true
-left true b e = refl
-left false b e = absurd (cc)
-
-right : (a b : Bool) → (a && b) ≡ true → b ≡ true
-right true b e = e
-right false b e = absurd (cc)
-
-and : (a b : Bool) → a ≡ true → b ≡ true → (a && b) ≡ true
-and true b e f = f
-and false b e f = absurd (cc)
 
 abbrev Replaced : Type 0
 Replaced = List (ℕ × PatternId)
