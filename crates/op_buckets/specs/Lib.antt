@@ -1,4 +1,5 @@
 pub mod Groups
 pub mod Histograms
 pub mod Rules
+pub mod SlotOrders
 pub mod Splits

@@ -23,7 +23,7 @@ use xfrac::XFrac;
 use xfrac::laws::order_is_total;
 
 /// A kernel of histogram_quantile. Bounds are read and histograms found once for each labels that are fed, and kept over feeds
-/// while the labels at that place stay equal.
+/// while the labels at that place stay equal. The buckets of a feed are sorted once while the places of rows stay.
 #[derive(Drop)]
 pub struct Buckets {
     alloc: Global,
@@ -70,6 +70,7 @@ impl Buckets {
         self.kept.renew(self.alloc, rows.labels())?;
         self.groups.renew(self.kept.histograms.as_slice())?;
         self.rows.begin_feed(self.groups.lend().labels())?;
+        self.split.begin_feed();
         put_all(
             self.alloc,
             &self.kept,

@@ -5,6 +5,7 @@
 mod buckets;
 mod groups;
 mod kept_labels;
+mod order;
 mod split;
 
 pub use buckets::Buckets;

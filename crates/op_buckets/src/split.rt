@@ -1,4 +1,5 @@
 //! The buckets of each histogram of a step.
+ghost use Rattle.op_buckets.specs.SlotOrders.{IsOrder, slots_in};
 ghost use Rattle.op_buckets.specs.Splits.{AreMade, AreNumberEntries, AreSplit, GroupsRise, IsNumberEntry, bound_at, entry_of, entry_with, is_end_at, made_until, note_at, noted_until, text_note};
 ghost use Rattle.promql_meaning.specs.Buckets.{bucket_label, fixed_note, histogram_quantile as quantile_of_buckets};
 ghost use Rattle.label_set.specs.Labels.{value_of};
@@ -10,6 +11,7 @@ ghost use Rattle.step_batch.specs.Lent.{SlotsRise};
 ghost use Rattle.step_table.specs.Operators.{some_value as value_or_fault};
 
 use crate::kept_labels::{BUCKET_LABEL, KeptLabels};
+use crate::order::{Order, SlotKey, bound_there, group_there, slot_there};
 use label_set::{Items, Labels, Text};
 use promql_meaning::{Bucket, range_notes, with_notes};
 use std::alloc::{AllocError, Global};
@@ -28,9 +30,10 @@ pub(crate) struct Entry {
     pub bucket: Bucket,
 }
 
-/// The memory that is kept for the histograms of a step.
+/// The order of the slots of a step, and the memory that is kept for its histograms.
 #[derive(Drop)]
 pub(crate) struct Split {
+    order: Order,
     pub entries: Vec<Entry>,
     pub placed: Vec<PlacedOutcome>,
 }
@@ -38,9 +41,15 @@ pub(crate) struct Split {
 impl Split {
     pub(crate) fn new(alloc: Global) -> Split {
         Split {
+            order: Order::new(alloc),
             entries: Vec::new(alloc),
             placed: Vec::new(alloc),
         }
+    }
+
+    /// Begins a feed, at whose places other histograms and bounds may stand than before. It takes no memory.
+    pub(crate) fn begin_feed(&mut self) {
+        self.order.forget();
     }
 
     /// Takes the quantile of each histogram as it is asked for, in the place of those that were taken, where none is nothing,
@@ -83,8 +92,8 @@ impl Split {
         ensures { IfOk result (λ noted. AreSplit q.now groups.now kept.now.fed.items kept.now.bounds.items slots.now marks self.new.placed.items noted) }
     {
         let bounds = kept.bounds.as_slice();
-        list(&mut self.entries, groups, bounds, slots)?;
-        sort(&mut self.entries);
+        self.order.renew(groups, bounds, slots)?;
+        list_by_histogram(&mut self.entries, &self.order, groups, bounds, slots)?;
         self.placed.clear();
         let fixed = put_groups(alloc, &mut self.placed, q, self.entries.as_slice())?;
         let bad = bad_bounds(alloc, kept.fed.as_slice(), bounds, slots)?;
@@ -96,34 +105,44 @@ impl Split {
 
 // ---- rows as buckets
 
-fn group_there(groups: &[usize], place: usize) -> usize
-    requires { place < length groups.now }
-    ensures { result ≡ slice_index_or groups.now place 0 }
-{
-    groups[place]
-}
-
-fn bound_there(bounds: &[Option<XFrac>], place: usize) -> Option<XFrac>
-    requires { place < length bounds.now }
-    ensures { slice_get bounds.now place ≡ Some result }
-{
-    bounds[place]
-}
-
-/// Lists the buckets beside the places of their histograms, in the place of what was listed.
-fn list(
+/// Lists the buckets beside the places of their histograms, which don't fall, in the place of what was listed.
+fn list_by_histogram(
     entries: &mut Vec<Entry>,
+    order: &Order,
     groups: &[usize],
     bounds: &[Option<XFrac>],
     slots: &[Slot],
 ) -> Result<(), AllocError>
     requires groups { SlotsRise 0 (length groups.now) slots.now }
     requires bounds { SlotsRise 0 (length bounds.now) slots.now }
-    ensures list { OnOk result (entries.new.items ≡ filter_map (entry_of groups.now bounds.now) slots.now) }
+    requires count { length order.now.keys.items ≡ length slots.now }
+    ensures moved { OnOk result (IsPermutation (filter_map (entry_of groups.now bounds.now) slots.now) entries.new.items) }
+    ensures rise { OnOk result (GroupsRise entries.new.items) }
+    ensures numbers { OnOk result (AreNumberEntries entries.new.items) }
+{
+    list(entries, order.keys.as_slice(), groups, bounds, slots)?;
+    sort(entries);
+    Ok(())
+}
+
+/// Lists the buckets beside the places of their histograms, in an order of their slots, in the place of what was listed.
+fn list(
+    entries: &mut Vec<Entry>,
+    keys: &[SlotKey],
+    groups: &[usize],
+    bounds: &[Option<XFrac>],
+    slots: &[Slot],
+) -> Result<(), AllocError>
+    requires groups { SlotsRise 0 (length groups.now) slots.now }
+    requires bounds { SlotsRise 0 (length bounds.now) slots.now }
+    requires all { IsOrder (slots_in keys.now) }
+    requires count { length keys.now ≡ length slots.now }
+    ensures moved { OnOk result (IsPermutation (filter_map (entry_of groups.now bounds.now) slots.now) entries.new.items) }
     ensures numbers { OnOk result (AreNumberEntries entries.new.items) }
 {
     entries.clear();
-    for slot in slots {
+    for key in keys {
+        let slot = slot_there(slots, key.slot);
         let group = group_there(groups, slot.place);
         let bound = bound_there(bounds, slot.place);
         list_one(entries, group, &slot.value, bound)?;
@@ -210,7 +229,7 @@ fn note(
 
 // ---- histograms
 
-/// Sorts buckets by their histograms.
+/// Sorts buckets by their histograms. Listed in the order of slots they stand so already, and none is moved.
 fn sort(entries: &mut Vec<Entry>)
     requires { AreNumberEntries entries.old.items }
     ensures moved { IsPermutation entries.old.items entries.new.items }
