@@ -1,5 +1,5 @@
 //! The canonical text of a query's tree, and the texts of its parts.
-//! Its rows of tests stand in `print_tests`.
+//! Its rows of tests are the texts of `tests/texts.cases`.
 #![tactic(auto)]
 
 mod canonical;
