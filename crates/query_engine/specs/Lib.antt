@@ -1,3 +1,4 @@
 pub mod Batches
 pub mod Evaluating
+pub mod Planning
 pub mod Readiness

@@ -3,6 +3,7 @@ ghost use Rattle.query_engine.specs.Batches.{IsBatch};
 ghost use Rattle.query_engine.specs.Evaluating.{ComesTo, IsRefused};
 ghost use Rattle.std.specs.Prelude.{◌≡◌, IfOk};
 
+use crate::options::Options;
 use crate::reading::typed_tree;
 use crate::streaming::answered;
 use match_rule::{PatternRoom, Patterns};
@@ -15,17 +16,8 @@ use std::alloc::{AllocError, Global};
 use std::sync::ledger::Ledger;
 use ticks::{Grid, Work};
 
-/// What is chosen for an evaluation.
-#[derive(Clone, Copy, Debug, PartialEq, Eq)]
-pub struct Options {
-    /// Each window has its left edge too, those of selectors and those of subqueries, as in Prometheus 2.
-    pub closed: bool,
-    /// The most instants that are computed at once, from 1 to 1,024. No answer depends on it.
-    pub batch: u32,
-}
-
 /// What the text of a query comes to over the samples of a store: its one refusal, with its place in the text, or its result
-/// at the instants of a grid, with the windows that are chosen. `instant` tells that it is an instant query, whose root may ask
+/// at the instants of a grid, with the windows that are chosen; nothing else that is chosen changes it. `instant` tells that it is an instant query, whose root may ask
 /// for an order by value. Samples are read by counted calls alone, and of a refused text none. The only error is want of memory.
 /// (Prometheus querying.)
 pub fn evaluate<W: Ledger>(
@@ -53,7 +45,7 @@ pub fn evaluate<W: Ledger>(
             &mut patterns,
             grid,
             instant,
-            options.batch,
+            options,
             work,
         ),
         Err(TypeFault::Refused(refusal)) => Ok(Outcome::Refused(refusal)),

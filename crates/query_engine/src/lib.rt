@@ -1,11 +1,15 @@
-//! What the text of a query comes to over the samples of a store, and its typed tree.
+//! What the text of a query comes to over the samples of a store, its typed tree, and its plan.
 //! Its rows of tests stand in `query_tests`.
 #![tactic(auto)]
 
 mod evaluating;
+mod options;
+mod planning;
 mod reading;
 mod streaming;
 
-pub use evaluating::{Options, evaluate};
+pub use evaluating::evaluate;
+pub use options::Options;
+pub use planning::rewritten;
 pub use reading::typed_tree;
 pub use std::alloc::AllocError as Memory;

@@ -14,7 +14,9 @@ ghost use Rattle.std.specs.Prelude.{◌≡◌, ◌<◌, None, IfOk, IfSome};
 ghost use Rattle.step_table.specs.Timed.{steps_over};
 ghost use Rattle.ticks.specs.declared.walk.Walk.{Grid as GridWalk};
 
-use logical_plan::{kept_patterns_are_placed, lower};
+use crate::options::Options;
+use crate::planning::planned;
+use logical_plan::kept_patterns_are_placed;
 use match_rule::Patterns;
 use phys_plan::laws::steady_onces_stay;
 use phys_plan::{Unbuilt, build};
@@ -60,7 +62,7 @@ fn collected<W: Ledger>(
     }
 }
 
-/// The result of a typed query over a grid by the tree of kernels of its plan, which goes on by at most `batch` instants at once;
+/// The result of a typed query over a grid by the tree of kernels of its plan, rewritten as is chosen, which goes on by at most a batch of instants at once;
 /// none where a part of the plan has no kernel. The patterns stay as they are. The only error is want of memory.
 fn streamed<W: Ledger>(
     alloc: Global,
@@ -69,10 +71,10 @@ fn streamed<W: Ledger>(
     patterns: &mut Patterns<'_>,
     grid: &Grid,
     instant: bool,
-    batch: u32,
+    options: &Options,
     work: &mut Work<W>,
 ) -> Result<Option<Outcome>, AllocError>
-    requires batch { 0 < batch }
+    requires batch { 0 < options.now.batch }
     requires kept { AreKept patterns.old (judged (tree_of typed.now)).replacements (placed_of typed.now) }
     requires apart { TellApart (judged (tree_of typed.now)).replacements }
     ensures result { IfOk result (λ got. IfSome got (λ outcome. outcome ≡ result_of (asked_over store.now patterns.old grid.now) (tree_of typed.now) grid.now instant)) }
@@ -82,14 +84,15 @@ fn streamed<W: Ledger>(
     steady_onces_stay();
     grids_are_listed();
     let _ = typed.expr();
-    let plan = lower(alloc, typed)?;
+    let _ = store.series();
+    let plan = planned(alloc, typed, options, patterns)?;
     match build(
         alloc,
         &plan,
         store,
         &Walk::Grid(*grid),
         grid,
-        batch,
+        options.batch,
         patterns,
         work,
     ) {
@@ -104,7 +107,7 @@ fn streamed<W: Ledger>(
     }
 }
 
-/// The result of a typed query over a grid: by the tree of kernels of its plan, which goes on by at most `batch` instants at once,
+/// The result of a typed query over a grid: by the tree of kernels of its plan, rewritten as is chosen, which goes on by at most a batch of instants at once,
 /// or where a part of the plan has no kernel, or there is one instant alone, by the tree of the query. The only error is want of memory. (Prometheus querying.)
 pub(crate) fn answered<W: Ledger>(
     alloc: Global,
@@ -113,10 +116,10 @@ pub(crate) fn answered<W: Ledger>(
     patterns: &mut Patterns<'_>,
     grid: &Grid,
     instant: bool,
-    batch: u32,
+    options: &Options,
     work: &mut Work<W>,
 ) -> Result<Outcome, AllocError>
-    requires batch { 0 < batch }
+    requires batch { 0 < options.now.batch }
     requires met { AreMet (asked_over store.now patterns.old grid.now) (needs_over (needs_of (asked_over store.now patterns.old grid.now) (tree_of typed.now)) (grid_times grid.now)) }
     requires kept { AreKept patterns.old (judged (tree_of typed.now)).replacements (placed_of typed.now) }
     requires apart { TellApart (judged (tree_of typed.now)).replacements }
@@ -127,7 +130,7 @@ pub(crate) fn answered<W: Ledger>(
     if grid.start == grid.end {
         return range(alloc, typed, store, patterns, grid, instant, work);
     }
-    let done = streamed(alloc, typed, store, patterns, grid, instant, batch, work)?;
+    let done = streamed(alloc, typed, store, patterns, grid, instant, options, work)?;
     match done {
         Some(outcome) => Ok(outcome),
         None => range(alloc, typed, store, patterns, grid, instant, work),

@@ -1,0 +1,39 @@
+-- The plan that a query's text is evaluated by. (The optimisers of thanos-io/promql-engine; their order is this project's own.)
+use Rattle.std.specs.Prelude.{◌≡◌, ℕ, Bool, List, ⊤}
+use Rattle.logical_plan.specs.Lowering.{lowered}
+use Rattle.logical_plan.specs.Onces.{with_onces}
+use Rattle.logical_plan.specs.declared.nodes.Plan.{Plan}
+use Rattle.plan_rewrites.specs.Rewriting.{rewrites}
+use Rattle.plan_rewrites.specs.declared.choosing.Choices.{Choices}
+use Rattle.promql_ast.specs.Edged.{edged}
+use Rattle.promql_ast.specs.declared.refusal.QueryRefusal.{QueryRefusal}
+use Rattle.promql_ast.specs.declared.tree.Expr.{Expr}
+use Rattle.promql_lex.specs.declared.fault.LexFault.{LexFault}
+use Rattle.promql_lex.specs.declared.fault.LexFault.TheVariants.{Refused, Memory}
+use Rattle.promql_type.specs.Judging.{judged}
+use Rattle.promql_type.specs.Replacements.{AreKept, Kept}
+use Rattle.promql_type.specs.declared.typed_tree.Placed.{Placed}
+use Rattle.query_engine.specs.Evaluating.{StandsFor}
+use Rattle.query_engine.specs.declared.options.Options.{Options}
+
+-- the rewrites among what is chosen
+abbrev pub choices_of : Options → Choices
+choices_of o = record { sort = o.sort; propagate = o.propagate; merge = o.merge; trim = o.trim; avg = o.avg }
+
+-- the plan of a typed tree, behind the rewrites that are chosen
+abbrev pub plan_of : Choices → Kept → List Placed → Expr → Plan
+plan_of choices kept placed e = rewrites choices kept (with_onces (lowered placed e))
+
+-- A plan is that of a text: of the typed tree that the text stands for, with the edge that is asked for, whose label_replace
+-- calls have their patterns under their numbers.
+pub record HasPlan (text : List ℕ) (choices : Choices) (closed : Bool) (kept : Kept) (p : Plan) : Type 0 where
+  pub tree : Expr
+  pub placed : List Placed
+  pub stands : StandsFor text kept tree
+  pub patterns : AreKept kept (judged (edged closed tree)).replacements placed
+  pub plan : p ≡ plan_of choices kept placed (edged closed tree)
+
+-- a text has no plan by a refusal of which a fact holds, or for want of memory
+abbrev pub MayRefuse : (QueryRefusal → Type 0) → LexFault → Type 0
+MayRefuse P (Refused refusal) = P refusal
+MayRefuse P Memory = ⊤
