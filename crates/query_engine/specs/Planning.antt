@@ -12,7 +12,7 @@ use Rattle.promql_lex.specs.declared.fault.LexFault.{LexFault}
 use Rattle.promql_lex.specs.declared.fault.LexFault.TheVariants.{Refused, Memory}
 use Rattle.promql_type.specs.Judging.{judged}
 use Rattle.promql_type.specs.Replacements.{AreKept, Kept}
-use Rattle.promql_type.specs.declared.typed_tree.Placed.{Placed}
+use Rattle.promql_type.specs.declared.replace.Placed.{Placed}
 use Rattle.query_engine.specs.Evaluating.{StandsFor}
 use Rattle.query_engine.specs.declared.options.Options.{Options}
 
