@@ -1,4 +1,5 @@
 pub mod Gridded
+pub mod Planned
 pub mod Ready
 pub mod Results
 pub mod Stays
