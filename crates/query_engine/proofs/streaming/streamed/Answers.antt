@@ -24,4 +24,4 @@ collected-requires-clause-gives g c =
     let placed = c.kept_patterns_are_placed.ensures kept (placed_of c.args.typed.now) tree well_typed c.requires.kept c.requires.apart in
     let stay = c.steady_onces_stay.ensures asked c.in_ok-plan.plan c.in_ok-plan.ensures.onces in
     subst (λ (k : List (Bool × List ℕ)). steps_over (rule store k shape) (grid_times grid) ≡ steps_over (meaning_step (asked_over store k grid) tree) (grid_times grid)) (sym c.build.ensures.same)
-    (steps_are_meant asked grid c.in_ok-plan.plan tree (rule store kept shape) (c.grids_are_listed.ensures grid) (c.in-Ok.ensures.gives stay) (λ t. c.in_ok-plan.ensures.means asked t placed))
+    (steps_are_meant asked grid c.in_ok-plan.plan tree (rule store kept shape) (c.grids_are_listed.ensures grid) (c.in-Ok.ensures.gives stay) (λ t. c.in_ok-plan.ensures.means asked t c.series.ensures.labelled placed))
