@@ -166,10 +166,16 @@ fn outcome_text(
     }
 }
 
-/// Windows are open on the left, and three instants are computed at once.
+/// All rewrites are chosen, windows are open on the left, and three instants are computed at once.
 const OPEN: Options = Options {
-    closed: false,
+    sort: true,
+    propagate: true,
+    merge: true,
+    trim: true,
+    avg: true,
+    remote: true,
     batch: 3,
+    closed: false,
 };
 
 /// Runs a script with counters of its own.

@@ -190,8 +190,14 @@ fn counted<W: Ledger>(
 {
     let mut work = Work::<W>::new(blank);
     let options = Options {
-        closed: false,
+        sort: true,
+        propagate: true,
+        merge: true,
+        trim: true,
+        avg: true,
+        remote: true,
         batch,
+        closed: false,
     };
     evaluate(
         alloc,
