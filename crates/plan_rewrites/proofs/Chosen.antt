@@ -32,46 +32,53 @@ stays_on p q r first second = record { typed = second.typed; kind = second.kind 
 
 -- ---- all of them
 
-module _ (choices : Choices) (kept : List (Bool × List ℕ)) (p ordered handed joined bare q : Plan)
-    (ordered_is : ordered ≡ chosen choices.sort (rebuilt (order_rules kept)) p)
-    (handed_is : handed ≡ chosen choices.propagate (rebuilt hand_rules) ordered)
-    (joined_is : joined ≡ chosen choices.merge merged handed)
-    (bare_is : bare ≡ chosen choices.trim trim joined)
-    (split_is : q ≡ chosen choices.avg (rebuilt split_average) bare) where
+-- the plans behind one rewrite after another
+pub record Steps (choices : Choices) (kept : List (Bool × List ℕ)) (p q : Plan) : Type 0 where
+  pub ordered : Plan
+  pub handed : Plan
+  pub joined : Plan
+  pub bare : Plan
+  pub ordered_is : ordered ≡ chosen choices.sort (rebuilt (order_rules kept)) p
+  pub handed_is : handed ≡ chosen choices.propagate (rebuilt hand_rules) ordered
+  pub joined_is : joined ≡ chosen choices.merge merged handed
+  pub bare_is : bare ≡ chosen choices.trim trim joined
+  pub split_is : q ≡ chosen choices.avg (rebuilt split_average) bare
+
+module _ (choices : Choices) (kept : List (Bool × List ℕ)) (p q : Plan) (s : Steps choices kept p q) where
   pub all_is : q ≡ rewrites choices kept p
   all_is =
-      split_is ∙ ap (chosen choices.avg (rebuilt split_average)) (bare_is ∙ ap (chosen choices.trim trim) (joined_is ∙ ap (chosen choices.merge merged) (handed_is ∙ ap (chosen choices.propagate (rebuilt hand_rules)) ordered_is)))
+      s.split_is ∙ ap (chosen choices.avg (rebuilt split_average)) (s.bare_is ∙ ap (chosen choices.trim trim) (s.joined_is ∙ ap (chosen choices.merge merged) (s.handed_is ∙ ap (chosen choices.propagate (rebuilt hand_rules)) s.ordered_is)))
 
   module _ (orders : KeepsTypes (rebuilt (order_rules kept))) (hands : KeepsTypes (rebuilt hand_rules)) (merges : KeepsTypes merged) where
     -- a typed plan is typed before its sorts go
-    pub joined_typed : IsTyped p → StaysTyped p joined
+    pub joined_typed : IsTyped p → StaysTyped p s.joined
     joined_typed typed =
-        let first = types_kept choices.sort (rebuilt (order_rules kept)) p ordered orders ordered_is typed in
-        let second = types_kept choices.propagate (rebuilt hand_rules) ordered handed hands handed_is first.typed in
-        let third = types_kept choices.merge merged handed joined merges joined_is second.typed in
-        stays_on p handed joined (stays_on p ordered handed first second) third
+        let first = types_kept choices.sort (rebuilt (order_rules kept)) p s.ordered orders s.ordered_is typed in
+        let second = types_kept choices.propagate (rebuilt hand_rules) s.ordered s.handed hands s.handed_is first.typed in
+        let third = types_kept choices.merge merged s.handed s.joined merges s.joined_is second.typed in
+        stays_on p s.handed s.joined (stays_on p s.ordered s.handed first second) third
 
     pub all_typed : KeepsTypes trim → KeepsTypes (rebuilt split_average) → IsTyped p → StaysTyped p q
     all_typed trims splits typed =
         let third = joined_typed typed in
-        let fourth = types_kept choices.trim trim joined bare trims bare_is third.typed in
-        let last = types_kept choices.avg (rebuilt split_average) bare q splits split_is fourth.typed in
-        stays_on p bare q (stays_on p joined bare third fourth) last
+        let fourth = types_kept choices.trim trim s.joined s.bare trims s.bare_is third.typed in
+        let last = types_kept choices.avg (rebuilt split_average) s.bare q splits s.split_is fourth.typed in
+        stays_on p s.bare q (stays_on p s.joined s.bare third fourth) last
 
   pub all_valid : KeepsValidity (rebuilt (order_rules kept)) → KeepsValidity (rebuilt hand_rules) → KeepsValidity merged → KeepsValidity trim → KeepsValidity (rebuilt split_average)
       → (longest latest : ℕ) → IsValid longest latest p → IsValid longest latest q
   all_valid orders hands merges trims splits longest latest valid =
-      validity_kept choices.avg (rebuilt split_average) bare q longest latest splits split_is
-      (validity_kept choices.trim trim joined bare longest latest trims bare_is
-      (validity_kept choices.merge merged handed joined longest latest merges joined_is
-      (validity_kept choices.propagate (rebuilt hand_rules) ordered handed longest latest hands handed_is
-      (validity_kept choices.sort (rebuilt (order_rules kept)) p ordered longest latest orders ordered_is valid))))
+      validity_kept choices.avg (rebuilt split_average) s.bare q longest latest splits s.split_is
+      (validity_kept choices.trim trim s.joined s.bare longest latest trims s.bare_is
+      (validity_kept choices.merge merged s.handed s.joined longest latest merges s.joined_is
+      (validity_kept choices.propagate (rebuilt hand_rules) s.ordered s.handed longest latest hands s.handed_is
+      (validity_kept choices.sort (rebuilt (order_rules kept)) p s.ordered longest latest orders s.ordered_is valid))))
 
   pub all_steady : KeepsOnces (rebuilt (order_rules kept)) → KeepsOnces (rebuilt hand_rules) → KeepsOnces merged → KeepsOnces trim → KeepsOnces (rebuilt split_average)
       → OncesAreSteady p → OncesAreSteady q
   all_steady orders hands merges trims splits steady =
-      onces_kept choices.avg (rebuilt split_average) bare q splits split_is
-      (onces_kept choices.trim trim joined bare trims bare_is
-      (onces_kept choices.merge merged handed joined merges joined_is
-      (onces_kept choices.propagate (rebuilt hand_rules) ordered handed hands handed_is
-      (onces_kept choices.sort (rebuilt (order_rules kept)) p ordered orders ordered_is steady))))
+      onces_kept choices.avg (rebuilt split_average) s.bare q splits s.split_is
+      (onces_kept choices.trim trim s.joined s.bare trims s.bare_is
+      (onces_kept choices.merge merged s.handed s.joined merges s.joined_is
+      (onces_kept choices.propagate (rebuilt hand_rules) s.ordered s.handed hands s.handed_is
+      (onces_kept choices.sort (rebuilt (order_rules kept)) p s.ordered orders s.ordered_is steady))))
