@@ -1,0 +1,3 @@
+pub mod PlanBounds
+pub mod PlanLaws
+pub mod TreeBounds

@@ -1,0 +1,73 @@
+-- The bound of what a plan costs at some instants: a sum over the selectors of the plan, which a reader can work out by hand. (This
+-- project's own.)
+use Rattle.std.specs.Prelude.{◌*◌, ◌-ℤ◌, ℕ, ℤ, List, [], ◌∷◌, length, sum_by}
+use Rattle.label_set.specs.declared.rules.Rule.{Rule}
+use Rattle.logical_plan.specs.declared.nodes.Plan.{Plan}
+use Rattle.logical_plan.specs.declared.nodes.PlanNode.TheOpen.{PlanNode-F}
+use Rattle.logical_plan.specs.declared.nodes.PlanNode.TheFolds.{fold-Plan}
+use Rattle.plan_tree.specs.Spending.{Cost, both, nothing}
+use Rattle.promql_ast.specs.declared.tree.Moment.{Moment}
+use Rattle.promql_meaning.specs.Selecting.{Asked, Samples, lookback, moment_of, passing}
+use Rattle.promql_meaning.specs.Subqueries.{as_times, first_multiple, instants_up_to}
+use Rattle.series_marks.specs.Reaches.{last_instant, window_edge}
+use Rattle.series_marks.specs.Reads.{span_bound}
+use Rattle.step_table.specs.Groups.{Names}
+use Rattle.ticks.specs.declared.moment.Ms.{Ms}
+
+-- what a part of a plan costs at most at some instants
+abbrev pub Bounding : Type 0
+Bounding = List Ms → Cost
+
+-- a selector whose windows reach back by a length: of each series that passes its rules, the samples in the span from the left edge of
+-- the first instant's window to the last moment, one more where none stands at the span's right end, and 64 times; at no instant the
+-- span is empty
+abbrev pub fetched_by : ℤ → Asked → List Rule → Moment → List Ms → ℕ
+fetched_by back asked rules moment [] = 0
+fetched_by back asked rules moment (t ∷ at) =
+    sum_by (λ (s : Names × Samples). span_bound (window_edge moment.closed back (moment_of asked moment t.0)) (moment_of asked moment (last_instant t at).0) s.1) (passing asked.samples asked.kept rules)
+
+abbrev pub selector_bound : ℤ → Asked → List Rule → Moment → Bounding
+selector_bound back asked rules moment at = record { fetched = fetched_by back asked rules moment at; probed = 64 * length (passing asked.samples asked.kept rules) }
+
+-- the multiples of a subquery's step from the left edge of the first instant's range up to the last moment
+abbrev pub inner_times : Asked → Moment → (range step : Ms) → List Ms → List Ms
+inner_times asked moment range step [] = []
+inner_times asked moment range step (t ∷ at) =
+    as_times (instants_up_to (first_multiple moment.closed step.0 (moment_of asked moment t.0 -ℤ range.0)) (moment_of asked moment (last_instant t at).0) step.0)
+
+-- the first instant alone, if there is one
+abbrev pub first_alone : List Ms → List Ms
+first_alone [] = []
+first_alone (t ∷ at) = t ∷ []
+
+-- all of some parts at the same instants
+abbrev pub all_of : List Bounding → Bounding
+all_of [] at = nothing
+all_of (part ∷ parts) at = both (part at) (all_of parts at)
+
+-- of a node, by the bounds of its children
+abbrev pub node_bound : Asked → PlanNode-F Bounding Bounding → Bounding
+node_bound asked (PlanNode-F.Number value) = λ at. nothing
+node_bound asked PlanNode-F.Time = λ at. nothing
+node_bound asked (PlanNode-F.Select rules moment stamped) = selector_bound lookback asked rules moment
+node_bound asked (PlanNode-F.Range rules moment range) = selector_bound range.0 asked rules moment
+node_bound asked (PlanNode-F.Subquery inner range step moment) = λ at. inner (inner_times asked moment range step at)
+node_bound asked (PlanNode-F.Element f inner arguments) = all_of (inner ∷ arguments)
+node_bound asked (PlanNode-F.Stamp inner) = inner
+node_bound asked (PlanNode-F.Window f inner arguments) = all_of (inner ∷ arguments)
+node_bound asked (PlanNode-F.Absent labels inner) = inner
+node_bound asked (PlanNode-F.Buckets quantile inner) = λ at. both (quantile at) (inner at)
+node_bound asked (PlanNode-F.Relabel rule inner) = inner
+node_bound asked (PlanNode-F.Sort down inner) = inner
+node_bound asked (PlanNode-F.ScalarOf inner) = inner
+node_bound asked (PlanNode-F.VectorOf inner) = inner
+node_bound asked (PlanNode-F.Group f by arguments label) = all_of arguments
+node_bound asked (PlanNode-F.Pair op left right pairing) = λ at. both (left at) (right at)
+node_bound asked (PlanNode-F.Set op left right pairing) = λ at. both (left at) (right at)
+node_bound asked (PlanNode-F.Filter base rules) = base
+node_bound asked (PlanNode-F.Ratio sum count) = λ at. both (sum at) (count at)
+node_bound asked (PlanNode-F.Once inner) = λ at. inner (first_alone at)
+
+-- what a plan costs at most at some instants: a part that is computed once costs what it does at the first one
+abbrev pub plan_bound : Asked → Plan → Bounding
+plan_bound asked p = fold-Plan Bounding Bounding (node_bound asked) (λ p. p.node) p

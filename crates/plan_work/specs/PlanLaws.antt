@@ -1,0 +1,89 @@
+-- What builders of trees rely on: the bounds of plans add up over their nodes as those of trees do over their shapes. (This project's
+-- own.)
+use Rattle.std.specs.Prelude.{◌≡◌, ◌≤◌, ◌<ℤ◌, ◌≤ℤ◌, ℕ, ℤ, Bool, List, [], ◌∷◌, Option}
+use Rattle.func_table.specs.declared.table.Aggregate.{Aggregate}
+use Rattle.func_table.specs.declared.table.Element.{Element}
+use Rattle.func_table.specs.declared.table.SetOp.{SetOp}
+use Rattle.label_set.specs.declared.rules.Grouping.{Grouping}
+use Rattle.label_set.specs.declared.rules.Pairing.{Pairing}
+use Rattle.label_set.specs.declared.rules.Relabel.{Relabel as Relabelling}
+use Rattle.label_set.specs.declared.rules.Rule.{Rule}
+use Rattle.logical_plan.specs.declared.nodes.Plan.{Plan}
+use Rattle.logical_plan.specs.declared.nodes.PlanNode.TheVariants as node
+use Rattle.plan_tree.specs.Spending.{both, leaf_bound, nothing}
+use Rattle.promql_ast.specs.declared.tree.Moment.{Moment}
+use Rattle.promql_meaning.specs.Selecting.{Asked, Samples, passing}
+use Rattle.promql_meaning.specs.WalkMoments.{IsMomentOf}
+use Rattle.series_marks.specs.Reaches.{AreThere, numbered}
+use Rattle.series_marks.specs.Reads.{span_bound}
+use Rattle.step_table.specs.Groups.{Names}
+use Rattle.ticks.specs.declared.moment.Ms.{Ms}
+use Rattle.ticks.specs.declared.walk.WalkMoment.{WalkMoment}
+use Rattle.xfrac.specs.declared.value.PairOp.{PairOp}
+use Rattle.xfrac.specs.declared.value.XFrac.{XFrac}
+use Rattle.plan_work.specs.PlanBounds.{first_alone, plan_bound, selector_bound}
+
+-- ---- nodes
+
+-- a node that reads no series
+pub data IsBare (p : Plan) : Type 0 where
+  of_number : (value : XFrac) → p.node ≡ node.Number value → IsBare p
+  of_time : p.node ≡ node.Time → IsBare p
+
+-- a node over one child
+pub data IsOver (c p : Plan) : Type 0 where
+  of_stamp : p.node ≡ node.Stamp c → IsOver c p
+  of_absent : (labels : Option Names) → p.node ≡ node.Absent labels c → IsOver c p
+  of_relabel : (rule : Relabelling) → p.node ≡ node.Relabel rule c → IsOver c p
+  of_sort : (down : Bool) → p.node ≡ node.Sort down c → IsOver c p
+  of_scalar : p.node ≡ node.ScalarOf c → IsOver c p
+  of_vector : p.node ≡ node.VectorOf c → IsOver c p
+  of_filter : (rules : List Rule) → p.node ≡ node.Filter c rules → IsOver c p
+  of_element : (f : Element) → p.node ≡ node.Element f c [] → IsOver c p
+  of_group : (f : Aggregate) (by : Grouping) (label : List ℕ) → p.node ≡ node.Group f by (c ∷ []) label → IsOver c p
+
+-- a node over two children
+pub data IsBeside (left right p : Plan) : Type 0 where
+  of_buckets : p.node ≡ node.Buckets left right → IsBeside left right p
+  of_pair : (op : PairOp) (pairing : Pairing) → p.node ≡ node.Pair op left right pairing → IsBeside left right p
+  of_set : (op : SetOp) (pairing : Pairing) → p.node ≡ node.Set op left right pairing → IsBeside left right p
+  of_ratio : p.node ≡ node.Ratio left right → IsBeside left right p
+  of_argument : (f : Element) → p.node ≡ node.Element f left (right ∷ []) → IsBeside left right p
+  of_parameter : (f : Aggregate) (by : Grouping) (label : List ℕ) → p.node ≡ node.Group f by (left ∷ right ∷ []) label → IsBeside left right p
+
+-- a function of rows with two arguments
+pub data IsThree (rows low high p : Plan) : Type 0 where
+  of_arguments : (f : Element) → p.node ≡ node.Element f rows (low ∷ high ∷ []) → IsThree rows low high p
+
+-- what a node costs, from what its children do
+abbrev pub NoSelectorCostsNothing : Type 0
+NoSelectorCostsNothing = (asked : Asked) (p : Plan) (at : List Ms) → IsBare p → plan_bound asked p at ≡ nothing
+
+abbrev pub OversCostTheSame : Type 0
+OversCostTheSame = (asked : Asked) (c p : Plan) (at : List Ms) → IsOver c p → plan_bound asked p at ≡ plan_bound asked c at
+
+abbrev pub BesidesAddUp : Type 0
+BesidesAddUp = (asked : Asked) (left right p : Plan) (at : List Ms) → IsBeside left right p → plan_bound asked p at ≡ both (plan_bound asked left at) (plan_bound asked right at)
+
+abbrev pub ThreesAddUp : Type 0
+ThreesAddUp =
+    (asked : Asked) (rows low high p : Plan) (at : List Ms) → IsThree rows low high p → plan_bound asked p at ≡ both (plan_bound asked rows at) (both (plan_bound asked low at) (plan_bound asked high at))
+
+-- what is computed once costs what it does at the first instant
+abbrev pub OncesCostOnce : Type 0
+OncesCostOnce = (asked : Asked) (c p : Plan) (at : List Ms) → p.node ≡ node.Once c → plan_bound asked p at ≡ plan_bound asked c (first_alone at)
+
+-- ---- leaves
+
+-- a leaf over the series that pass a selector's rules costs what the selector does
+abbrev pub LeavesCostAsSelectors : Type 0
+LeavesCostAsSelectors =
+    (back : ℤ) (asked : Asked) (rules : List Rule) (moment : Moment) (own : WalkMoment) (series : List ℕ) (at : List Ms) →
+    AreThere asked.samples series → numbered asked.samples series ≡ passing asked.samples asked.kept rules → IsMomentOf asked moment own → own.closed ≡ moment.closed →
+    leaf_bound back asked.samples series own at ≡ selector_bound back asked rules moment at
+
+-- ---- spans
+
+-- a span that begins no later and ends no earlier costs no less
+abbrev pub SpansRise : Type 0
+SpansRise = (first last from to : ℤ) (samples : Samples) → from ≤ℤ first → last ≤ℤ to → from <ℤ to → span_bound first last samples ≤ span_bound from to samples
