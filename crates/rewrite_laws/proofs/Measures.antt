@@ -1,5 +1,5 @@
 -- A valid plan stays valid under each rewrite.
-use Rattle.std.proofs.Common.{◌≡◌, ◌≤◌, ◌⊎◌, inl, inr, ℕ, ◌+◌, ◌*◌, List, [], ◌∷◌, ◌++◌, map, refl, Bool, true, false, arith}
+use Rattle.std.proofs.Common.{◌≡◌, ◌≤◌, ◌⊎◌, inl, inr, ℕ, ◌+◌, ◌*◌, List, [], ◌∷◌, ◌++◌, map, refl, Bool, true, arith}
 use Rattle.std.specs.Prelude.{◌&&◌, not, nat_lt, Contains, ⊤}
 use Rattle.std.proofs.lemmas.List.Elements.{Contains-append_cases, Contains-append_left, Contains-append_right}
 use Rattle.func_table.specs.declared.table.Aggregate.TheVariants as aggregate
