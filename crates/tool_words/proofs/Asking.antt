@@ -5,7 +5,7 @@ use Rattle.std.specs.Str.{bytes_eq}
 use Rattle.std.proofs.lemmas.Slice.Eq.{bytes_eq-Decides}
 use Rattle.std.proofs.lemmas.Result.{IfOk-weaker}
 use Rattle.clap.specs.declared.parser.matches.ArgMatches.{ArgMatches}
-use Rattle.tool_words.specs.Asked.{AsksForBatch, AsksForEdges, BatchesAreAskedFor, EdgesAreAskedFor, Wish, asked, batch_in, batch_of, choices_in, choices_of, closed_edges, edges_in, edges_named, edges_of, format, format_of, format_worded, if_grid, moments_of, query, query_at, query_of, query_worded, number_of, open_edges, said_batch, test, test_at, test_of, test_worded, time_of, moment_at, range_of, unsaid, unsaid_batch, workload, workload_at, workload_of, workload_worded}
+use Rattle.tool_words.specs.Asked.{AsksForBatch, AsksForEdges, BatchesAreAskedFor, EdgesAreAskedFor, Wish, asked, batch_in, batch_of, choices_in, choices_of, closed_edges, edges_in, edges_named, edges_of, explain, explain_at, explain_of, explain_worded, format, format_of, format_worded, if_grid, moments_of, query, query_at, query_of, query_worded, number_of, open_edges, opts_in, said_batch, test, test_at, test_of, test_worded, time_of, moment_at, range_of, unsaid, unsaid_batch, workload, workload_at, workload_of, workload_worded}
 use Rattle.ticks.specs.Moments.{Moments, is_grid}
 use Rattle.tool_words.specs.Said.{Item, Text, places_of, said, value_of}
 use Rattle.tool_words.specs.Tells.{Holds, Tells}
@@ -13,6 +13,7 @@ use Rattle.tool_words.specs.Views.{AreInBatches, HasBatch, HasFiles, HasSeries, 
 use Rattle.tool_words.specs.declared.asked.Asked.{Asked}
 use Rattle.tool_words.specs.declared.asked.Asked.TheVariants as wanted
 use Rattle.tool_words.specs.declared.asked.Choices.{Choices}
+use Rattle.tool_words.specs.declared.asked.Optimisers.{Optimisers}
 use Rattle.ticks.specs.declared.moment.Ms.{Ms}
 use Rattle.tool_words.proofs.Counts.{number_counted, number_is, spelled_number}
 
@@ -38,18 +39,20 @@ Sound (test choices files) = AreInBatches choices × (0 < length files)
 Sound (query choices moments file expr) = AreInBatches choices × Alone moments
 Sound (workload choices count) = AreInBatches choices × Counted 20000 count
 Sound (format expr) = ⊤
+Sound (explain optimisers expr) = ⊤
 
 batch_counted : (value : Option Text) → IfSome (batch_of value) (Counted 1024)
 batch_counted None = (omega arith, omega arith)
 batch_counted (Some text) = number_counted 1024 text
 
-choices_counted : (closed : Option Bool) (batch : Option ℕ) → IfSome batch (Counted 1024) → IfSome (choices_of closed batch) AreInBatches
-choices_counted None batch few = tt
-choices_counted (Some closed) None few = tt
-choices_counted (Some closed) (Some batch) few = few
+choices_counted : (closed : Option Bool) (batch : Option ℕ) (optimisers : Option Optimisers) → IfSome batch (Counted 1024) → IfSome (choices_of closed batch optimisers) AreInBatches
+choices_counted None batch optimisers few = tt
+choices_counted (Some closed) None optimisers few = tt
+choices_counted (Some closed) (Some batch) None few = tt
+choices_counted (Some closed) (Some batch) (Some optimisers) few = few
 
 chosen : (items : List Item) → IfSome (choices_in items) AreInBatches
-chosen items = choices_counted (edges_in items) (batch_in items) (batch_counted (value_of (codes "batch") items))
+chosen items = choices_counted (edges_in items) (batch_in items) (opts_in items) (batch_counted (value_of (codes "batch") items))
 
 grid_alone : (m : Moments) → Alone m → IfSome (if_grid m) Alone
 grid_alone m alone = go (is_grid m)
@@ -109,6 +112,14 @@ format_sound : (words : List Text) → IfSome (format_worded words) Sound
 format_sound (expr ∷ []) = tt
 format_sound _ = tt
 
+explain_sound : (optimisers : Optimisers) (words : List Text) → IfSome (explain_worded optimisers words) Sound
+explain_sound optimisers (expr ∷ []) = tt
+explain_sound optimisers _ = tt
+
+explain_chosen : (optimisers : Option Optimisers) (words : List Text) → IfSome (explain_at optimisers words) Sound
+explain_chosen None words = tt
+explain_chosen (Some optimisers) words = explain_sound optimisers words
+
 -- what the items of each command ask for
 pub tests_sound : (said : Option (List Item)) → IfSome (option_and_then test_of said) Sound
 tests_sound None = tt
@@ -127,6 +138,10 @@ pub formats_sound : (said : Option (List Item)) → IfSome (option_and_then form
 formats_sound None = tt
 formats_sound (Some items) = format_sound (places_of items)
 
+pub explains_sound : (said : Option (List Item)) → IfSome (option_and_then explain_of said) Sound
+explains_sound None = tt
+explains_sound (Some items) = explain_chosen (opts_in items) (places_of items)
+
 -- what an answer stands for is sound, so the answer is
 module _ (w : Option Wish) (sound : IfSome w Sound) where
   sound_too : (asked : Asked) → Some (wish_of asked) ≡ w → Sound (wish_of asked)
@@ -138,6 +153,7 @@ module _ (w : Option Wish) (sound : IfSome w Sound) where
   has_files (Some (wanted.Query choices grid instant file expr)) is = tt
   has_files (Some (wanted.Workload choices count)) is = tt
   has_files (Some (wanted.Format expr)) is = tt
+  has_files (Some (wanted.Explain optimisers expr)) is = tt
 
   is_one_instant : (o : Option Asked) → option_map wish_of o ≡ w → IfSome o IsOneInstant
   is_one_instant None is = tt
@@ -145,6 +161,7 @@ module _ (w : Option Wish) (sound : IfSome w Sound) where
   is_one_instant (Some (wanted.Query choices grid instant file expr)) is = (sound_too (wanted.Query choices grid instant file expr) is).1
   is_one_instant (Some (wanted.Workload choices count)) is = tt
   is_one_instant (Some (wanted.Format expr)) is = tt
+  is_one_instant (Some (wanted.Explain optimisers expr)) is = tt
 
   has_series : (o : Option Asked) → option_map wish_of o ≡ w → IfSome o HasSeries
   has_series None is = tt
@@ -152,6 +169,7 @@ module _ (w : Option Wish) (sound : IfSome w Sound) where
   has_series (Some (wanted.Query choices grid instant file expr)) is = tt
   has_series (Some (wanted.Workload choices count)) is = (sound_too (wanted.Workload choices count) is).1
   has_series (Some (wanted.Format expr)) is = tt
+  has_series (Some (wanted.Explain optimisers expr)) is = tt
 
   has_batch : (o : Option Asked) → option_map wish_of o ≡ w → IfSome o HasBatch
   has_batch None is = tt
@@ -159,6 +177,7 @@ module _ (w : Option Wish) (sound : IfSome w Sound) where
   has_batch (Some (wanted.Query choices grid instant file expr)) is = (sound_too (wanted.Query choices grid instant file expr) is).0
   has_batch (Some (wanted.Workload choices count)) is = (sound_too (wanted.Workload choices count) is).0
   has_batch (Some (wanted.Format expr)) is = tt
+  has_batch (Some (wanted.Explain optimisers expr)) is = tt
 
   pub some_files : {E : Type 0} (r : Result (Option Asked) E) → IfOk r (λ asked. option_map wish_of asked ≡ w) → IfOk r (λ asked. IfSome asked HasFiles)
   some_files r read = IfOk-weaker r _ _ has_files read
@@ -182,16 +201,16 @@ apart x y other = go (bytes_eq x y) refl
     go false e = e
 
 unnamed : (command : Text) (rest : List Text) → (command ≡ codes "promqltest" → ⊥) → (command ≡ codes "query" → ⊥)
-    → (command ≡ codes "workload" → ⊥) → (command ≡ codes "format" → ⊥) → None ≡ asked (command ∷ rest)
-unnamed command rest no_test no_query no_workload no_format =
-    rw (apart command (codes "promqltest") no_test, apart command (codes "query") no_query, apart command (codes "workload") no_workload, apart command (codes "format") no_format) refl
+    → (command ≡ codes "workload" → ⊥) → (command ≡ codes "format" → ⊥) → (command ≡ codes "explain" → ⊥) → None ≡ asked (command ∷ rest)
+unnamed command rest no_test no_query no_workload no_format no_explain =
+    rw (apart command (codes "promqltest") no_test, apart command (codes "query") no_query, apart command (codes "workload") no_workload, apart command (codes "format") no_format, apart command (codes "explain") no_explain) refl
 
 pub no_command : {Z : Type 0} (words : List (String Z)) (first : String Z) (command : Text) → Some first ≡ slice_get words 0 → command ≡ string_bytes first
-    → (command ≡ codes "promqltest" → ⊥) → (command ≡ codes "query" → ⊥) → (command ≡ codes "workload" → ⊥) → (command ≡ codes "format" → ⊥) → None ≡ asked (map string_bytes words)
-no_command [] first command is value no_test no_query no_workload no_format = absurd (cc)
-no_command (word ∷ words) first command is value no_test no_query no_workload no_format =
+    → (command ≡ codes "promqltest" → ⊥) → (command ≡ codes "query" → ⊥) → (command ≡ codes "workload" → ⊥) → (command ≡ codes "format" → ⊥) → (command ≡ codes "explain" → ⊥) → None ≡ asked (map string_bytes words)
+no_command [] first command is value no_test no_query no_workload no_format no_explain = absurd (cc)
+no_command (word ∷ words) first command is value no_test no_query no_workload no_format no_explain =
     let same : string_bytes word ≡ command = ap string_bytes (let e : word ≡ first = cc in e) ∙ sym value in
-    unnamed (string_bytes word) (map string_bytes words) (λ e. no_test (sym same ∙ e)) (λ e. no_query (sym same ∙ e)) (λ e. no_workload (sym same ∙ e)) (λ e. no_format (sym same ∙ e))
+    unnamed (string_bytes word) (map string_bytes words) (λ e. no_test (sym same ∙ e)) (λ e. no_query (sym same ∙ e)) (λ e. no_workload (sym same ∙ e)) (λ e. no_format (sym same ∙ e)) (λ e. no_explain (sym same ∙ e))
 
 -- ---- the edges that are asked for
 

@@ -3,7 +3,7 @@ use Rattle.std.proofs.Common.{◌≡◌, arith, Bool, true, false, refl, subst, 
 use Rattle.std.specs.Prelude.{codes}
 use Rattle.std.specs.Str.{bytes_eq}
 use Rattle.std.proofs.lemmas.Slice.Eq.{bytes_eq-Decides}
-use Rattle.tool_words.specs.Asked.{query_options, test_options}
+use Rattle.tool_words.specs.Asked.{explain_options, query_options, test_options}
 use Rattle.tool_words.specs.Said.{Text}
 use Rattle.tool_words.specs.Says.{AreNames, IsName}
 
@@ -19,16 +19,21 @@ one_more n names is others name among = go (bytes_eq n name) refl
 
 pub test_names : AreNames test_options
 test_names =
-    one_more (codes "edges") (codes "batch" ∷ []) (record { some = omega arith; plain = refl })
-    (one_more (codes "batch") [] (record { some = omega arith; plain = refl })
-    no_names)
+    one_more (codes "edges") (codes "batch" ∷ codes "opts" ∷ []) (record { some = omega arith; plain = refl })
+    (one_more (codes "batch") (codes "opts" ∷ []) (record { some = omega arith; plain = refl })
+    (one_more (codes "opts") [] (record { some = omega arith; plain = refl })
+    no_names))
 
 pub query_names : AreNames query_options
 query_names =
-    one_more (codes "edges") (codes "batch" ∷ codes "at" ∷ codes "from" ∷ codes "to" ∷ codes "step" ∷ []) (record { some = omega arith; plain = refl })
-    (one_more (codes "batch") (codes "at" ∷ codes "from" ∷ codes "to" ∷ codes "step" ∷ []) (record { some = omega arith; plain = refl })
+    one_more (codes "edges") (codes "batch" ∷ codes "opts" ∷ codes "at" ∷ codes "from" ∷ codes "to" ∷ codes "step" ∷ []) (record { some = omega arith; plain = refl })
+    (one_more (codes "batch") (codes "opts" ∷ codes "at" ∷ codes "from" ∷ codes "to" ∷ codes "step" ∷ []) (record { some = omega arith; plain = refl })
+    (one_more (codes "opts") (codes "at" ∷ codes "from" ∷ codes "to" ∷ codes "step" ∷ []) (record { some = omega arith; plain = refl })
     (one_more (codes "at") (codes "from" ∷ codes "to" ∷ codes "step" ∷ []) (record { some = omega arith; plain = refl })
     (one_more (codes "from") (codes "to" ∷ codes "step" ∷ []) (record { some = omega arith; plain = refl })
     (one_more (codes "to") (codes "step" ∷ []) (record { some = omega arith; plain = refl })
     (one_more (codes "step") [] (record { some = omega arith; plain = refl })
-    no_names)))))
+    no_names))))))
+
+pub explain_names : AreNames explain_options
+explain_names = one_more (codes "opts") [] (record { some = omega arith; plain = refl }) no_names

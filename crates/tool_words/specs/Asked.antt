@@ -9,26 +9,33 @@ use Rattle.std.specs.Str.Parse.{digits_value}
 use Rattle.ticks.specs.Moments.{Moments, is_grid}
 use Rattle.ticks.specs.declared.moment.Ms.{Ms}
 use Rattle.frac_text.specs.Times.{time_answer}
+use Rattle.tool_words.specs.Opts.{opts_of}
 use Rattle.tool_words.specs.Said.{Item, Text, places_of, said, value_of}
 use Rattle.tool_words.specs.declared.asked.Choices.{Choices}
+use Rattle.tool_words.specs.declared.asked.Optimisers.{Optimisers}
 
 -- what a command asks for: to judge files, to answer an expression over a file's samples, or to judge a script that is made of
--- so many series, each with what is chosen for its evaluations; or to print an expression, of which nothing is evaluated
+-- so many series, each with what is chosen for its evaluations; or to print an expression, or its plan behind some rewrites, of
+-- which nothing is evaluated
 pub data Wish : Type 0 where
   test : Choices → List Text → Wish
   query : Choices → Moments → Text → Text → Wish
   workload : Choices → ℕ → Wish
   format : Text → Wish
+  explain : Optimisers → Text → Wish
 
--- the options of `promqltest` and `workload`, those of `query`, and those of `format`, which has none
+-- the options of `promqltest` and `workload`, those of `query`, those of `format`, which has none, and those of `explain`
 abbrev pub test_options : List Text
-test_options = codes "edges" ∷ codes "batch" ∷ []
+test_options = codes "edges" ∷ codes "batch" ∷ codes "opts" ∷ []
 
 abbrev pub query_options : List Text
-query_options = codes "edges" ∷ codes "batch" ∷ codes "at" ∷ codes "from" ∷ codes "to" ∷ codes "step" ∷ []
+query_options = codes "edges" ∷ codes "batch" ∷ codes "opts" ∷ codes "at" ∷ codes "from" ∷ codes "to" ∷ codes "step" ∷ []
 
 abbrev pub format_options : List Text
 format_options = []
+
+abbrev pub explain_options : List Text
+explain_options = codes "opts" ∷ []
 
 -- the value of `--edges`: windows are open on the left under v3, as without it, and closed under v2
 abbrev pub edges_named : Text → Option Bool
@@ -58,13 +65,17 @@ batch_of (Some text) = number_of 1024 text
 abbrev pub batch_in : List Item → Option ℕ
 batch_in items = batch_of (value_of (codes "batch") items)
 
+-- the value of `--opts`
+abbrev pub opts_in : List Item → Option Optimisers
+opts_in items = opts_of (value_of (codes "opts") items)
+
 -- what is chosen for all evaluations
-abbrev pub choices_of : Option Bool → Option ℕ → Option Choices
-choices_of (Some closed) (Some batch) = Some (record { closed = closed; batch = batch })
-choices_of _ _ = None
+abbrev pub choices_of : Option Bool → Option ℕ → Option Optimisers → Option Choices
+choices_of (Some closed) (Some batch) (Some optimisers) = Some (record { closed = closed; batch = batch; optimisers = optimisers })
+choices_of _ _ _ = None
 
 abbrev pub choices_in : List Item → Option Choices
-choices_in items = choices_of (edges_in items) (batch_in items)
+choices_in items = choices_of (edges_in items) (batch_in items) (opts_in items)
 
 -- instants that are a grid
 abbrev pub if_grid : Moments → Option Moments
@@ -135,13 +146,26 @@ format_worded _ = None
 abbrev pub format_of : List Item → Option Wish
 format_of items = format_worded (places_of items)
 
+-- an expression, and the rewrites that are chosen
+abbrev pub explain_worded : Optimisers → List Text → Option Wish
+explain_worded optimisers (expr ∷ []) = Some (explain optimisers expr)
+explain_worded optimisers _ = None
+
+abbrev pub explain_at : Option Optimisers → List Text → Option Wish
+explain_at None words = None
+explain_at (Some optimisers) words = explain_worded optimisers words
+
+abbrev pub explain_of : List Item → Option Wish
+explain_of items = explain_at (opts_in items) (places_of items)
+
 abbrev pub command_of : Text → List Text → Option Wish
 command_of command rest =
     if bytes_eq command (codes "promqltest") then option_and_then test_of (said test_options rest)
     else (if bytes_eq command (codes "query") then option_and_then query_of (said query_options rest)
     else (if bytes_eq command (codes "workload") then option_and_then workload_of (said test_options rest)
     else (if bytes_eq command (codes "format") then option_and_then format_of (said format_options rest)
-    else None)))
+    else (if bytes_eq command (codes "explain") then option_and_then explain_of (said explain_options rest)
+    else None))))
 
 -- what the program's words ask for, where they follow the rules
 abbrev pub asked : List Text → Option Wish

@@ -1,4 +1,5 @@
 pub mod Asked
+pub mod Opts
 pub mod Commands
 pub mod Said
 pub mod Says

@@ -1,6 +1,23 @@
 use holders::{Items, Text};
 use ticks::Grid;
 
+/// Which rewrites of plans are chosen.
+#[derive(Clone, Copy, Debug)]
+pub struct Optimisers {
+    /// The rules of each selector are ordered.
+    pub sort: bool,
+    /// The sides of an arithmetic operator hand each other their rules.
+    pub propagate: bool,
+    /// A selector stands over another one that has a part of its rules.
+    pub merge: bool,
+    /// Sorts that order nothing that is seen go.
+    pub trim: bool,
+    /// An average is a sum divided by a count.
+    pub avg: bool,
+    /// Parts of a query are computed where their samples are. Without engines it changes nothing.
+    pub remote: bool,
+}
+
 /// What is chosen for all evaluations.
 #[derive(Clone, Copy, Debug)]
 pub struct Choices {
@@ -8,6 +25,8 @@ pub struct Choices {
     pub closed: bool,
     /// The most instants that are computed at once, from 1 to 1,024.
     pub batch: u32,
+    /// The rewrites that a plan goes through.
+    pub optimisers: Optimisers,
 }
 
 /// What the words of the program ask for.
@@ -34,6 +53,11 @@ pub enum Asked {
     },
     /// To print an expression in its canonical form.
     Format {
+        expr: Text,
+    },
+    /// To print the plan of an expression behind the rewrites that are chosen.
+    Explain {
+        optimisers: Optimisers,
         expr: Text,
     },
 }

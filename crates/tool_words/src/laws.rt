@@ -1,6 +1,6 @@
 ghost use Rattle.clap.specs.Simple.{is_simple};
 ghost use Rattle.std.specs.Prelude.{◌≡◌, IsTrue, List, None, Some};
-ghost use Rattle.tool_words.specs.Asked.{BatchesAreAskedFor, EdgesAreAskedFor, format_options, query_options, test_options};
+ghost use Rattle.tool_words.specs.Asked.{BatchesAreAskedFor, EdgesAreAskedFor, explain_options, format_options, query_options, test_options};
 ghost use Rattle.tool_words.specs.Commands.{app};
 ghost use Rattle.tool_words.specs.Said.{Item, Text, said};
 ghost use Rattle.tool_words.specs.Says.{AreNames, IsOnce, Says};
@@ -19,6 +19,7 @@ pub fn words_say_what_they_spell()
     ensures test { AreNames test_options }
     ensures query { AreNames query_options }
     ensures format { AreNames format_options }
+    ensures explain { AreNames explain_options }
 {}
 
 /// A law, with nothing to run: windows are closed on the left, or open, exactly where the options ask for it.

@@ -8,9 +8,10 @@ mod instants;
 mod laws;
 mod matches;
 mod number;
+mod opts;
 mod read;
 
-pub use asked::{Asked, Choices};
+pub use asked::{Asked, Choices, Optimisers};
 pub use laws::{
     batches_are_asked_for, commands_are_simple, edges_are_asked_for, words_say_what_they_spell,
 };

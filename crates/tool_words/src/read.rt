@@ -1,24 +1,27 @@
 //! What the words of the program ask for.
 ghost use Rattle.std.specs.Prelude.{◌≡◌, IfOk, IfSome, List, codes, drop, map, option_and_then, option_map, string_bytes};
-ghost use Rattle.tool_words.specs.Asked.{asked, batch_in, choices_in, edges_in, edges_named, format_of, format_options, format_worded, moments_of, query_of, query_options, query_worded, test_of, test_options, workload_of, workload_worded};
+ghost use Rattle.tool_words.specs.Asked.{asked, batch_in, choices_in, edges_in, edges_named, explain_of, explain_options, explain_worded, format_of, format_options, format_worded, moments_of, opts_in, query_of, query_options, query_worded, test_of, test_options, workload_of, workload_worded};
 ghost use Rattle.tool_words.specs.Said.{Item, said, value_of};
 ghost use Rattle.tool_words.specs.Tells.{Holds};
 ghost use Rattle.tool_words.specs.Views.{HasBatch, HasFiles, HasSeries, IsOneInstant, moments_seen, wish_of};
 
-use crate::asked::{Asked, Choices};
+use crate::asked::{Asked, Choices, Optimisers};
 use crate::instants::{Instants, instants_by};
 use crate::matches::{matches_in, places_in, value_in};
 use crate::number::number_in;
+use crate::opts::{opts_by, uniform};
 use clap::ArgMatches;
 use holders::{Items, Text};
 use std::alloc::{AllocError, Global};
 
-/// The options of `promqltest` and `workload`, those of `query`, and those of `format`.
-static TEST_OPTIONS: [&str; 2] = ["edges", "batch"];
+/// The options of `promqltest` and `workload`, and those of other commands.
+static TEST_OPTIONS: [&str; 3] = ["edges", "batch", "opts"];
 
-static QUERY_OPTIONS: [&str; 6] = ["edges", "batch", "at", "from", "to", "step"];
+static QUERY_OPTIONS: [&str; 7] = ["edges", "batch", "opts", "at", "from", "to", "step"];
 
 static FORMAT_OPTIONS: [&str; 0] = [];
+
+static EXPLAIN_OPTIONS: [&str; 1] = ["opts"];
 
 /// No workload has more series than this.
 const MOST_SERIES: u32 = 20_000;
@@ -70,12 +73,30 @@ fn batch_given(matches: &ArgMatches<'_>) -> Option<u32>
     }
 }
 
+/// The rewrites that a plan goes through; without the option all of them.
+fn opts_given(matches: &ArgMatches<'_>) -> Option<Optimisers>
+    ensures { (items : List Item) → Holds matches.now items → result ≡ opts_in items }
+{
+    match value_in(matches, "opts") {
+        None => Some(uniform(true)),
+        Some(value) => opts_by(value),
+    }
+}
+
 /// What the options choose for all evaluations.
 fn choices_given(matches: &ArgMatches<'_>) -> Option<Choices>
     ensures { (items : List Item) → Holds matches.now items → result ≡ choices_in items }
 {
-    match (edges_given(matches), batch_given(matches)) {
-        (Some(closed), Some(batch)) => Some(Choices { closed, batch }),
+    match (
+        edges_given(matches),
+        batch_given(matches),
+        opts_given(matches),
+    ) {
+        (Some(closed), Some(batch), Some(optimisers)) => Some(Choices {
+            closed,
+            batch,
+            optimisers,
+        }),
         _ => None,
     }
 }
@@ -192,7 +213,36 @@ fn judge_format(alloc: Global, matches: &ArgMatches<'_>) -> Result<Option<Asked>
     }
 }
 
-/// `promqltest [--edges E] [--batch B] FILE..`
+/// The expression that the words give, whose plan goes through these rewrites.
+fn explain_in(
+    alloc: Global,
+    optimisers: Optimisers,
+    words: &[&str],
+) -> Result<Option<Asked>, AllocError>
+    ensures { IfOk result (λ asked. option_map wish_of asked ≡ explain_worded optimisers (map (λ w. w.now) words.now)) }
+{
+    let [expr] = words else {
+        return Ok(None);
+    };
+    Ok(Some(Asked::Explain {
+        optimisers,
+        expr: Text::of(alloc, expr)?,
+    }))
+}
+
+fn judge_explain(alloc: Global, matches: &ArgMatches<'_>) -> Result<Option<Asked>, AllocError>
+    ensures { (items : List Item) → Holds matches.now items → IfOk result (λ asked. option_map wish_of asked ≡ explain_of items) }
+{
+    let Some(optimisers) = opts_given(matches) else {
+        return Ok(None);
+    };
+    match places_in(matches) {
+        None => Ok(None),
+        Some(words) => explain_in(alloc, optimisers, words),
+    }
+}
+
+/// `promqltest [--edges E] [--batch B] [--opts O] FILE..`
 fn read_test(alloc: Global, words: &[String]) -> Result<Option<Asked>, AllocError>
     ensures { IfOk result (λ asked. option_map wish_of asked ≡ option_and_then test_of (said test_options (drop 1 (map string_bytes words.now)))) }
 {
@@ -202,7 +252,7 @@ fn read_test(alloc: Global, words: &[String]) -> Result<Option<Asked>, AllocErro
     }
 }
 
-/// `query [--edges E] [--batch B] [--at T | --from A --to B --step S] FILE EXPR`
+/// `query [--edges E] [--batch B] [--opts O] [--at T | --from A --to B --step S] FILE EXPR`
 fn read_query(alloc: Global, words: &[String]) -> Result<Option<Asked>, AllocError>
     ensures { IfOk result (λ asked. option_map wish_of asked ≡ option_and_then query_of (said query_options (drop 1 (map string_bytes words.now)))) }
 {
@@ -212,7 +262,7 @@ fn read_query(alloc: Global, words: &[String]) -> Result<Option<Asked>, AllocErr
     }
 }
 
-/// `workload [--edges E] [--batch B] N`
+/// `workload [--edges E] [--batch B] [--opts O] N`
 fn read_workload(alloc: Global, words: &[String]) -> Result<Option<Asked>, AllocError>
     ensures { IfOk result (λ asked. option_map wish_of asked ≡ option_and_then workload_of (said test_options (drop 1 (map string_bytes words.now)))) }
 {
@@ -232,10 +282,21 @@ fn read_format(alloc: Global, words: &[String]) -> Result<Option<Asked>, AllocEr
     }
 }
 
+/// `explain [--opts O] EXPR`
+fn read_explain(alloc: Global, words: &[String]) -> Result<Option<Asked>, AllocError>
+    ensures { IfOk result (λ asked. option_map wish_of asked ≡ option_and_then explain_of (said explain_options (drop 1 (map string_bytes words.now)))) }
+{
+    match matches_in(alloc, "explain", &EXPLAIN_OPTIONS, words)? {
+        Some(matches) => judge_explain(alloc, &matches),
+        None => Ok(None),
+    }
+}
+
 /// What the words behind the program's name ask for, where they follow the rules: `promqltest FILE..`,
 /// `query [--at T | --from A --to B --step S] FILE EXPR`, or `workload N` with N from 1 to 20,000; each takes `--edges v3`,
-/// which is what holds without it, or `--edges v2` too, and `--batch B` with B from 1 to 1,024, which is 64 without it. Or
-/// `format EXPR`, which takes no option. Numbers are decimal digits without a leading zero. Each option stands at most once, in
+/// which is what holds without it, or `--edges v2` too, `--batch B` with B from 1 to 1,024, which is 64 without it, and
+/// `--opts O`, where O is `all`, as without it, `none`, or names among sort, propagate, merge, trim, avg and remote, parted by
+/// commas. Or `format EXPR`, which takes no option, or `explain EXPR`, which takes `--opts`. Numbers are decimal digits without a leading zero. Each option stands at most once, in
 /// any place before a word `--`, as `--name value` or `--name=value`. The only error is want of memory.
 pub fn read_words(alloc: Global, words: &[String]) -> Result<Option<Asked>, AllocError>
     ensures wish { IfOk result (λ wanted. option_map wish_of wanted ≡ asked (map string_bytes words.now)) }
@@ -252,6 +313,7 @@ pub fn read_words(alloc: Global, words: &[String]) -> Result<Option<Asked>, Allo
         "query" => read_query(alloc, words),
         "workload" => read_workload(alloc, words),
         "format" => read_format(alloc, words),
+        "explain" => read_explain(alloc, words),
         _ => Ok(None),
     }
 }

@@ -1,6 +1,6 @@
 use Rattle.std.proofs.Common.{◌∙◌, ap, refl, [], None}
 use Rattle.tool_words.specs.Said.{if_once, said_from}
-use Rattle.tool_words.proofs.Names.{no_names, query_names, test_names}
+use Rattle.tool_words.proofs.Names.{explain_names, no_names, query_names, test_names}
 use Rattle.tool_words.proofs.Once.{behind_once, once_behind, said_parts}
 use Rattle.tool_words.proofs.Spelled.{said_by, spelled}
 use Rattle.tool_words.proofs.laws.words_say_what_they_spell.Goals as goal
@@ -23,3 +23,6 @@ returns-clause-query c = query_names
 
 pub returns-clause-format : goal.returns-clause-format
 returns-clause-format c = no_names
+
+pub returns-clause-explain : goal.returns-clause-explain
+returns-clause-explain c = explain_names

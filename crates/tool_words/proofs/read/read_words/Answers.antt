@@ -1,8 +1,8 @@
 use Rattle.std.proofs.Common.{drop, map}
 use Rattle.std.specs.Prelude.{option_and_then, string_bytes}
-use Rattle.tool_words.specs.Asked.{format_of, format_options, query_of, query_options, test_of, test_options, workload_of}
+use Rattle.tool_words.specs.Asked.{explain_of, explain_options, format_of, format_options, query_of, query_options, test_of, test_options, workload_of}
 use Rattle.tool_words.specs.Said.{said}
-use Rattle.tool_words.proofs.Asking.{formats_sound, in_batches, no_command, one_instant, queries_sound, some_files, some_series, tests_sound, workloads_sound}
+use Rattle.tool_words.proofs.Asking.{explains_sound, formats_sound, in_batches, no_command, one_instant, queries_sound, some_files, some_series, tests_sound, workloads_sound}
 use Rattle.tool_words.proofs.read.read_words.Goals as goal
 
 pub returns-in-promqltest-clause-files : goal.returns-in-promqltest-clause-files
@@ -85,7 +85,27 @@ returns-in-format-clause-batch c =
     let items = said format_options (drop 1 (map string_bytes c.args.words.now)) in
     in_batches (option_and_then format_of items) (formats_sound items) c.read_format.result c.read_format.ensures
 
+pub returns-in-explain-clause-files : goal.returns-in-explain-clause-files
+returns-in-explain-clause-files c =
+    let items = said explain_options (drop 1 (map string_bytes c.args.words.now)) in
+    some_files (option_and_then explain_of items) (explains_sound items) c.read_explain.result c.read_explain.ensures
+
+pub returns-in-explain-clause-alone : goal.returns-in-explain-clause-alone
+returns-in-explain-clause-alone c =
+    let items = said explain_options (drop 1 (map string_bytes c.args.words.now)) in
+    one_instant (option_and_then explain_of items) (explains_sound items) c.read_explain.result c.read_explain.ensures
+
+pub returns-in-explain-clause-series : goal.returns-in-explain-clause-series
+returns-in-explain-clause-series c =
+    let items = said explain_options (drop 1 (map string_bytes c.args.words.now)) in
+    some_series (option_and_then explain_of items) (explains_sound items) c.read_explain.result c.read_explain.ensures
+
+pub returns-in-explain-clause-batch : goal.returns-in-explain-clause-batch
+returns-in-explain-clause-batch c =
+    let items = said explain_options (drop 1 (map string_bytes c.args.words.now)) in
+    in_batches (option_and_then explain_of items) (explains_sound items) c.read_explain.result c.read_explain.ensures
+
 pub returns-in_default-as_str-clause-wish : goal.returns-in_default-as_str-clause-wish
 returns-in_default-as_str-clause-wish c =
     no_command c.args.words.now c.in-Some.command.now _ c.in-Some.ensures.value c.as_str.ensures.value c.in_default-as_str.not-promqltest c.in_default-as_str.not-query
-    c.in_default-as_str.not-workload c.in_default-as_str.not-format
+    c.in_default-as_str.not-workload c.in_default-as_str.not-format c.in_default-as_str.not-explain
