@@ -66,7 +66,7 @@ abbrev pub AreGood : Kept → List Lexeme → Type 0
 AreGood kept ls = AllByRecursion (λ (l : Lexeme). Good kept l.kind) ls
 
 -- before patterns stand in place of strings
-abbrev Raw : LexemeKind → Type 0
+abbrev pub Raw : LexemeKind → Type 0
 Raw = GoodBut (λ kept kind. ⊥) []
 
 -- ---- literals
@@ -173,7 +173,7 @@ all_raw : (text : List ℕ) (ts : List Token) → TokensAreSpelled text ts → A
 all_raw text [] each = tt
 all_raw text (t ∷ ts) each = (each [] t ts refl, all_raw text ts (λ front u back is. each (t ∷ front) u back (ap (λ us. t ∷ us) is)))
 
-abbrev AllRaw : List Lexeme → Type 0
+abbrev pub AllRaw : List Lexeme → Type 0
 AllRaw ls = AllByRecursion (λ (l : Lexeme). Raw l.kind) ls
 
 raw_good : (kept : Kept) (kind : LexemeKind) → Raw kind → Good kept kind
@@ -209,13 +209,13 @@ becomes_good {before = before} (Becomes.same l no_sign) raw = raw_good before l.
 becomes_good {before = before} (Becomes.other l no_string) raw = raw_good before l.kind raw
 becomes_good (Becomes.pattern l m text after sign string place is) raw = pattern_good is (quoted_text l.kind text string raw)
 
-are_good : {behind : Bool} {before after : Kept} {ls ms : List Lexeme} → Patterned behind before ls after ms → AllRaw ls → AreGood after ms
+pub are_good : {behind : Bool} {before after : Kept} {ls ms : List Lexeme} → Patterned behind before ls after ms → AllRaw ls → AreGood after ms
 are_good Patterned.done = λ raw. tt
 are_good (Patterned.last l m ls after becomes bad) = λ raw. (becomes_good becomes raw.0, tt)
 are_good (Patterned.more l m ls ms middle after becomes good later) = λ raw. (good_lifted middle after m.kind (grows later) (becomes_good becomes raw.0), are_good later raw.1)
 
 -- the lexemes of a text whose tokens are spelled as the law says
-pub lexemes_are_good : ((r d k : ℕ) → 0 < d → d ≤ limit → r * 10 ^ k % d ≡ 0 → IsTrue (ends r d)) → ((text : List ℕ) (v : XFrac) → (literal_answer text ≡ Ok v) ↔ IsLiteral text v)
+pub lexemes_are_raw : ((r d k : ℕ) → 0 < d → d ≤ limit → r * 10 ^ k % d ≡ 0 → IsTrue (ends r d)) → ((text : List ℕ) (v : XFrac) → (literal_answer text ≡ Ok v) ↔ IsLiteral text v)
     → (text : List ℕ) → ((front : List Token) (t : Token) (back : List Token) → tokens_of text ≡ front ++ t ∷ back → IsSpelling t.at (take (t.end - t.at) (drop t.at text)) t.kind)
-    → {before after : Kept} {ms : List Lexeme} → Patterned false before (lexemes_of text (tokens_of text)) after ms → AreGood after ms
-lexemes_are_good decimals literals text spelled is = are_good is (all_raw text (tokens_of text) (λ front t back split. spelled_raw decimals literals (spelled front t back split)))
+    → AllRaw (lexemes_of text (tokens_of text))
+lexemes_are_raw decimals literals text spelled = all_raw text (tokens_of text) (λ front t back split. spelled_raw decimals literals (spelled front t back split))

@@ -67,7 +67,7 @@ last_is : (p : Pattern) (qs : Kept) → number_of p (qs ++ p ∷ []) ≡ number_
 last_is p [] = ap (λ t. cond (not t) 1 0) (same_pattern p)
 last_is p (q ∷ qs) = last_step (is_pattern p q) (number_of p qs) (number_of p (qs ++ p ∷ [])) (last_is p qs)
 
-kept_then : (p : Pattern) (qs : Kept) (t : Bool) → nat_lt (number_of p qs) (length qs) ≡ t
+pub kept_then : (p : Pattern) (qs : Kept) (t : Bool) → nat_lt (number_of p qs) (length qs) ≡ t
     → (number_of p (if t then qs else qs ++ p ∷ []) ≡ number_of p qs) × (number_of p (if t then qs else qs ++ p ∷ []) < length (if t then qs else qs ++ p ∷ []))
 kept_then p qs true is = (refl, ltb-true _ _ is)
 kept_then p qs false is =

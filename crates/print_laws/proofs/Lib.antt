@@ -1,4 +1,5 @@
 pub mod Again
+pub mod Anew
 pub mod Bytes
 pub mod CallsRead
 pub mod Goods
@@ -9,6 +10,7 @@ pub mod Lexed
 pub mod Marks
 pub mod ModifiersRead
 pub mod Nodes
+pub mod Numbered
 pub mod Numbers
 pub mod OperatorsRead
 pub mod Selectors

@@ -12,3 +12,9 @@ abbrev pub CanonicalTextsAreRead : Type 0
 CanonicalTextsAreRead =
     (text : List ℕ) (before kept : Kept) (e : Expr) → Parses text before kept (Ok e) → length (canonical kept e) ≤ most_bytes
     → (f : Expr) × Parses (canonical kept e) kept kept (Ok f) × (unplaced f ≡ unplaced e)
+
+-- The same over the patterns that were kept before the text: then the same patterns are kept, under the same numbers.
+abbrev pub CanonicalTextsAreReadAnew : Type 0
+CanonicalTextsAreReadAnew =
+    (text : List ℕ) (before kept : Kept) (e : Expr) → Parses text before kept (Ok e) → length (canonical kept e) ≤ most_bytes
+    → (f : Expr) × Parses (canonical kept e) before kept (Ok f) × (unplaced f ≡ unplaced e)

@@ -1,5 +1,5 @@
 //! How canonical texts are read.
-ghost use Rattle.print_laws.specs.Laws.{CanonicalTextsAreRead};
+ghost use Rattle.print_laws.specs.Laws.{CanonicalTextsAreRead, CanonicalTextsAreReadAnew};
 
 use frac_text::{decimals_end_by_the_hundredth, numbers_are_told, spellings_are_numbers};
 use func_table::functions_have_their_names;
@@ -9,9 +9,11 @@ use promql_parts::parts_lie_within_limits;
 use ticks::{durations_are_found, spellings_are_durations};
 
 /// A law, with nothing to run: the canonical text of a tree that a text gives, with the patterns that are kept then, is read as the
-/// same tree but for the places, and keeps no more patterns; unless it is longer than a query may be.
+/// same tree but for the places, unless it is longer than a query may be. Over the patterns that are kept then it keeps no more;
+/// over those that were kept before the text it keeps the same, under the same numbers.
 pub fn canonical_texts_are_read()
-    ensures { CanonicalTextsAreRead }
+    ensures kept { CanonicalTextsAreRead }
+    ensures anew { CanonicalTextsAreReadAnew }
 {
     decimals_end_by_the_hundredth();
     numbers_are_told();
