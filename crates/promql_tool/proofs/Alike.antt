@@ -3,13 +3,13 @@ use Rattle.std.proofs.Common.{◌≡◌, ◌∙◌, ℕ, Bool, List, [], ◌∷�
 use Rattle.std.specs.Prelude.{◌↔◌}
 use Rattle.ticks.specs.Moments.{moments_in}
 use Rattle.ticks.specs.declared.grid.Grid.{Grid}
-use Rattle.tool_words.specs.Asked.{Wish, asked, format, query, test, workload}
-use Rattle.promql_tool.specs.Alike.{AskAlike, formats, misused as asks_nothing, queries, tests, workloads}
+use Rattle.tool_words.specs.Asked.{Wish, asked, explain, format, query, test, workload}
+use Rattle.promql_tool.specs.Alike.{AskAlike, explains, formats, misused as asks_nothing, queries, tests, workloads}
 use Rattle.promql_tool.specs.Files.{JudgedFile, Last, Sees, report_of}
 use Rattle.promql_tool.specs.Found.{Have, Just}
-use Rattle.promql_tool.specs.Printed.{Formatted}
+use Rattle.promql_tool.specs.Printed.{Explained, Formatted, rewrites_in}
 use Rattle.promql_tool.specs.Query.{Queried}
-use Rattle.promql_tool.specs.Report.{IsReport, formatted, misused, queried, tested, worked, workload_report}
+use Rattle.promql_tool.specs.Report.{IsReport, explained, formatted, misused, queried, tested, worked, workload_report}
 use Rattle.promql_tool.specs.Texts.{Report, usage_report}
 use Rattle.promql_tool.specs.Workload.{workload_path, workload_text}
 
@@ -22,6 +22,7 @@ module _ (files : List ℕ → Option (List ℕ)) (report : Report) where
   Answers (Some (workload choices series)) =
       (seen : List JudgedFile) × (last : Last) × Sees choices.closed (Just (workload_text series)) (workload_path ∷ []) seen last × (report ≡ workload_report series seen last)
   Answers (Some (format expr)) = Formatted expr report
+  Answers (Some (explain optimisers expr)) = Explained (rewrites_in optimisers) expr report
 
   reported : (words : List (List ℕ)) (wish : Option Wish) → asked words ≡ wish → Answers wish → IsReport words (Have files) report
   reported words None is a = subst (IsReport words (Have files)) (sym a) (misused is)
@@ -30,6 +31,7 @@ module _ (files : List ℕ → Option (List ℕ)) (report : Report) where
       queried choices a.0 a.1 path expr report (is ∙ ap (λ m. Some (query choices m path expr)) a.2) a.3
   reported words (Some (workload choices series)) is a = subst (IsReport words (Have files)) (sym a.3) (worked choices series a.0 a.1 is a.2)
   reported words (Some (format expr)) is a = formatted expr report is a
+  reported words (Some (explain optimisers expr)) is a = explained optimisers expr report is a
 
   answers_too : (wish other : Option Wish) → AskAlike wish other → Answers wish → Answers other
   answers_too wish other asks_nothing a = a
@@ -39,6 +41,7 @@ module _ (files : List ℕ → Option (List ℕ)) (report : Report) where
   answers_too wish other (workloads one two series edge) a =
       (a.0, a.1, subst (λ (closed : Bool). Sees closed (Just (workload_text series)) (workload_path ∷ []) a.0 a.1) edge a.2, a.3)
   answers_too wish other (formats expr) a = a
+  answers_too wish other (explains optimisers expr) a = a
 
 answers : (files : List ℕ → Option (List ℕ)) (words : List (List ℕ)) (report : Report) → IsReport words (Have files) report → Answers files report (asked words)
 answers files words report (misused is) = subst (Answers files report) (sym is) refl
@@ -46,6 +49,7 @@ answers files words report (tested choices paths seen last is sees) = subst (Ans
 answers files words report (queried choices grid instant path expr said is q) = subst (Answers files report) (sym is) (grid, instant, refl, q)
 answers files words report (worked choices series seen last is sees) = subst (Answers files report) (sym is) (seen, last, sees, refl)
 answers files words report (formatted expr said is f) = subst (Answers files report) (sym is) f
+answers files words report (explained optimisers expr said is x) = subst (Answers files report) (sym is) x
 
 turned : (wish other : Option Wish) → AskAlike wish other → AskAlike other wish
 turned wish other asks_nothing = asks_nothing
@@ -53,6 +57,7 @@ turned wish other (tests one two paths edge) = tests two one paths (sym edge)
 turned wish other (queries one two moments path expr edge) = queries two one moments path expr (sym edge)
 turned wish other (workloads one two series edge) = workloads two one series (sym edge)
 turned wish other (formats expr) = formats expr
+turned wish other (explains optimisers expr) = explains optimisers expr
 
 pub reports_stay : (words others : List (List ℕ)) → AskAlike (asked words) (asked others) → (files : List ℕ → Option (List ℕ)) (report : Report)
     → IsReport words (Have files) report ↔ IsReport others (Have files) report

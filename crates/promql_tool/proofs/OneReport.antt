@@ -1,17 +1,18 @@
 -- Words that come to one thing have one report.
 use Rattle.std.proofs.Common.{◌≡◌, ℕ, Bool, List, [], ◌∷◌, Option, None, Some, refl, sym, ap, subst, ◌∙◌}
 use Rattle.std.specs.List.{AllByRecursion}
+use Rattle.plan_rewrites.specs.declared.choosing.Choices.{Choices as Rewrites}
 use Rattle.ticks.specs.Moments.{Moments, moments_in}
 use Rattle.ticks.specs.declared.grid.Grid.{Grid}
-use Rattle.tool_words.specs.Asked.{Wish, asked, format, query, test, workload}
+use Rattle.tool_words.specs.Asked.{Wish, asked, explain, format, query, test, workload}
 use Rattle.promql_tool.specs.Files.{All, Gone, JudgedFile, Last, Refused, Sees, all, gone, judged, refused, report_of}
 use Rattle.promql_tool.specs.Found.{Have, Just}
 use Rattle.promql_tool.specs.Printed as printed
-use Rattle.promql_tool.specs.Printed.{Formatted, refused_report, tree_report}
+use Rattle.promql_tool.specs.Printed.{Explained, Formatted, plan_report, refused_report, rewrites_in, tree_report}
 use Rattle.promql_tool.specs.Query.{Queried, outcome_report}
 use Rattle.promql_tool.specs.Query as queries
-use Rattle.promql_tool.specs.Report.{IsReport, formatted, misused, queried, tested, worked, workload_report}
-use Rattle.promql_tool.specs.Settled.{Came, ComesToOne, IsAnsweredOnce, IsReadOnce, IsReadSo, IsSeen, IsSettled, IsToldSo, NoFile, NoScript, NoTree, NotRun, NotThere, Read, Run, Seen, Told, Tree}
+use Rattle.promql_tool.specs.Report.{IsReport, explained, formatted, misused, queried, tested, worked, workload_report}
+use Rattle.promql_tool.specs.Settled.{Came, ComesToOne, IsAnsweredOnce, IsPlannedOnce, IsPlannedSo, IsReadOnce, IsReadSo, IsSeen, IsSettled, IsToldSo, NoFile, NoPlan, NoScript, NoTree, NotRun, NotThere, Outline, Planned, Read, Run, Seen, Told, Tree}
 use Rattle.promql_tool.specs.Texts.{Report, fault_report, refusal_report, usage_report}
 use Rattle.promql_tool.specs.Workload.{workload_path, workload_text}
 
@@ -119,6 +120,24 @@ printed_so expr report (printed.refused refusal is) = record { read = NoTree ref
 printed_once : (expr : List ℕ) → IsReadOnce expr → (one other : Report) → Prints expr one → Prints expr other → one ≡ other
 printed_once expr once one other a b = a.same ∙ ap prints (once a.read b.read a.is b.is) ∙ sym b.same
 
+-- ---- plans that are printed
+
+abbrev outlines : Outline → Report
+outlines (Planned kept plan) = plan_report kept plan
+outlines (NoPlan refusal) = refused_report refusal
+
+record Outlines (rewrites : Rewrites) (expr : List ℕ) (report : Report) : Type 0 where
+  outline : Outline
+  is : IsPlannedSo rewrites expr outline
+  same : report ≡ outlines outline
+
+outlined_so : (rewrites : Rewrites) (expr : List ℕ) (report : Report) → Explained rewrites expr report → Outlines rewrites expr report
+outlined_so rewrites expr report (printed.planned kept plan has) = record { outline = Planned kept plan; is = has; same = refl }
+outlined_so rewrites expr report (printed.unplanned refusal is) = record { outline = NoPlan refusal; is = is; same = refl }
+
+outlined_once : (rewrites : Rewrites) (expr : List ℕ) → IsPlannedOnce rewrites expr → (one other : Report) → Outlines rewrites expr one → Outlines rewrites expr other → one ≡ other
+outlined_once rewrites expr once one other a b = a.same ∙ ap outlines (once a.outline b.outline a.is b.is) ∙ sym b.same
+
 -- ---- words
 
 module _ (files : List ℕ → Option (List ℕ)) where
@@ -130,6 +149,7 @@ module _ (files : List ℕ → Option (List ℕ)) where
   SaysOf (Some (workload choices series)) report =
       (seen : List JudgedFile) × (last : Last) × Sees choices.closed (Just (workload_text series)) (workload_path ∷ []) seen last × (report ≡ workload_report series seen last)
   SaysOf (Some (format expr)) report = Prints expr report
+  SaysOf (Some (explain optimisers expr)) report = Outlines (rewrites_in optimisers) expr report
 
   says_of : (words : List (List ℕ)) (report : Report) → IsReport words (Have files) report → SaysOf (asked words) report
   says_of words report (misused none) = subst (λ (w : Option Wish). SaysOf w usage_report) (sym none) refl
@@ -137,6 +157,7 @@ module _ (files : List ℕ → Option (List ℕ)) where
   says_of words report (queried choices grid instant path expr said_so is q) = subst (λ (w : Option Wish). SaysOf w said_so) (sym is) (said choices.closed (moments_in grid instant) (Have files) path expr grid instant refl said_so q)
   says_of words report (worked choices series seen last is sees) = subst (λ (w : Option Wish). SaysOf w (workload_report series seen last)) (sym is) (seen, last, sees, refl)
   says_of words report (formatted expr said_so is f) = subst (λ (w : Option Wish). SaysOf w said_so) (sym is) (printed_so expr said_so f)
+  says_of words report (explained optimisers expr said_so is x) = subst (λ (w : Option Wish). SaysOf w said_so) (sym is) (outlined_so (rewrites_in optimisers) expr said_so x)
 
   one_of : (wish : Option Wish) → IsSettled wish files → (one other : Report) → SaysOf wish one → SaysOf wish other → one ≡ other
   one_of None once one other a b = a ∙ sym b
@@ -145,6 +166,7 @@ module _ (files : List ℕ → Option (List ℕ)) where
   one_of (Some (workload choices series)) once one other a b =
       a.3 ∙ reports_once choices.closed (Just (workload_text series)) (workload_path ∷ []) (once, tt) (workload_report series) a.0 b.0 a.1 b.1 a.2 b.2 ∙ sym b.3
   one_of (Some (format expr)) once one other a b = printed_once expr once one other a b
+  one_of (Some (explain optimisers expr)) once one other a b = outlined_once (rewrites_in optimisers) expr once one other a b
 
 pub one_report : (words : List (List ℕ)) (files : List ℕ → Option (List ℕ)) → IsSettled (asked words) files → (one other : Report) → IsReport words (Have files) one → IsReport words (Have files) other → one ≡ other
 one_report words files once one other a b = one_of files (asked words) once one other (says_of files words one a) (says_of files words other b)

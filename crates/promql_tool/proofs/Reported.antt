@@ -6,20 +6,21 @@ use Rattle.std.proofs.lemmas.List.Elements.{All-contains, All-from_recursion}
 use Rattle.edge_io.specs.Written.{appended}
 use Rattle.edge_io.specs.declared.sink.SinkFail.{SinkFail}
 use Rattle.edge_io.specs.declared.sink.SinkFail.TheVariants as fail
+use Rattle.plan_rewrites.specs.declared.choosing.Choices.{Choices as Rewrites}
 use Rattle.promql_meaning.specs.declared.answer.Outcome.{Outcome}
 use Rattle.promql_meaning.specs.declared.answer.Outcome.TheVariants as outcome
 use Rattle.ticks.specs.declared.grid.Grid.{Grid}
-use Rattle.tool_words.specs.Asked.{Wish, asked, format, query, test, workload}
+use Rattle.tool_words.specs.Asked.{Wish, asked, explain, format, query, test, workload}
 use Rattle.tool_words.specs.declared.asked.Choices.{Choices}
 use Rattle.ticks.specs.Moments.{moments_in}
 use Rattle.promql_tool.specs.Ends.{IfFirst, IfMade, IsGone, IsOneOf, IsRefused, IsUnrun, Reports, makes, refuses}
 use Rattle.promql_tool.specs.Files.{All, Gone, IsJudged, JudgedFile, Last, Refused, Sees, all, all_failed, gone, judged, last_status, refused, report_of}
 use Rattle.promql_tool.specs.Found.{Have, IsFound, Just}
-use Rattle.promql_tool.specs.Printed.{Formatted, refused as format_refused, taken}
+use Rattle.promql_tool.specs.Printed.{Explained, Formatted, planned, refused as format_refused, taken, unplanned}
 use Rattle.promql_tool.specs.Query.{Queried, answered, gone as query_gone, outcome_report, refused as query_refused}
 use Rattle.promql_tool.specs.Reading.{IsNoScript, IsRefusedFor}
-use Rattle.promql_tool.specs.Report.{HasReport, IsReport, closed_asked, closed_of, files_asked, files_of, formatted, misused, queried, tested, worked}
-use Rattle.promql_tool.specs.Runs.{Formats, Misused, Queries, ReportsFiles, ReportsWords, ReportsWorkload, Tested, Works}
+use Rattle.promql_tool.specs.Report.{HasReport, IsReport, closed_asked, closed_of, files_asked, files_of, explained, formatted, misused, queried, tested, worked}
+use Rattle.promql_tool.specs.Runs.{Explains, Formats, Misused, Queries, ReportsFiles, ReportsWords, ReportsWorkload, Tested, Works}
 use Rattle.promql_tool.specs.Texts.{Report, refusal_text, usage}
 use Rattle.promql_tool.specs.Workload.{loaded_text, workload_path, workload_text}
 use Rattle.promql_tool.specs.declared.fault.Refusal.{Refusal as Refusing}
@@ -42,6 +43,7 @@ made_each (Some (test choices paths)) P each = tt
 made_each (Some (query choices moments path expr)) P each = tt
 made_each (Some (workload choices series)) P each = each (workload_text series)
 made_each (Some (format expr)) P each = tt
+made_each (Some (explain optimisers expr)) P each = tt
 
 -- what holds of each holds of the first
 pub first_of : (paths : List (List ℕ)) (P : List ℕ → Type 0) → ((path : List ℕ) → P path) → IfFirst paths P
@@ -74,6 +76,10 @@ formatted_is : {expr : List ℕ} {report : Report} → Formatted expr report →
 formatted_is (taken kept tree stands) P p0 p1 = p0
 formatted_is (format_refused refusal is) P p0 p1 = p1
 
+explained_is : {rewrites : Rewrites} {expr : List ℕ} {report : Report} → Explained rewrites expr report → (P : ℕ → Type 0) → P 0 → P 1 → P report.status
+explained_is (planned kept plan has) P p0 p1 = p0
+explained_is (unplanned refusal is) P p0 p1 = p1
+
 -- the status of a report
 pub report_is : (words : List (List ℕ)) (found : List ℕ → Option (List ℕ) → Type 0) (report : Report) → IsReport words found report → (P : ℕ → Type 0) → P 0 → P 1 → P 2 → P 3 → P 6 → P report.status
 report_is words found report (misused none) P p0 p1 p2 p3 p6 = p2
@@ -81,6 +87,7 @@ report_is words found report (tested choices paths files last is seen) P p0 p1 p
 report_is words found report (queried choices grid instant path expr said is q) P p0 p1 p2 p3 p6 = query_is q P p0 p1 p3 p6
 report_is words found report (worked choices series files last is seen) P p0 p1 p2 p3 p6 = last_is files last P p0 p1 p3 p6
 report_is words found report (formatted expr said is f) P p0 p1 p2 p3 p6 = formatted_is f P p0 p1
+report_is words found report (explained optimisers expr said is f) P p0 p1 p2 p3 p6 = explained_is f P p0 p1
 
 -- ---- reports over the files that are told
 
@@ -98,6 +105,7 @@ module _ (f g : List ℕ → Option (List ℕ) → Type 0) (some : (path bytes :
   report_so words report none (queried choices grid instant path expr said is q) = queried choices grid instant path expr said is (query_so none q)
   report_so words report none (worked choices series files last is seen) = worked choices series files last is seen
   report_so words report none (formatted expr said is f) = formatted expr said is f
+  report_so words report none (explained optimisers expr said is f) = explained optimisers expr said is f
 
 -- ---- what was seen
 
@@ -146,6 +154,7 @@ is_report words found idle report (Tested choices paths said is f) = subst (IsRe
 is_report words found idle report (Queries choices grid instant path expr said is q) = queried choices grid instant path expr said is q.is
 is_report words found idle report (Works choices series said is w) = subst (IsReport words found) (sym w.is) (worked choices series w.files w.last is w.seen)
 is_report words found idle report (Formats expr said is f) = formatted expr said is f
+is_report words found idle report (Explains optimisers expr said is f) = explained optimisers expr said is f
 
 -- the files of words that ask for such
 named : (words : List (List ℕ)) (wish : Option Wish) → asked words ≡ wish → files_asked wish ≡ files_of words
@@ -176,6 +185,7 @@ module _ (words : List (List ℕ)) (idle : Type 0) (before now : Option (List �
   misuse_is found report (Works choices series said is w) r two =
       absurd (last_is w.files w.last (λ n. n ≡ 2 → ⊥) (λ e. omega (arith, e)) (λ e. omega (arith, e)) (λ e. omega (arith, e)) (λ e. omega (arith, e)) (sym (ap (λ (x : Report). x.status) w.is) ∙ sym r.status_is ∙ two))
   misuse_is found report (Formats expr said is f) r two = absurd (formatted_is f (λ n. n ≡ 2 → ⊥) (λ e. omega (arith, e)) (λ e. omega (arith, e)) (sym r.status_is ∙ two))
+  misuse_is found report (Explains optimisers expr said is f) r two = absurd (explained_is f (λ n. n ≡ 2 → ⊥) (λ e. omega (arith, e)) (λ e. omega (arith, e)) (sym r.status_is ∙ two))
 
   module _ (found : List ℕ → Option (List ℕ) → Type 0) where
     -- 6
@@ -222,6 +232,7 @@ module _ (words : List (List ℕ)) (idle : Type 0) (before now : Option (List �
         query_refused_is choices.closed path expr grid instant said (named words (Some (query choices (moments_in grid instant) path expr)) is) q.is r six
     refusal_is report (Works choices series said is w) r six = workload_refused choices series said is w r six
     refusal_is report (Formats expr said is f) r six = absurd (formatted_is f (λ n. n ≡ 6 → ⊥) (λ e. omega (arith, e)) (λ e. omega (arith, e)) (sym r.status_is ∙ six))
+    refusal_is report (Explains optimisers expr said is f) r six = absurd (explained_is f (λ n. n ≡ 6 → ⊥) (λ e. omega (arith, e)) (λ e. omega (arith, e)) (sym r.status_is ∙ six))
 
     -- 3
     files_gone : (closed : Bool) (paths : List (List ℕ)) (files : List JudgedFile) (last : Last) → closed ≡ closed_of words → paths ≡ files_of words → Sees closed found paths files last → Reports before now status (report_of files last) → status ≡ 3
@@ -257,6 +268,7 @@ module _ (words : List (List ℕ)) (idle : Type 0) (before now : Option (List �
         query_gone_is choices.closed path expr grid instant said (named words (Some (query choices (moments_in grid instant) path expr)) is) q.is r three
     gone_is report (Works choices series said is w) r three = absurd (script_there choices.closed series (workload_path ∷ []) w.files w.last refl w.seen (sym (ap (λ (x : Report). x.status) w.is) ∙ sym r.status_is ∙ three))
     gone_is report (Formats expr said is f) r three = absurd (formatted_is f (λ n. n ≡ 3 → ⊥) (λ e. omega (arith, e)) (λ e. omega (arith, e)) (sym r.status_is ∙ three))
+    gone_is report (Explains optimisers expr said is f) r three = absurd (explained_is f (λ n. n ≡ 3 → ⊥) (λ e. omega (arith, e)) (λ e. omega (arith, e)) (sym r.status_is ∙ three))
 
     -- nothing was evaluated
     not_all : (files : List JudgedFile) (last : Last) → IsOneOf (2 ∷ 3 ∷ 6 ∷ []) (last_status files last) → last ≡ All → ⊥
@@ -278,6 +290,8 @@ module _ (words : List (List ℕ)) (idle : Type 0) (before now : Option (List �
         w.rests (alone choices.closed (Just (workload_text series)) (workload_path ∷ []) w.files w.last (omega arith) (not_all w.files w.last told) w.seen)
     idle_is report (Formats expr said is f) r one few =
         absurd (formatted_is f (λ n. IsOneOf (2 ∷ 3 ∷ 6 ∷ []) n → ⊥) (λ e. cc) (λ e. cc) (subst (IsOneOf (2 ∷ 3 ∷ 6 ∷ [])) r.status_is one))
+    idle_is report (Explains optimisers expr said is f) r one few =
+        absurd (explained_is f (λ n. IsOneOf (2 ∷ 3 ∷ 6 ∷ []) n → ⊥) (λ e. cc) (λ e. cc) (subst (IsOneOf (2 ∷ 3 ∷ 6 ∷ [])) r.status_is one))
 
   module _ (sound : Type 0) where
     not_three : IsOneOf (0 ∷ 1 ∷ 2 ∷ 6 ∷ []) status → status ≡ 3 → ⊥
@@ -338,6 +352,8 @@ module _ (words : List (List ℕ)) (idle : Type 0) (before now : Option (List �
           let nowhere = subst (λ (ps : List (List ℕ)). Contains ps path) (sym (named words (Some (workload choices series)) is)) among in absurd (omega (arith, nowhere.1))
       stops report (Formats expr said is f) r path among unrun =
           let nowhere = subst (λ (ps : List (List ℕ)). Contains ps path) (sym (named words (Some (format expr)) is)) among in absurd (omega (arith, nowhere.1))
+      stops report (Explains optimisers expr said is f) r path among unrun =
+          let nowhere = subst (λ (ps : List (List ℕ)). Contains ps path) (sym (named words (Some (explain optimisers expr)) is)) among in absurd (omega (arith, nowhere.1))
       stops report (Tested choices paths said is f) r path among unrun =
           files_stop choices.closed paths f.files f.last f.seen (r.status_is ∙ ap (λ (x : Report). x.status) f.is) path (subst (λ (ps : List (List ℕ)). Contains ps path) (sym (named words (Some (test choices paths)) is)) among) unrun
       stops report (Queries choices grid instant file expr said is q) r path among unrun =
@@ -354,6 +370,8 @@ module _ (words : List (List ℕ)) (idle : Type 0) (before now : Option (List �
           subst (λ (ps : List (List ℕ)). IfFirst ps (λ path. IsUnrun (files path) → IsOneOf (3 ∷ 6 ∷ []) status → idle)) (named words (Some (workload choices series)) is) tt
       idle_first report (Formats expr said is f) r =
           subst (λ (ps : List (List ℕ)). IfFirst ps (λ path. IsUnrun (files path) → IsOneOf (3 ∷ 6 ∷ []) status → idle)) (named words (Some (format expr)) is) tt
+      idle_first report (Explains optimisers expr said is f) r =
+          subst (λ (ps : List (List ℕ)). IfFirst ps (λ path. IsUnrun (files path) → IsOneOf (3 ∷ 6 ∷ []) status → idle)) (named words (Some (explain optimisers expr)) is) tt
       idle_first report (Tested choices paths said is f) r =
           subst (λ (ps : List (List ℕ)). IfFirst ps (λ path. IsUnrun (files path) → IsOneOf (3 ∷ 6 ∷ []) status → idle)) (named words (Some (test choices paths)) is) (files_idle choices.closed paths said f)
       idle_first report (Queries choices grid instant file expr said is q) r =
@@ -387,6 +405,8 @@ module _ (words : List (List ℕ)) (idle : Type 0) (before now : Option (List �
           subst (λ (ps : List (List ℕ)). IfFirst ps (λ path. files path ≡ None → IsOneOf (3 ∷ 4 ∷ 7 ∷ []) status)) (named words (Some (workload choices series)) is) tt
       missing report (Formats expr said is f) r =
           subst (λ (ps : List (List ℕ)). IfFirst ps (λ path. files path ≡ None → IsOneOf (3 ∷ 4 ∷ 7 ∷ []) status)) (named words (Some (format expr)) is) tt
+      missing report (Explains optimisers expr said is f) r =
+          subst (λ (ps : List (List ℕ)). IfFirst ps (λ path. files path ≡ None → IsOneOf (3 ∷ 4 ∷ 7 ∷ []) status)) (named words (Some (explain optimisers expr)) is) tt
       missing report (Tested choices paths said is f) r =
           subst (λ (ps : List (List ℕ)). IfFirst ps (λ path. files path ≡ None → IsOneOf (3 ∷ 4 ∷ 7 ∷ []) status)) (named words (Some (test choices paths)) is) (files_missing choices.closed paths said f r.status_is)
       missing report (Queries choices grid instant file expr said is q) r =
@@ -424,6 +444,7 @@ module _ (words : List (List ℕ)) (idle : Type 0) (before now : Option (List �
   made_so (Some (query choices moments path expr)) series P is each = tt
   made_so (Some (workload choices count)) series P is each = each choices count refl
   made_so (Some (format expr)) series P is each = tt
+  made_so (Some (explain optimisers expr)) series P is each = tt
 
   stops_made : (found : List ℕ → Option (List ℕ) → Type 0) (report : Report) (chosen : Choices) (series : ℕ) → ReportsWords words found idle report → Reports before now status report → asked words ≡ Some (workload chosen series)
       → IsNoScript (workload_text series) → IsOneOf (4 ∷ 6 ∷ 7 ∷ []) status
@@ -431,6 +452,7 @@ module _ (words : List (List ℕ)) (idle : Type 0) (before now : Option (List �
   stops_made found report chosen series (Tested choices paths said tests f) r is never = absurd (cc)
   stops_made found report chosen series (Queries choices grid instant path expr said queries q) r is never = absurd (cc)
   stops_made found report chosen series (Formats expr said formats f) r is never = absurd (cc)
+  stops_made found report chosen series (Explains optimisers expr said asks f) r is never = absurd (cc)
   stops_made found report chosen series (Works choices count said works w) r is never =
       let same : series ≡ count = cc in
       let six = script_stops choices.closed count (workload_path ∷ []) w.files w.last refl w.seen (subst (λ (n : ℕ). IsNoScript (workload_text n)) same never) in

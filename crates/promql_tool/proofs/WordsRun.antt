@@ -4,16 +4,17 @@ use Rattle.edge_io.specs.Fetches.{FetchesFront}
 use Rattle.edge_io.specs.Written.{appended, WroteFront}
 use Rattle.edge_io.specs.declared.sink.SinkFail.{SinkFail}
 use Rattle.ticks.specs.declared.grid.Grid.{Grid}
-use Rattle.tool_words.specs.Asked.{asked, format, query, test, workload}
+use Rattle.tool_words.specs.Asked.{asked, explain, format, query, test, workload}
 use Rattle.tool_words.specs.declared.asked.Choices.{Choices}
+use Rattle.tool_words.specs.declared.asked.Optimisers.{Optimisers}
 use Rattle.ticks.specs.Moments.{moments_in}
 use Rattle.promql_tool.specs.Ends.{IsCut, judging, reporting, unwritten, working}
 use Rattle.promql_tool.specs.Files.{report_of}
-use Rattle.promql_tool.specs.Printed.{Formatted}
+use Rattle.promql_tool.specs.Printed.{Explained, Formatted, rewrites_in}
 use Rattle.promql_tool.specs.Query.{Queried}
-use Rattle.promql_tool.specs.Report.{formatted, misused, queried, tested, worked, workload_report}
-use Rattle.promql_tool.specs.Runs.{Almost, Begun, Early, Ends, Formats, IsCutFiles, IsCutReport, IsCutWorkload, Late, Misused, Nothing, Partly, Queries, ReportsFiles, ReportsQuery, ReportsWorkload, ReportsWords, Tested, Unmade, Works}
-use Rattle.promql_tool.specs.Texts.{usage, usage_report}
+use Rattle.promql_tool.specs.Report.{IsReport, explained, formatted, misused, queried, tested, worked, workload_report}
+use Rattle.promql_tool.specs.Runs.{Almost, Begun, Early, Ends, Explains, Formats, IsCutFiles, IsCutReport, IsCutWorkload, Late, Misused, Nothing, Partly, Queries, ReportsFiles, ReportsQuery, ReportsWorkload, ReportsWords, Tested, Unmade, Works}
+use Rattle.promql_tool.specs.Texts.{Report, usage, usage_report}
 use Rattle.promql_tool.specs.declared.print.Status.{Status}
 
 -- one file was fetched
@@ -27,15 +28,21 @@ pub misuse_ends : (words : List (List ℕ)) (found : List ℕ → Option (List �
 misuse_ends words found before now idle (Ok status) none rests ok err = (usage_report, Misused none rests, record { status_is = ok.0; text_is = ok.1 })
 misuse_ends words found before now idle (Err cause) none rests ok err = reporting usage_report (misused none) err
 
--- an expression that is printed
-module _ (words : List (List ℕ)) (found : List ℕ → Option (List ℕ) → Type 0) (before now : Option (List ℕ)) (idle : Type 0) (expr : List ℕ) (is : asked words ≡ Some (format expr)) where
-  format_cut : IsCutReport (Formatted expr) before now → IsCut words found before now
-  format_cut (Nothing same) = unwritten same
-  format_cut (Partly report f front) = reporting report (formatted expr report is f) front
+-- an expression or a plan that is printed
+module _ (words : List (List ℕ)) (found : List ℕ → Option (List ℕ) → Type 0) (before now : Option (List ℕ)) (idle : Type 0) where
+  printed_cut : (IsSuch : Report → Type 0) → ((report : Report) → IsSuch report → IsReport words found report) → IsCutReport IsSuch before now → IsCut words found before now
+  printed_cut IsSuch is_report (Nothing same) = unwritten same
+  printed_cut IsSuch is_report (Partly report such front) = reporting report (is_report report such) front
 
-  pub format_end : (r : Result Status SinkFail) → Ends (Formatted expr) (IsCutReport (Formatted expr) before now) before now r → Ends (ReportsWords words found idle) (IsCut words found before now) before now r
-  format_end (Ok status) e = (e.0, Formats expr e.0 is e.1, e.2)
-  format_end (Err cause) e = format_cut e
+  pub format_end : (expr : List ℕ) (r : Result Status SinkFail) → asked words ≡ Some (format expr) → Ends (Formatted expr) (IsCutReport (Formatted expr) before now) before now r
+      → Ends (ReportsWords words found idle) (IsCut words found before now) before now r
+  format_end expr (Ok status) is e = (e.0, Formats expr e.0 is e.1, e.2)
+  format_end expr (Err cause) is e = printed_cut (Formatted expr) (λ report f. formatted expr report is f) e
+
+  pub explain_end : (optimisers : Optimisers) (expr : List ℕ) (r : Result Status SinkFail) → asked words ≡ Some (explain optimisers expr)
+      → Ends (Explained (rewrites_in optimisers) expr) (IsCutReport (Explained (rewrites_in optimisers) expr) before now) before now r → Ends (ReportsWords words found idle) (IsCut words found before now) before now r
+  explain_end optimisers expr (Ok status) is e = (e.0, Explains optimisers expr e.0 is e.1, e.2)
+  explain_end optimisers expr (Err cause) is e = printed_cut (Explained (rewrites_in optimisers) expr) (λ report x. explained optimisers expr report is x) e
 
 module _ (words : List (List ℕ)) (choices : Choices) (found : List ℕ → Option (List ℕ) → Type 0) (before now : Option (List ℕ)) (idle : Type 0) where
   -- files

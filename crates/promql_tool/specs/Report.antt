@@ -1,12 +1,13 @@
 -- What a run of words prints, and its status. (This project's own, after promqltest and promtool.)
 use Rattle.std.specs.Prelude.{◌≡◌, ℕ, Bool, false, List, [], ◌∷◌, ◌++◌, Option, None, Some, ⊤}
 use Rattle.ticks.specs.declared.grid.Grid.{Grid}
-use Rattle.tool_words.specs.Asked.{Wish, asked, format, query, test, workload}
+use Rattle.tool_words.specs.Asked.{Wish, asked, explain, format, query, test, workload}
 use Rattle.tool_words.specs.declared.asked.Choices.{Choices}
+use Rattle.tool_words.specs.declared.asked.Optimisers.{Optimisers}
 use Rattle.ticks.specs.Moments.{moments_in}
 use Rattle.promql_tool.specs.Files.{JudgedFile, Last, Sees, report_of}
 use Rattle.promql_tool.specs.Found.{Just}
-use Rattle.promql_tool.specs.Printed.{Formatted}
+use Rattle.promql_tool.specs.Printed.{Explained, Formatted, rewrites_in}
 use Rattle.promql_tool.specs.Query.{Queried}
 use Rattle.promql_tool.specs.Texts.{Report, usage_report}
 use Rattle.promql_tool.specs.Workload.{loaded_text, workload_path, workload_text}
@@ -16,7 +17,7 @@ abbrev pub workload_report : ℕ → List JudgedFile → Last → Report
 workload_report series files last = record { text = loaded_text series ++ (report_of files last).text; status = (report_of files last).status }
 
 -- A report of words: the usage line where they are no command, else what is seen of the files, the answer of a query, what is
--- seen of the script of a workload, or an expression that is printed. What a file and an expression are read as and the outcome of
+-- seen of the script of a workload, or an expression or its plan. What a file and an expression are read as and the outcome of
 -- a query are relations, since what the crate `regex` takes as a pattern is one; and so are reports. That a fetch of a path finds
 -- bytes, or none, is said by `found`.
 pub data IsReport (words : List (List ℕ)) (found : List ℕ → Option (List ℕ) → Type 0) : Report → Type 0 where
@@ -27,6 +28,7 @@ pub data IsReport (words : List (List ℕ)) (found : List ℕ → Option (List �
   worked : (choices : Choices) (series : ℕ) (files : List JudgedFile) (last : Last) → asked words ≡ Some (workload choices series) → Sees choices.closed (Just (workload_text series)) (workload_path ∷ []) files last
       → IsReport words found (workload_report series files last)
   formatted : (expr : List ℕ) (report : Report) → asked words ≡ Some (format expr) → Formatted expr report → IsReport words found report
+  explained : (optimisers : Optimisers) (expr : List ℕ) (report : Report) → asked words ≡ Some (explain optimisers expr) → Explained (rewrites_in optimisers) expr report → IsReport words found report
 
 -- some report of the words is such
 abbrev pub HasReport : List (List ℕ) → (List ℕ → Option (List ℕ) → Type 0) → (Report → Type 0) → Type 0
@@ -39,6 +41,7 @@ files_asked (Some (test choices paths)) = paths
 files_asked (Some (query choices moments file expr)) = file ∷ []
 files_asked (Some (workload choices series)) = []
 files_asked (Some (format expr)) = []
+files_asked (Some (explain optimisers expr)) = []
 
 -- whether a command asks for windows that are closed on the left
 abbrev pub closed_asked : Option Wish → Bool
@@ -47,15 +50,17 @@ closed_asked (Some (test choices paths)) = choices.closed
 closed_asked (Some (query choices moments file expr)) = choices.closed
 closed_asked (Some (workload choices series)) = choices.closed
 closed_asked (Some (format expr)) = false
+closed_asked (Some (explain optimisers expr)) = false
 
 abbrev pub closed_of : List (List ℕ) → Bool
 closed_of words = closed_asked (asked words)
 
--- the files of the words; words that are no command have none, and neither has a workload or an expression that is printed
+-- the files of the words; words that are no command have none, and neither has a workload, or an expression that is printed
 abbrev pub files_of : List (List ℕ) → List (List ℕ)
 files_of words = files_asked (asked words)
 
--- a command asks for an expression to be printed
-abbrev pub AsksToFormat : Option Wish → Type 0
-AsksToFormat (Some (format expr)) = ⊤
-AsksToFormat _ = ⊥
+-- a command asks for an expression or its plan to be printed
+abbrev pub AsksToPrint : Option Wish → Type 0
+AsksToPrint (Some (format expr)) = ⊤
+AsksToPrint (Some (explain optimisers expr)) = ⊤
+AsksToPrint _ = ⊥

@@ -17,13 +17,14 @@ use Rattle.test_runner.specs.Verdicts.{Judged}
 use Rattle.test_runner.specs.declared.fault.RunnerFault.TheVariants as runner
 use Rattle.test_runner.specs.declared.totals.Totals.{Totals}
 use Rattle.ticks.specs.declared.grid.Grid.{Grid}
-use Rattle.tool_words.specs.Asked.{asked, format, query, test, workload}
+use Rattle.tool_words.specs.Asked.{asked, explain, format, query, test, workload}
 use Rattle.tool_words.specs.declared.asked.Choices.{Choices}
+use Rattle.tool_words.specs.declared.asked.Optimisers.{Optimisers}
 use Rattle.ticks.specs.Moments.{moments_in}
 use Rattle.promql_tool.specs.Ends.{IsOneOf, Reports}
 use Rattle.promql_tool.specs.Files.{Begins, Gone as GoneAt, IsJudged, IsRunning, JudgedFile, Last, Refused as RefusedAt, Sees, report_of}
 use Rattle.promql_tool.specs.Found.{Just}
-use Rattle.promql_tool.specs.Printed.{Formatted}
+use Rattle.promql_tool.specs.Printed.{Explained, Formatted, rewrites_in}
 use Rattle.promql_tool.specs.Query.{AreNoteLines, Queried, notes_in, outcome_report}
 use Rattle.promql_tool.specs.Reading.{IsReadAs, IsRefusedFor}
 use Rattle.promql_tool.specs.Report.{workload_report}
@@ -38,7 +39,7 @@ use Rattle.promql_tool.specs.declared.fetch.File.TheVariants as file
 use Rattle.promql_tool.specs.declared.judge.FileEnd.{FileEnd}
 use Rattle.promql_tool.specs.declared.judge.FileEnd.TheVariants.{Judged as JudgedTo, Stopped}
 use Rattle.promql_tool.specs.declared.print.Status.{Status}
-use Rattle.promql_tool.specs.declared.printing.Line.{Line}
+use Rattle.promql_tool.specs.declared.printing.Page.{Page}
 use Rattle.promql_tool.specs.declared.query.Answered.{Answered}
 use Rattle.promql_tool.specs.declared.query.Answered.TheVariants as answered
 
@@ -195,10 +196,11 @@ pub data ReportsWords (words : List (List ℕ)) (found : List ℕ → Option (Li
       → ReportsWords words found idle report
   Works : (choices : Choices) (series : ℕ) (report : Report) → asked words ≡ Some (workload choices series) → ReportsWorkload choices.closed series idle report → ReportsWords words found idle report
   Formats : (expr : List ℕ) (report : Report) → asked words ≡ Some (format expr) → Formatted expr report → ReportsWords words found idle report
+  Explains : (optimisers : Optimisers) (expr : List ℕ) (report : Report) → asked words ≡ Some (explain optimisers expr) → Explained (rewrites_in optimisers) expr report → ReportsWords words found idle report
 
--- the report that is one line
-abbrev pub line_report : Line → Report
-line_report line = record { text = line.text.items; status = line.status.0 }
+-- the report that a page is
+abbrev pub page_report : Page → Report
+page_report page = record { text = page.text.items; status = page.status.0 }
 
 -- the bytes of lists
 abbrev pub bytes_of : List (Vec ℕ Global) → List (List ℕ)

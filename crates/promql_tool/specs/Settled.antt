@@ -1,20 +1,24 @@
 -- What files, queries and expressions come to, where that is one thing. (This project's own.)
-use Rattle.std.specs.Prelude.{◌≡◌, ℕ, Bool, List, Option, None, Some, Ok}
+use Rattle.std.specs.Prelude.{◌≡◌, ℕ, Bool, false, List, Option, None, Some, Ok}
 use Rattle.std.specs.List.{AllByRecursion}
+use Rattle.logical_plan.specs.declared.nodes.Plan.{Plan}
+use Rattle.plan_rewrites.specs.declared.choosing.Choices.{Choices as Rewrites}
 use Rattle.promql_ast.specs.declared.refusal.QueryRefusal.{QueryRefusal}
 use Rattle.promql_ast.specs.declared.tree.Expr.{Expr}
 use Rattle.promql_meaning.specs.declared.answer.Outcome.{Outcome}
 use Rattle.promql_type.specs.Replacements.{Kept}
 use Rattle.query_engine.specs.Evaluating.{IsRefusedWith, StandsFor}
+use Rattle.query_engine.specs.Planning.{HasPlan}
 use Rattle.script_read.specs.Outcomes.{PatternList}
 use Rattle.script_read.specs.declared.script.Script.{Script}
 use Rattle.test_runner.specs.Running.{IsAnswerOver}
 use Rattle.test_runner.specs.Verdicts.{Judged}
 use Rattle.ticks.specs.Moments.{Moments, moments_in}
 use Rattle.ticks.specs.declared.grid.Grid.{Grid}
-use Rattle.tool_words.specs.Asked.{Wish, format, query, test, workload}
+use Rattle.tool_words.specs.Asked.{Wish, explain, format, query, test, workload}
 use Rattle.promql_tool.specs.Files.{IsJudged}
 use Rattle.promql_tool.specs.Found.{Have, Just}
+use Rattle.promql_tool.specs.Printed.{rewrites_in}
 use Rattle.promql_tool.specs.Query.{AreNoteLines, notes_in}
 use Rattle.promql_tool.specs.Reading.{IsReadAs, IsRefusedFor}
 use Rattle.promql_tool.specs.Workload.{workload_path, workload_text}
@@ -78,11 +82,25 @@ IsReadSo expr (NoTree refusal) = IsRefusedWith expr refusal
 abbrev pub IsReadOnce : List ℕ → Type 0
 IsReadOnce expr = (a b : Read) → IsReadSo expr a → IsReadSo expr b → a ≡ b
 
--- What words ask for comes to one thing: each of the files, the query, the script of the workload, or the expression that is
--- printed.
+-- what an expression is planned as: its plan behind some rewrites, whose patterns are kept, or its refusal
+pub data Outline : Type 0 where
+  Planned : Kept → Plan → Outline
+  NoPlan : QueryRefusal → Outline
+
+abbrev pub IsPlannedSo : Rewrites → List ℕ → Outline → Type 0
+IsPlannedSo rewrites expr (Planned kept plan) = HasPlan expr rewrites false kept plan
+IsPlannedSo rewrites expr (NoPlan refusal) = IsRefusedWith expr refusal
+
+-- an expression is planned as one thing
+abbrev pub IsPlannedOnce : Rewrites → List ℕ → Type 0
+IsPlannedOnce rewrites expr = (a b : Outline) → IsPlannedSo rewrites expr a → IsPlannedSo rewrites expr b → a ≡ b
+
+-- What words ask for comes to one thing: each of the files, the query, the script of the workload, or the expression or the plan
+-- that is printed.
 abbrev pub IsSettled : Option Wish → (List ℕ → Option (List ℕ)) → Type 0
 IsSettled None files = Unit {0}
 IsSettled (Some (test choices paths)) files = AllByRecursion (ComesToOne choices.closed (Have files)) paths
 IsSettled (Some (query choices moments path expr)) files = IsAnsweredOnce choices.closed moments (Have files) path expr
 IsSettled (Some (workload choices series)) files = ComesToOne choices.closed (Just (workload_text series)) workload_path
 IsSettled (Some (format expr)) files = IsReadOnce expr
+IsSettled (Some (explain optimisers expr)) files = IsPlannedOnce (rewrites_in optimisers) expr

@@ -1,63 +1,125 @@
-//! Printing an expression in its canonical form.
+//! Printing an expression in its canonical form, or its plan.
 ghost use Rattle.edge_io.specs.Causes.{HasCause};
-ghost use Rattle.promql_tool.specs.Printed.{Formatted, refused_report, tree_report};
-ghost use Rattle.promql_tool.specs.Runs.{Ends, IsCutReport, line_report};
+ghost use Rattle.edge_io.specs.Written.{WroteFront};
+ghost use Rattle.promql_tool.specs.Ends.{Reports};
+ghost use Rattle.promql_tool.specs.Printed.{Explained, Formatted, plan_report, refused_report, rewrites_in, tree_report};
+ghost use Rattle.promql_tool.specs.Runs.{Ends, IsCutReport, page_report};
 ghost use Rattle.promql_type.specs.TypedTrees.{tree_of};
-ghost use Rattle.std.specs.Prelude.{◌≡◌, IfOk, IsErrOf};
+ghost use Rattle.query_engine.specs.Planning.{choices_of};
+ghost use Rattle.std.specs.Prelude.{◌≡◌, false, IfOk, IsErrOf, OnErr};
 
 use crate::print::Status;
 use crate::text::failure_line;
 use edge_io::{Sink, SinkFail, write_all};
+use logical_plan::Plan;
 use match_rule::{PatternRoom, Patterns};
+use plan_text::write;
 use promql_ast::QueryRefusal;
+use promql_lex::LexFault;
 use promql_meaning::Outcome;
 use promql_print::print;
 use promql_type::{TypeFault, Typed};
-use query_engine::typed_tree;
+use query_engine::{Options, rewritten, typed_tree};
 use std::alloc::{AllocError, Global};
+use tool_words::Optimisers;
 
-/// A report of one line: its text, and the status of the program.
+/// A report: its text, and the status of the program.
 #[derive(Drop)]
-pub struct Line {
+pub struct Page {
     pub text: Vec<u8>,
     pub status: Status,
 }
 
-/// The line of a tree whose patterns are kept: its canonical text.
-fn tree_line(alloc: Global, typed: &Typed, patterns: &Patterns<'_>) -> Result<Line, AllocError>
-    ensures { IfOk result (λ line. line_report line ≡ tree_report patterns.now (tree_of typed.now)) }
-{
-    let mut text = Vec::new(alloc);
-    print(typed.expr(), patterns, &mut text)?;
-    text.extend_from_slice(b"\n")?;
-    Ok(Line {
-        text,
-        status: Status(0),
-    })
-}
-
-/// The line of a refusal.
-fn refused_line(alloc: Global, refusal: QueryRefusal) -> Result<Line, AllocError>
-    ensures { IfOk result (λ line. line_report line ≡ refused_report refusal) }
+/// The page of a refusal.
+fn refused_page(alloc: Global, refusal: QueryRefusal) -> Result<Page, AllocError>
+    ensures { IfOk result (λ page. page_report page ≡ refused_report refusal) }
 {
     let text = failure_line(alloc, &Outcome::Refused(refusal))?;
-    Ok(Line {
+    Ok(Page {
         text,
         status: Status(1),
     })
 }
 
-/// The line of an expression: its canonical text, or its refusal. The only error is want of memory.
-fn formatted_line(alloc: Global, expr: &str) -> Result<Line, AllocError>
-    ensures { IfOk result (λ line. Formatted expr.now (line_report line)) }
+/// The page of a tree whose patterns are kept: its canonical text.
+fn tree_page(alloc: Global, typed: &Typed, patterns: &Patterns<'_>) -> Result<Page, AllocError>
+    ensures { IfOk result (λ page. page_report page ≡ tree_report patterns.now (tree_of typed.now)) }
+{
+    let mut text = Vec::new(alloc);
+    print(typed.expr(), patterns, &mut text)?;
+    text.extend_from_slice(b"\n")?;
+    Ok(Page {
+        text,
+        status: Status(0),
+    })
+}
+
+/// The page of an expression: its canonical text, or its refusal. The only error is want of memory.
+fn formatted_page(alloc: Global, expr: &str) -> Result<Page, AllocError>
+    ensures { IfOk result (λ page. Formatted expr.now (page_report page)) }
 {
     let mut room = PatternRoom::new(alloc)?;
     let mut patterns = Patterns::new(alloc, &mut room);
     match typed_tree(alloc, expr, false, &mut patterns) {
-        Ok(typed) => tree_line(alloc, &typed, &patterns),
-        Err(TypeFault::Refused(refusal)) => refused_line(alloc, refusal),
+        Ok(typed) => tree_page(alloc, &typed, &patterns),
+        Err(TypeFault::Refused(refusal)) => refused_page(alloc, refusal),
         Err(TypeFault::Memory) => Err(AllocError),
     }
+}
+
+/// The page of a plan whose patterns are kept: its lines.
+fn plan_page(alloc: Global, plan: &Plan, patterns: &Patterns<'_>) -> Result<Page, AllocError>
+    ensures { IfOk result (λ page. page_report page ≡ plan_report patterns.now plan.now) }
+{
+    let mut text = Vec::new(alloc);
+    write(plan, patterns, &mut text)?;
+    Ok(Page {
+        text,
+        status: Status(0),
+    })
+}
+
+/// What a plan is made by, as the engine takes it. No evaluation follows, so the batch and the edge have no meaning.
+fn plan_options(optimisers: Optimisers) -> Options
+    ensures rewrites { choices_of result ≡ rewrites_in optimisers }
+    ensures open { result.closed ≡ false }
+{
+    Options {
+        sort: optimisers.sort,
+        propagate: optimisers.propagate,
+        merge: optimisers.merge,
+        trim: optimisers.trim,
+        avg: optimisers.avg,
+        remote: optimisers.remote,
+        batch: 1,
+        closed: false,
+    }
+}
+
+/// The page of an expression's plan: its lines, or the expression's refusal. The only error is want of memory.
+fn explained_page(alloc: Global, optimisers: Optimisers, expr: &str) -> Result<Page, AllocError>
+    ensures { IfOk result (λ page. Explained (rewrites_in optimisers) expr.now (page_report page)) }
+{
+    let options = plan_options(optimisers);
+    let mut room = PatternRoom::new(alloc)?;
+    let mut patterns = Patterns::new(alloc, &mut room);
+    match rewritten(alloc, expr, &options, &mut patterns) {
+        Ok(plan) => plan_page(alloc, &plan, &patterns),
+        Err(LexFault::Refused(refusal)) => refused_page(alloc, refusal),
+        Err(LexFault::Memory) => Err(AllocError),
+    }
+}
+
+/// Prints a page as one piece.
+fn print_page<S: Sink>(page: &Page, out: &mut S) -> Result<Status, SinkFail>
+    ensures ok { IfOk result (λ status. Reports (S.written out.old) (S.written out.new) status.0 (page_report page.now)) }
+    ensures err { OnErr result (WroteFront (S.written out.old) (S.written out.new) (page_report page.now).text) }
+    ensures cause { HasCause (S.faults out.old) (S.faults out.new) (IsErrOf result SinkFail.Failed) }
+    ensures sound { S.sound out.old → S.sound out.new }
+    ensures never { S.sound out.old → IsErrOf result SinkFail.Failed → ⊥ }
+{
+    write_all(out, &page.text)?;
+    Ok(page.status)
 }
 
 /// Prints an expression in its canonical form, or why it is refused, as one piece. The errors are `Failed` of the sink and want
@@ -68,7 +130,23 @@ pub fn run_format<S: Sink>(alloc: Global, expr: &str, out: &mut S) -> Result<Sta
     ensures sound { S.sound out.old → S.sound out.new }
     ensures never { S.sound out.old → IsErrOf result SinkFail.Failed → ⊥ }
 {
-    let line = formatted_line(alloc, expr)?;
-    write_all(out, &line.text)?;
-    Ok(line.status)
+    let page = formatted_page(alloc, expr)?;
+    print_page(&page, out)
+}
+
+/// Prints the plan of an expression behind the rewrites that are chosen, a line for each node, or why it is refused, as one piece.
+/// The errors are `Failed` of the sink and want of memory; after them a front of the lines was written, or nothing.
+pub fn run_explain<S: Sink>(
+    alloc: Global,
+    optimisers: Optimisers,
+    expr: &str,
+    out: &mut S,
+) -> Result<Status, SinkFail>
+    ensures ends { Ends (Explained (rewrites_in optimisers) expr.now) (IsCutReport (Explained (rewrites_in optimisers) expr.now) (S.written out.old) (S.written out.new)) (S.written out.old) (S.written out.new) result }
+    ensures cause { HasCause (S.faults out.old) (S.faults out.new) (IsErrOf result SinkFail.Failed) }
+    ensures sound { S.sound out.old → S.sound out.new }
+    ensures never { S.sound out.old → IsErrOf result SinkFail.Failed → ⊥ }
+{
+    let page = explained_page(alloc, optimisers, expr)?;
+    print_page(&page, out)
 }

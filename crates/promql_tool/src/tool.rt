@@ -6,7 +6,7 @@ ghost use Rattle.promql_tool.specs.Ends.{IfFirst, IfMade, IsCut, IsGone, IsOneOf
 ghost use Rattle.promql_tool.specs.Found.{Have, IsFound};
 ghost use Rattle.promql_tool.specs.Reached.{Reaches, status_of};
 ghost use Rattle.promql_tool.specs.Reading.{IsNoScript};
-ghost use Rattle.promql_tool.specs.Report.{AsksToFormat, HasReport, closed_of, files_of};
+ghost use Rattle.promql_tool.specs.Report.{AsksToPrint, HasReport, closed_of, files_of};
 ghost use Rattle.promql_tool.specs.Runs.{Ends, ReportsWords};
 ghost use Rattle.promql_tool.specs.Texts.{usage};
 ghost use Rattle.std.specs.Prelude.{◌≡◌, ◌≤◌, ◌⊎◌, ℕ, [], ◌∷◌, List, Contains, Err, None, length, map, string_bytes, IfOk, IfSome, IsErrOf};
@@ -14,7 +14,7 @@ ghost use Rattle.tool_words.specs.Asked.{asked};
 
 use crate::files::run_files;
 use crate::print::{Status, print_usage};
-use crate::printing::run_format;
+use crate::printing::{run_explain, run_format};
 use crate::query::{Question, run_query};
 use crate::working::run_workload;
 use edge_io::{Library, Sink, SinkFail};
@@ -38,11 +38,31 @@ fn cut_status(cause: SinkFail) -> Status
 
 /// What is chosen for evaluations, as the engine takes it.
 fn options_of(choices: Choices) -> Options
-    ensures { result ≡ record { closed = choices.closed; batch = choices.batch } }
+    ensures { result ≡ record {
+      sort = choices.optimisers.sort;
+      propagate = choices.optimisers.propagate;
+      merge = choices.optimisers.merge;
+      trim = choices.optimisers.trim;
+      avg = choices.optimisers.avg;
+      remote = choices.optimisers.remote;
+      batch = choices.batch;
+      closed = choices.closed;
+    } }
 {
+    let Choices {
+        closed,
+        batch,
+        optimisers,
+    } = choices;
     Options {
-        closed: choices.closed,
-        batch: choices.batch,
+        sort: optimisers.sort,
+        propagate: optimisers.propagate,
+        merge: optimisers.merge,
+        trim: optimisers.trim,
+        avg: optimisers.avg,
+        remote: optimisers.remote,
+        batch,
+        closed,
     }
 }
 
@@ -56,7 +76,7 @@ fn run_words<L: Library, S: Sink, W: Ledger>(
 ) -> Result<Status, SinkFail>
     ensures fetched { FetchesFront L.fetches (files_of (map string_bytes words.now)) library.old library.new }
     ensures reached { Reaches L.fetches (map string_bytes words.now) (IsFound (L.told library.old) (L.sound library.old)) library.old library.new (S.written out.old) (S.written out.new) (work.new ≡ work.old) (status_of result) }
-    ensures unevaluated { AsksToFormat (asked (map string_bytes words.now)) → work.new ≡ work.old }
+    ensures unevaluated { AsksToPrint (asked (map string_bytes words.now)) → work.new ≡ work.old }
     ensures told { L.told library.new ≡ L.told library.old }
     ensures library_sound { L.sound library.old → L.sound library.new }
     ensures gone { IfOk result (λ status. status.0 ≡ 3 → Rose (L.faults library.old) (L.faults library.new)) }
@@ -96,15 +116,19 @@ fn run_words<L: Library, S: Sink, W: Ledger>(
             run_workload(alloc, count, &options, out, work)
         }
         Some(Asked::Format { expr }) => run_format(alloc, expr.as_str(), out),
+        Some(Asked::Explain { optimisers, expr }) => {
+            run_explain(alloc, optimisers, expr.as_str(), out)
+        }
     }
 }
 
 /// Runs `promqltest FILE..`: fetches the files in order, judges each evaluation of a script over the samples that its file
 /// loads, and prints a line for each and the totals of all; or `query FILE EXPR`: answers an expression over the samples
 /// that a file loads; or `workload N`: makes a script of N series and runs it as a file; or `format EXPR`: prints an expression in
-/// its canonical form, and neither fetches nor evaluates anything. With `--edges v2` windows have their left
-/// edge too, as in Prometheus 2. With `--batch B` at most B instants are computed at once, which changes nothing that is printed.
-/// Samples are read by counted calls, in `work`. Status 0: all pass, the query has an answer, or the expression was printed. 1: some
+/// its canonical form; or `explain EXPR`: prints its plan. These neither fetch nor evaluate anything. With `--edges v2` windows have their left
+/// edge too, as in Prometheus 2. With `--batch B` at most B instants are computed at once, which changes nothing that is printed. `--opts`
+/// chooses the rewrites of plans, which change nothing but the plan that `explain` prints.
+/// Samples are read by counted calls, in `work`. Status 0: all pass, the query has an answer, or the expression or its plan was printed. 1: some
 /// don't pass, the query was refused or failed, or the expression was refused. 2: the words are no command. 3: a file can't be fetched. 4: a write failed. 6: a file is no script, or a load of it is refused.
 /// 7: memory ran out.
 pub fn run_tool<L: Library, S: Sink, W: Ledger>(
@@ -156,8 +180,8 @@ pub fn run_tool<L: Library, S: Sink, W: Ledger>(
     ensures idle_first { IfSome (L.told library.old) (λ files. IfFirst (files_of (map string_bytes words.now)) (λ path.
         IsUnrun (files path) → IsOneOf (3 ∷ 6 ∷ []) result.0 → work.new ≡ work.old)) }
 
-    // Of an expression that is printed nothing is evaluated.
-    ensures unevaluated { AsksToFormat (asked (map string_bytes words.now)) → work.new ≡ work.old }
+    // Of an expression that is printed, or its plan, nothing is evaluated.
+    ensures unevaluated { AsksToPrint (asked (map string_bytes words.now)) → work.new ≡ work.old }
 
     // 3: a fetch failed, of a file of the words; then its fault is printed behind the verdicts of the files before it, and no more.
     // Over a sound library that tells, exactly where it isn't there.

@@ -1,11 +1,11 @@
 use Rattle.std.proofs.Common.{◌≡◌, ◌∙◌, List, ℕ, Some, map, string_bytes, refl, sym, ap, subst}
 use Rattle.std.proofs.lemmas.Result.{err_from_is_err_and}
-use Rattle.tool_words.specs.Asked.{asked, format, query, test, workload}
+use Rattle.tool_words.specs.Asked.{asked, explain, format, query, test, workload}
 use Rattle.ticks.specs.Moments.{moments_in}
 use Rattle.promql_tool.specs.Found.{IsFound}
 use Rattle.promql_tool.specs.Reached.{files, no_file, no_memory, one_file}
-use Rattle.promql_tool.specs.Report.{AsksToFormat, files_asked}
-use Rattle.promql_tool.proofs.WordsRun.{files_end, format_end, misuse_ends, one_fetched, query_end, workload_end}
+use Rattle.promql_tool.specs.Report.{AsksToPrint, files_asked}
+use Rattle.promql_tool.proofs.WordsRun.{explain_end, files_end, format_end, misuse_ends, one_fetched, query_end, workload_end}
 use Rattle.promql_tool.proofs.tool.run_words.Goals as goal
 
 pub returns-in-None-clause-ends : goal.returns-in-None-clause-ends
@@ -58,7 +58,16 @@ returns-in-Some-Format-clause-ends g c =
     let found = IsFound (g.L.Library.told c.args.library.now) (g.L.Library.sound c.args.library.now) in
     let wish = rw (c.in-Some-Format.is, c.in-Some-Format.field-0-is) at c.in_ok-read_words.ensures.wish in
     let is : asked words ≡ Some (format c.as_str-in-Some-Format.result.now) = sym wish ∙ ap (λ (e : List ℕ). Some (format e)) (sym c.as_str-in-Some-Format.ensures) in
-    format_end words found (g.S.Sink.written c.args.out.now) (g.S.Sink.written c.run_format.new.out) _ c.as_str-in-Some-Format.result.now is c.run_format.result c.run_format.ensures.ends
+    format_end words found (g.S.Sink.written c.args.out.now) (g.S.Sink.written c.run_format.new.out) _ c.as_str-in-Some-Format.result.now c.run_format.result is c.run_format.ensures.ends
+
+pub returns-in-Some-Explain-clause-ends : goal.returns-in-Some-Explain-clause-ends
+returns-in-Some-Explain-clause-ends g c =
+    let words = map string_bytes c.args.words.now in
+    let found = IsFound (g.L.Library.told c.args.library.now) (g.L.Library.sound c.args.library.now) in
+    let optimisers = c.in-Some-Explain.optimisers in
+    let wish = rw (c.in-Some-Explain.is, c.in-Some-Explain.field-0-is) at c.in_ok-read_words.ensures.wish in
+    let is : asked words ≡ Some (explain optimisers c.as_str-in-Some-Explain.result.now) = sym wish ∙ ap (λ (e : List ℕ). Some (explain optimisers e)) (sym c.as_str-in-Some-Explain.ensures) in
+    explain_end words found (g.S.Sink.written c.args.out.now) (g.S.Sink.written c.run_explain.new.out) _ optimisers c.as_str-in-Some-Explain.result.now c.run_explain.result is c.run_explain.ensures.ends
 
 pub returns-in_err-read_words-clause-reached : goal.returns-in_err-read_words-clause-reached
 returns-in_err-read_words-clause-reached g c =
@@ -103,14 +112,19 @@ returns-in-Some-Format-clause-reached g c =
 pub returns-in-Some-Test-clause-unevaluated : goal.returns-in-Some-Test-clause-unevaluated
 returns-in-Some-Test-clause-unevaluated g c =
     let wish = rw (c.in-Some-Test.is, c.in-Some-Test.field-0-is) at c.in_ok-read_words.ensures.wish in
-    λ asks. absurd (subst AsksToFormat (sym wish) asks)
+    λ asks. absurd (subst AsksToPrint (sym wish) asks)
 
 pub returns-in-Some-Query-clause-unevaluated : goal.returns-in-Some-Query-clause-unevaluated
 returns-in-Some-Query-clause-unevaluated g c =
     let wish = rw (c.in-Some-Query.is, c.in-Some-Query.field-0-is) at c.in_ok-read_words.ensures.wish in
-    λ asks. absurd (subst AsksToFormat (sym wish) asks)
+    λ asks. absurd (subst AsksToPrint (sym wish) asks)
 
 pub returns-in-Some-Workload-clause-unevaluated : goal.returns-in-Some-Workload-clause-unevaluated
 returns-in-Some-Workload-clause-unevaluated g c =
     let wish = rw (c.in-Some-Workload.is, c.in-Some-Workload.field-0-is) at c.in_ok-read_words.ensures.wish in
-    λ asks. absurd (subst AsksToFormat (sym wish) asks)
+    λ asks. absurd (subst AsksToPrint (sym wish) asks)
+
+pub returns-in-Some-Explain-clause-reached : goal.returns-in-Some-Explain-clause-reached
+returns-in-Some-Explain-clause-reached g c =
+    let wish = rw (c.in-Some-Explain.is, c.in-Some-Explain.field-0-is) at c.in_ok-read_words.ensures.wish in
+    no_file (ap files_asked (sym wish)) refl
