@@ -218,6 +218,16 @@ const RUNS: &str = r##"
 2|usage: promqltest [options] FILE.. or query [options] FILE EXPR;|format|0|0
 2|usage: promqltest [options] FILE.. or query [options] FILE EXPR;|format  x  y|0|0
 2|usage: promqltest [options] FILE.. or query [options] FILE EXPR;|format  --edges=v2  x|0|0
+0|binary +;  select x;  ratio;    aggregate sum;      select y{a="b"};    aggregate count;      select y{a="b"};|explain  sort(x) + avg(y{a="b"})|1|0
+0|binary +;  call sort;    select x;  aggregate avg;    select y{a="b"};|explain  --opts  none  sort(x) + avg(y{a="b"})|0|0
+0|call neg;  select x;|explain  --  -x|0|0
+1|REFUSED WrongType at 4;|explain  sum(x{b!="c"}[5m:] offset 1h @ 3) by(a)|0|0
+1|REFUSED Expected at 3;|explain  --opts=none  1 +|0|0
+2|usage: promqltest [options] FILE.. or query [options] FILE EXPR;|explain|0|0
+2|usage: promqltest [options] FILE.. or query [options] FILE EXPR;|explain  --opts=sorts  x|0|0
+0|{} 5.5@0;|query  --opts  none  s.test  avg(x{i="1"}) + avg(x) - 6|0|0
+0|{} 5.5@0;|query  --opts  avg  s.test  avg(x{i="1"}) + avg(x) - 6|0|0
+1|PASS a.test:4;FAIL a.test:7 up expected 3 got 2;passed 1 failed 1;|promqltest  --opts=none  a.test|0|0
 "##;
 
 /// Appends a text with a line feed for each sign.
@@ -526,6 +536,6 @@ fn words_are_run(rt: HostRuntime) -> Result<(), Fail> {
             rows = rows.saturating_add(1);
         }
     }
-    assert_eq!(rt; rows, 110);
+    assert_eq!(rt; rows, 120);
     Ok(())
 }

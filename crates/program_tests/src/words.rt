@@ -1,8 +1,8 @@
 use std::alloc::{AllocError, Global};
 use std::test::Fail;
 use tool_words::{
-    Asked, Choices, batches_are_asked_for, commands_are_simple, edges_are_asked_for, read_words,
-    words_say_what_they_spell,
+    Asked, Choices, Optimisers, batches_are_asked_for, commands_are_simple, edges_are_asked_for,
+    read_words, words_say_what_they_spell,
 };
 
 // Each line is what is asked for, and then the words, each behind a `|`. Times are in milliseconds.
@@ -50,8 +50,8 @@ refused|promqltest|-é|a
 refused|promqltest|---|a
 refused|promqltest|--=a|a
 refused|promqltest|--=|a
-refused|promqltest|--opts|all|a
-refused|promqltest|--opts=all|a
+test <a>|promqltest|--opts|all|a
+test <a>|promqltest|--opts=all|a
 refused|promqltest|--engines=r=eu|a
 refused|promqltest|--at|1|a
 test <a.test>|promqltest|a.test
@@ -77,7 +77,7 @@ refused|query|--|f|e|--at|1
 refused|query|f|-1
 refused|query|f|e|-h
 refused|query|--help|f|e
-refused|query|--opts|none|f|e
+without sort,propagate,merge,trim,avg,remote query 0 to 0 by 1 at once: <f> <e>|query|--opts|none|f|e
 refused|query|--engines|r=eu|f|e
 query 0 to 0 by 1 at once: <f> <e>|query|f|e
 query 0 to 0 by 1 at once: <f> <sum by (a) (x{b='ü'})>|query|f|sum by (a) (x{b='ü'})
@@ -265,14 +265,94 @@ refused|format|--batch|1|x
 refused|format|x|--batch=1
 refused|format|--at=1|x
 refused|Format|x
-refused|formats|x";
+refused|formats|x
+refused|format|--opts|all|x
+refused|format|--opts=none|x
+without sort,propagate,merge,trim,avg,remote test <a> <b>|promqltest|a|--opts=none|b
+without propagate,merge,trim,avg,remote test <a>|promqltest|--opts|sort|a
+without sort,merge,trim,avg,remote test <a>|promqltest|--opts|propagate|a
+without sort,propagate,trim,avg,remote test <a>|promqltest|--opts|merge|a
+without sort,propagate,merge,avg,remote test <a>|promqltest|--opts|trim|a
+without sort,propagate,merge,trim,remote test <a>|promqltest|--opts|avg|a
+without sort,propagate,merge,trim,avg test <a>|promqltest|--opts|remote|a
+test <a>|promqltest|--opts|remote,avg,trim,merge,propagate,sort|a
+without sort,propagate,avg,remote test <a>|promqltest|--opts=trim,merge,trim,trim|a
+closed by 3 without sort,propagate,merge,trim,avg,remote test <a>|promqltest|--opts|none|--edges|v2|--batch|3|a
+without sort,propagate,merge,trim,remote workload 7|workload|--opts=avg|7
+by 3 without sort,propagate,merge,trim,remote query 60000 to 60000 by 1 at once: <f> <e>|query|--at|1m|--opts|avg|f|--batch=3|e
+test <--opts=none>|promqltest|--|--opts=none
+refused|promqltest|--opts||a
+refused|promqltest|--opts=|a
+refused|promqltest|--opts|All|a
+refused|promqltest|--opts|NONE|a
+refused|promqltest|--opts|sorts|a
+refused|promqltest|--opts|sort |a
+refused|promqltest|--opts| sort|a
+refused|promqltest|--opts|sort, avg|a
+refused|promqltest|--opts|sort,|a
+refused|promqltest|--opts|,sort|a
+refused|promqltest|--opts|sort,,avg|a
+refused|promqltest|--opts|,|a
+refused|promqltest|--opts|sort;avg|a
+refused|promqltest|--opts|all,sort|a
+refused|promqltest|--opts|sort,none|a
+refused|promqltest|--opts|all,all|a
+refused|promqltest|--opts|pass|a
+refused|promqltest|--opts|sort|--opts|avg|a
+refused|promqltest|--opts=sort|a|--opts=sort
+refused|promqltest|--opts|none
+refused|promqltest|a|--opts
+refused|promqltest|--opt|none|a
+refused|query|--opts|x|f|e
+refused|workload|--opts|x|7
+explain <x>|explain|x
+explain <x>|explain|--opts|all|x
+without sort,propagate,merge,trim,avg,remote explain <x>|explain|x|--opts=none
+without sort,merge,trim,remote explain <-x>|explain|--opts|avg,propagate|--|-x
+explain <>|explain|
+explain <--opts>|explain|--|--opts
+refused|explain
+refused|explain|--opts|none
+refused|explain|x|y
+refused|explain|-1
+refused|explain|--help
+refused|explain|--opts|x|x
+refused|explain|--opts=all|--opts=all|x
+refused|explain|--edges|v2|x
+refused|explain|--batch=1|x
+refused|explain|--at=1|x
+refused|Explain|x";
+
+/// The optimisers that aren't chosen.
+fn left_out(alloc: Global, optimisers: Optimisers) -> Result<String, AllocError> {
+    let mut text = String::new(alloc);
+    for (chosen, name) in [
+        (optimisers.sort, "sort"),
+        (optimisers.propagate, "propagate"),
+        (optimisers.merge, "merge"),
+        (optimisers.trim, "trim"),
+        (optimisers.avg, "avg"),
+        (optimisers.remote, "remote"),
+    ] {
+        if !chosen {
+            text.push_str(if text.is_empty() { "without " } else { "," })?;
+            text.push_str(name)?;
+        }
+    }
+    if !text.is_empty() {
+        text.push_str(" ")?;
+    }
+    Ok(text)
+}
 
 /// What is chosen is told, but for what holds without an option.
 fn chosen(alloc: Global, choices: Choices) -> Result<String, AllocError> {
     let edge = if choices.closed { "closed " } else { "" };
+    let without = left_out(alloc, choices.optimisers)?;
+    let without = without.as_str();
     match choices.batch {
-        64 => format!(in alloc; "{edge}"),
-        batch => format!(in alloc; "{edge}by {batch} "),
+        64 => format!(in alloc; "{edge}{without}"),
+        batch => format!(in alloc; "{edge}by {batch} {without}"),
     }
 }
 
@@ -310,6 +390,11 @@ fn told(alloc: Global, asked: Option<Asked>) -> Result<String, AllocError> {
         Some(Asked::Format { expr }) => {
             let expr = expr.as_str();
             format!(in alloc; "format <{expr}>")
+        }
+        Some(Asked::Explain { optimisers, expr }) => {
+            let without = left_out(alloc, optimisers)?;
+            let (without, expr) = (without.as_str(), expr.as_str());
+            format!(in alloc; "{without}explain <{expr}>")
         }
     }
 }
