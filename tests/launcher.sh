@@ -59,7 +59,7 @@ echo good >"$room/kit/mode"
 checkout() {
     rm -rf -- "$1"
     mkdir -p -- "$1/bin" "$1/docs" "$1/tests/scripts" "$1"/crates/{low,side,promql}/src
-    cp -R -- "$launchers"/{promqltest,query,workload,format,build,lib} "$1/bin/"
+    cp -R -- "$launchers"/{promqltest,query,workload,format,explain,build,lib} "$1/bin/"
     cp -- "$here"/{run,scripts.sh} "$1/tests/"
     printf '# crates\nlow: kit_crate\nside: low\npromql: low # the program\n' >"$1/crates.txt"
     echo 'Handles allowed: none.' >"$1/HANDLES"

@@ -1,7 +1,8 @@
 #!/usr/bin/env bash
 # Judges each script below tests/scripts/, whose README.md says which must pass and which must fail, and runs it in batches of
-# other sizes too, which must print the same bytes. It prints a line for each script that does otherwise, and last how many
-# scripts passed and failed. It runs tests/refusals.sh, tests/texts.sh and tests/limits.sh too. It ends with 0 where all passed.
+# other sizes and with fewer rewrites of plans too, which must print the same bytes. It prints a line for each script that does
+# otherwise, and last how many scripts passed and failed. It runs tests/refusals.sh, tests/texts.sh and tests/limits.sh too. It
+# ends with 0 where all passed.
 #   tests/scripts.sh                   by bin/promqltest; it fails where the release isn't of the sources that stand here
 #   tests/scripts.sh --program FILE    by this program, whatever the release is
 set -u
@@ -25,7 +26,7 @@ judge_all() {
         code=$?
         while read -r line; do fails "$line"; done < <(
             awk '/^FAIL / { name = $2; sub(/:[0-9]+$/, "", name); if (!(name in told)) print substr($0, 6); told[name] }' "$room/told")
-        prints_so_in_batches "$@"
+        prints_so_otherwise "$@"
         [ "$code" -gt 1 ] || return
         refused=$(tail -n 1 "$room/told")
         if [ "$code" -ne 3 ] && [ "$code" -ne 6 ]; then
@@ -40,13 +41,13 @@ judge_all() {
     done
 }
 
-# Runs words that printed what stands in `told` in batches of other sizes: they must print the same bytes.
-prints_so_in_batches() {
-    local size
-    for size in 1 3 64 1024; do
-        "${program[@]}" promqltest --batch "$size" "$@" >"$room/batched"
-        cmp -s "$room/told" "$room/batched" ||
-            fails "in batches of $size $(diff "$room/told" "$room/batched" | sed -n 's/^< /lacks: /p; s/^> /prints: /p' | head -n 2 | paste -sd' ')"
+# Runs words that printed what stands in `told` by other choices, which change no answer: they must print the same bytes.
+prints_so_otherwise() {
+    local choice
+    for choice in --batch={1,3,64,1024} --opts={none,propagate,merge,trim,avg}; do
+        "${program[@]}" promqltest "$choice" "$@" >"$room/otherwise"
+        cmp -s "$room/told" "$room/otherwise" ||
+            fails "by $choice $(diff "$room/told" "$room/otherwise" | sed -n 's/^< /lacks: /p; s/^> /prints: /p' | head -n 2 | paste -sd' ')"
     done
 }
 
@@ -65,7 +66,7 @@ judge_one() {
     elif [ "$code" != "$wanted" ]; then
         fails "$1 ended with status $code, not $wanted: $(grep -v '^PASS' "$room/told" | head -n 1)"
     fi
-    prints_so_in_batches "${words[@]}" "$1"
+    prints_so_otherwise "${words[@]}" "$1"
 }
 
 if [ "${1-}" = --program ]; then
