@@ -218,9 +218,9 @@ const RUNS: &str = r##"
 2|usage: promqltest [options] FILE.. or query [options] FILE EXPR;|format|0|0
 2|usage: promqltest [options] FILE.. or query [options] FILE EXPR;|format  x  y|0|0
 2|usage: promqltest [options] FILE.. or query [options] FILE EXPR;|format  --edges=v2  x|0|0
-0|binary +;  select x;  ratio;    aggregate sum;      select y{a="b"};    aggregate count;      select y{a="b"};|explain  sort(x) + avg(y{a="b"})|1|0
-0|binary +;  call sort;    select x;  aggregate avg;    select y{a="b"};|explain  --opts  none  sort(x) + avg(y{a="b"})|0|0
-0|call neg;  select x;|explain  --  -x|0|0
+0|select x{a="2", b="1"};|explain  x{b="1",a="2"}|1|0
+0|select x{b="1", a="2"};|explain  --opts  none  x{b="1",a="2"}|0|0
+0|select x;|explain  --  +x|0|0
 1|REFUSED WrongType at 4;|explain  sum(x{b!="c"}[5m:] offset 1h @ 3) by(a)|0|0
 1|REFUSED Expected at 3;|explain  --opts=none  1 +|0|0
 2|usage: promqltest [options] FILE.. or query [options] FILE EXPR;|explain|0|0
