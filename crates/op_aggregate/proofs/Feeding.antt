@@ -1,23 +1,18 @@
 -- Steps that are fed one after another.
-use Rattle.std.proofs.Common.{◌≡◌, ◌∙◌, ◌+◌, ◌<◌, ◌≤◌, ℕ, zero, suc, arith, List, [], ◌∷◌, ◌++◌, length, slice_get, take, drop, map, refl, sym, ap, subst, Some}
-use Rattle.std.specs.Prelude.{◌<ℤ◌, Bool, true, false, not, if◌then◌else◌, ⊤}
+use Rattle.std.proofs.Common.{◌≡◌, ◌∙◌, ◌+◌, ◌<◌, ℕ, zero, suc, arith, List, [], ◌∷◌, ◌++◌, length, slice_get, take, map, refl, sym, ap, subst, Some}
+use Rattle.std.specs.Prelude.{Bool, true, false, not}
 use Rattle.std.specs.List.{AllByRecursion}
-use Rattle.std.specs.Option.{option_map}
 use Rattle.std.proofs.lemmas.Option.{slice_get_within}
 use Rattle.func_table.specs.declared.table.Aggregate.{Aggregate}
 use Rattle.label_set.specs.declared.rules.Grouping.{Grouping}
-use Rattle.step_batch.specs.Lent.{InstantsRise, IsLater, LaterThanLast, Lent, entries_of, stage_of, step_of}
-use Rattle.step_batch.specs.declared.steps.PlacedStep.{PlacedStep}
-use Rattle.step_batch.specs.declared.steps.Slot.{Slot}
 use Rattle.promql_meaning.specs.Ranks.{kept_labels}
 use Rattle.step_put.specs.Placed.{left_of}
 use Rattle.step_put.specs.Puts.{AreAt}
 use Rattle.step_put.specs.declared.labels_left.Left.{Left}
 use Rattle.step_put.specs.declared.labels_left.Left.TheVariants.{Signature}
+use Rattle.step_put.specs.Feeding.{some_here}
 use Rattle.step_table.specs.Groups.{Names}
 use Rattle.step_table.specs.Timed.{StepAt}
-use Rattle.step_table.specs.declared.marks.Marks.{Marks}
-use Rattle.ticks.specs.declared.moment.Ms.{Ms}
 use Rattle.step_table.specs.declared.cells.StepCells.{StepCells}
 use Rattle.step_cells.specs.Owed.{partial_cells}
 use Rattle.std.proofs.lemmas.List.{map-append}
@@ -47,55 +42,7 @@ placed_by by labels fed now left places kept a l f p =
     (subst (λ (z : List Names). AreAt labels (map (kept_labels by) z) places) f
     (subst (λ (z : Left). AreAt labels (map (left_of z) fed) places) l a))
 
--- ---- instants
-
--- the first of some steps is later than the last that was made
-abbrev pub Follow : Lent → List PlacedStep → Type 0
-Follow lent [] = ⊤
-Follow lent (s ∷ steps) = IsLater lent s.at
-
-pub follow_none : (lent : Lent) (steps : List PlacedStep) → lent.steps ≡ [] → Follow lent steps
-follow_none lent [] e = tt
-follow_none lent (s ∷ steps) e = subst (λ (z : List PlacedStep). LaterThanLast z s.at) (sym e) tt
-
-pub follow_here : (lent : Lent) (steps : List PlacedStep) (i : ℕ) (t : Ms) → option_map (λ (s : PlacedStep). s.at) (slice_get steps i) ≡ Some t → Follow lent (drop i steps) → IsLater lent t
-follow_here lent [] i t e f = absurd (cc)
-follow_here lent (s ∷ steps) zero t e f = let same : s.at ≡ t = cc in subst (IsLater lent) same f
-follow_here lent (s ∷ steps) (suc i) t e f = follow_here lent steps i t e f
-
-pub follow_next : (lent : Lent) (steps : List PlacedStep) (i : ℕ) (t : Ms) → option_map (λ (s : PlacedStep). s.at) (slice_get steps i) ≡ Some t → InstantsRise steps → ((u : Ms) → t.0 <ℤ u.0 → IsLater lent u) → Follow lent (drop (i + 1) steps)
-follow_next lent [] i t e r k = absurd (cc)
-follow_next lent (s ∷ []) zero t e r k = tt
-follow_next lent (s ∷ u ∷ steps) zero t e r k = let same : s.at ≡ t = cc in k u.at (subst (λ (z : Ms). z.0 <ℤ u.at.0) same r.0)
-follow_next lent (s ∷ steps) (suc i) t e r k = let n : suc i + 1 ≡ suc (i + 1) = omega arith in rw n (follow_next lent steps i t e r.1 k)
-
-pub time_some : (steps : List PlacedStep) (i : ℕ) → i < length steps → (t : Ms) × (option_map (λ (s : PlacedStep). s.at) (slice_get steps i) ≡ Some t)
-time_some [] i l = absurd (omega arith)
-time_some (s ∷ steps) zero l = (s.at, refl)
-time_some (s ∷ steps) (suc i) l = time_some steps i (omega arith)
-
--- two options are of one value
-unsome : {A : Type 0} (a b : A) → Some a ≡ Some b → a ≡ b
-unsome a b e = cc
-
--- a stage by what is told of its step
-pub stage_here : (labels : List Names) (steps : List PlacedStep) (i : ℕ) (t : Ms) (slots : List Slot) (marks : Marks) (f : StepAt)
-    → option_map (λ (s : PlacedStep). s.at) (slice_get steps i) ≡ Some t → option_map (λ (s : PlacedStep). s.slots) (slice_get steps i) ≡ Some slots → option_map (λ (s : PlacedStep). s.marks) (slice_get steps i) ≡ Some marks
-    → slice_get (map (stage_of labels) steps) i ≡ Some f → f ≡ record { at = t; step = step_of (entries_of labels slots) marks }
-stage_here labels [] i t slots marks f a b c e = absurd (cc)
-stage_here labels (s ∷ steps) zero t slots marks f a b c e =
-    let times : s.at ≡ t = unsome s.at t a in
-    let slots_are : s.slots ≡ slots = unsome s.slots slots b in
-    let marks_are : s.marks ≡ marks = unsome s.marks marks c in
-    sym (unsome (stage_of labels s) f e) ∙ (λ j. record { at = times j; step = step_of (entries_of labels (slots_are j)) (marks_are j) })
-stage_here labels (s ∷ steps) (suc i) t slots marks f a b c e = stage_here labels steps i t slots marks f a b c e
-
 -- ---- what is made
-
-pub some_here : {A : Type 0} (xs : List A) (i : ℕ) → i < length xs → (x : A) × (slice_get xs i ≡ Some x)
-some_here [] i l = absurd (omega arith)
-some_here (x ∷ xs) zero l = (x, refl)
-some_here (x ∷ xs) (suc i) l = some_here xs i (omega arith)
 
 -- one step more
 aggregations_more : (f : Aggregate) (by : Grouping) (ss : List StepAt) (i : ℕ) (s : StepAt) → slice_get ss i ≡ Some s → aggregations f by (take (i + 1) ss) ≡ aggregations f by (take i ss) ++ aggregated_at f by s ∷ []
@@ -107,16 +54,6 @@ pub lent_more : (f : Aggregate) (by : Grouping) (ss old new : List StepAt) (i : 
 lent_more f by ss old new i l o n =
     let s = some_here ss i l in
     n s.0 s.1 ∙ ap (λ (w : List StepAt). w ++ aggregated_at f by s.0 ∷ []) o ∙ sym (aggregations_more f by ss i s.0 s.1)
-
-pub count_of : {A B : Type 0} (f : A → B) (xs : List A) → length (map f xs) ≡ length xs
-count_of f [] = refl
-count_of f (x ∷ xs) = ap suc (count_of f xs)
-
-pub whole : {A : Type 0} (xs : List A) (i : ℕ) → length xs ≤ i → take i xs ≡ xs
-whole [] zero l = refl
-whole [] (suc i) l = refl
-whole (x ∷ xs) zero l = absurd (omega arith)
-whole (x ∷ xs) (suc i) l = ap (λ r. x ∷ r) (whole xs i (omega arith))
 
 -- ---- what is owed
 

@@ -2,7 +2,7 @@
 use Rattle.std.proofs.Common.{◌≡◌, ◌∙◌, ◌+◌, ◌<◌, ℕ, zero, suc, arith, List, [], ◌∷◌, ◌++◌, length, slice_get, take, map, refl, sym, ap, Some}
 use Rattle.step_table.specs.Timed.{StepAt}
 use Rattle.op_rank.specs.Rules.{made_of_each}
-use Rattle.op_rank.proofs.Feeding.{some_here}
+use Rattle.step_put.specs.Feeding.{some_here}
 
 taken_more : (make : StepAt → StepAt) (ss : List StepAt) (i : ℕ) (s : StepAt) → slice_get ss i ≡ Some s → map make (take (i + 1) ss) ≡ map make (take i ss) ++ make s ∷ []
 taken_more make [] i s e = absurd (cc)

@@ -1,3 +1,4 @@
 pub mod Clashes
+pub mod Feeding
 pub mod Placed
 pub mod Puts

@@ -7,7 +7,8 @@ use Rattle.step_put.specs.Puts.{AreAt}
 use Rattle.step_table.specs.Groups.{Names}
 use Rattle.op_aggregate.specs.OwedCells.{cells_at}
 use Rattle.op_aggregate.specs.Rules.{aggregated_at, aggregations, is_grouped, owed_cells}
-use Rattle.op_aggregate.proofs.Feeding.{count_of, follow_here, follow_next, follow_none, lent_more, owed_next, owed_none, time_some, whole}
+use Rattle.step_put.specs.Feeding.{count_of, follow_here, follow_next, follow_none, time_some, whole}
+use Rattle.op_aggregate.proofs.Feeding.{lent_more, owed_next, owed_none}
 use Rattle.op_aggregate.proofs.kernel.put_all.Goals as goal
 
 pub loop-i-init : goal.loop-i-init

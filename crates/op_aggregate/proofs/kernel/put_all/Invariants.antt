@@ -5,7 +5,7 @@ use Rattle.step_put.specs.Puts.{AreAt}
 use Rattle.op_aggregate.specs.Places.{AreTallied}
 use Rattle.op_aggregate.specs.OwedCells.{cells_at}
 use Rattle.op_aggregate.specs.Rules.{aggregations, owed_cells}
-use Rattle.op_aggregate.proofs.Feeding.{Follow}
+use Rattle.step_put.specs.Feeding.{Follow}
 use Rattle.op_aggregate.proofs.kernel.put_all.Given as goal
 
 abbrev pub invariant-loop-i : goal.invariant-loop-i

@@ -11,7 +11,8 @@ use Rattle.step_table.specs.declared.step.Step.{Step}
 use Rattle.op_aggregate.specs.Places.{groups_made, items_at, places_of}
 use Rattle.op_aggregate.specs.Rules.{aggregated_at}
 use Rattle.op_aggregate.proofs.AtPlaces.{apart_shuffled, places_apart}
-use Rattle.op_aggregate.proofs.Feeding.{kept_next, places_count, places_within, stage_here}
+use Rattle.step_put.specs.Feeding.{stage_here}
+use Rattle.op_aggregate.proofs.Feeding.{kept_next, places_count, places_within}
 use Rattle.op_aggregate.proofs.Grouping.{filled_ready, filled_within}
 use Rattle.op_aggregate.proofs.Made.{step_made}
 use Rattle.op_aggregate.proofs.Owing.{cells_made}

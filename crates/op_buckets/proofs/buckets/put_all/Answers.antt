@@ -6,7 +6,8 @@ use Rattle.step_put.specs.Puts.{AreAt}
 use Rattle.step_table.specs.Groups.{Names}
 use Rattle.op_buckets.specs.Histograms.{histogram_of}
 use Rattle.op_buckets.specs.Rules.{all_quantiles}
-use Rattle.op_buckets.proofs.Feeding.{count_of, follow_here, follow_next, follow_none, lent_more, time_some, whole}
+use Rattle.step_put.specs.Feeding.{count_of, follow_here, follow_next, follow_none, time_some, whole}
+use Rattle.op_buckets.proofs.Feeding.{lent_more}
 use Rattle.op_buckets.proofs.buckets.put_all.Goals as goal
 
 pub loop-i-init : goal.loop-i-init

@@ -7,7 +7,7 @@ use Rattle.step_table.specs.Groups.{Names}
 use Rattle.step_table.specs.Unions.{united}
 use Rattle.op_buckets.specs.Histograms.{bound_in, histogram_of}
 use Rattle.op_buckets.specs.Splits.{AreMade}
-use Rattle.op_buckets.proofs.Feeding.{few_here, stage_here, step_here}
+use Rattle.step_put.specs.Feeding.{few_here, stage_here, step_here}
 use Rattle.op_buckets.proofs.Keeping.{read_counts}
 use Rattle.op_buckets.proofs.Made.{filled_rise, one_made, placed_as_many}
 use Rattle.op_buckets.proofs.buckets.put_one.Goals as goal

@@ -3,7 +3,7 @@ use Rattle.std.specs.List.{filter_map}
 use Rattle.std.specs.Option.{option_map, option_to_list}
 use Rattle.op_buckets.specs.Splits.{bound_there, entry_of, entry_with}
 use Rattle.op_buckets.specs.declared.split.Entry.{Entry}
-use Rattle.op_buckets.proofs.Feeding.{whole}
+use Rattle.step_put.specs.Feeding.{whole}
 use Rattle.op_buckets.proofs.SlotsOrdered.{made_by, made_more, made_moved, place_below, slot_below}
 use Rattle.op_buckets.proofs.Splitting.{numbers_more}
 use Rattle.op_buckets.proofs.split.list.Goals as goal

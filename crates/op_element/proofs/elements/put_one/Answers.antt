@@ -5,7 +5,7 @@ use Rattle.step_batch.specs.Lent.{stages}
 use Rattle.step_put.specs.Placed.{PlacesRise}
 use Rattle.step_table.specs.Groups.{Names}
 use Rattle.op_element.proofs.Applying.{one_made, placed_rise}
-use Rattle.op_element.proofs.Feeding.{few_here, stage_here, step_here}
+use Rattle.step_put.specs.Feeding.{few_here, stage_here, step_here}
 use Rattle.op_element.proofs.elements.put_one.Goals as goal
 
 pub put-requires-clause-later : goal.put-requires-clause-later

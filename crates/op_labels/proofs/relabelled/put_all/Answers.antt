@@ -2,7 +2,8 @@ use Rattle.std.proofs.Common.{◌∙◌, ◌<◌, ◌≤◌, List, arith, length
 use Rattle.step_batch.specs.Lent.{stage_of, stages}
 use Rattle.step_table.specs.Groups.{Names}
 use Rattle.op_labels.specs.Rules.{AreMade, relabelled_at, relabellings}
-use Rattle.op_labels.proofs.Feeding.{follow_here, follow_next, follow_none, lent_more, time_some, whole}
+use Rattle.step_put.specs.Feeding.{follow_here, follow_next, follow_none, time_some, whole}
+use Rattle.op_labels.proofs.Feeding.{lent_more}
 use Rattle.op_labels.proofs.Keeping.{mapped_count}
 use Rattle.op_labels.proofs.relabelled.put_all.Goals as goal
 

@@ -3,7 +3,7 @@ use Rattle.std.specs.List.{IsDistinct}
 use Rattle.label_set.specs.LabelEquality.{labels_eq}
 use Rattle.step_batch.specs.Lent.{SlotsRise, stages}
 use Rattle.step_put.specs.Placed.{PlacesRise}
-use Rattle.op_labels.proofs.Feeding.{stage_here}
+use Rattle.step_put.specs.Feeding.{stage_here}
 use Rattle.op_labels.proofs.Remaking.{one_made, placed_rise}
 use Rattle.op_labels.proofs.relabelled.put_one.Goals as goal
 

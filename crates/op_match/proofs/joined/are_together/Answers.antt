@@ -2,7 +2,8 @@ use Rattle.std.proofs.Common.{◌∙◌, ◌≤◌, arith, length, sym}
 use Rattle.step_batch.specs.declared.steps.PlacedStep.{PlacedStep}
 use Rattle.op_match.specs.Joins.{instants}
 use Rattle.op_match.proofs.Lists.{whole}
-use Rattle.op_match.proofs.Feeding.{count_of, same_more}
+use Rattle.step_put.specs.Feeding.{count_of}
+use Rattle.op_match.proofs.Feeding.{same_more}
 use Rattle.op_match.proofs.joined.are_together.Goals as goal
 
 pub loop-i-preserved : goal.loop-i-preserved

@@ -5,7 +5,8 @@ use Rattle.step_batch.specs.declared.steps.PlacedStep.{PlacedStep}
 use Rattle.op_match.specs.Joins.{joined, joined_at}
 use Rattle.op_match.specs.Places.{IsReady, many_of, one_of}
 use Rattle.op_match.proofs.Lists.{whole}
-use Rattle.op_match.proofs.Feeding.{count_of, follow_here, follow_next, follow_none, lent_more, time_some}
+use Rattle.step_put.specs.Feeding.{count_of, follow_here, follow_next, follow_none, time_some}
+use Rattle.op_match.proofs.Feeding.{lent_more}
 use Rattle.op_match.proofs.joined.join_all.Goals as goal
 
 pub loop-i-init : goal.loop-i-init

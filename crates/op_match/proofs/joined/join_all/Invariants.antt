@@ -2,7 +2,7 @@ use Rattle.std.proofs.Common.{◌≡◌, drop, take}
 use Rattle.step_batch.specs.Lent.{stages}
 use Rattle.op_match.specs.Joins.{joined}
 use Rattle.op_match.specs.Places.{IsMatching, IsReady, many_of, one_of}
-use Rattle.op_match.proofs.Feeding.{Follow}
+use Rattle.step_put.specs.Feeding.{Follow}
 use Rattle.op_match.proofs.joined.join_all.Given as goal
 
 abbrev pub invariant-loop-i : goal.invariant-loop-i

@@ -9,7 +9,7 @@ use Rattle.step_table.specs.WellFormed.{IsTable}
 use Rattle.step_table.specs.declared.marks.Marks.{Marks}
 use Rattle.step_table.specs.declared.step.Step.{Step}
 use Rattle.op_match.specs.Places.{rows_in, step_with}
-use Rattle.op_match.proofs.Feeding.{stage_here, step_here}
+use Rattle.step_put.specs.Feeding.{stage_here, step_here}
 use Rattle.op_match.proofs.LastStep.{clear_joined, whole_joined, whole_table}
 use Rattle.op_match.proofs.joined.put_met.Goals as goal
 

@@ -1,7 +1,8 @@
 use Rattle.std.proofs.Common.{◌≡◌, ◌∙◌, ◌<◌, ◌≤◌, arith, length, map, refl, ap, take}
 use Rattle.step_batch.specs.Lent.{stage_of, stages}
 use Rattle.op_rank.specs.Rules.{first_at, made_of_each}
-use Rattle.op_rank.proofs.Feeding.{count_of, follow_here, follow_next, follow_none, lent_more, time_some, whole}
+use Rattle.step_put.specs.Feeding.{count_of, follow_here, follow_next, follow_none, time_some, whole}
+use Rattle.op_rank.proofs.Feeding.{lent_more}
 use Rattle.op_rank.proofs.first_rows.put_all.Goals as goal
 
 pub loop-i-init : goal.loop-i-init

@@ -2,7 +2,7 @@ use Rattle.std.proofs.Common.{◌≡◌, drop, take}
 use Rattle.step_batch.specs.Lent.{stages}
 use Rattle.op_rank.specs.Groups.{IsGrouped}
 use Rattle.op_rank.specs.Rules.{first_at, made_of_each}
-use Rattle.op_rank.proofs.Feeding.{Follow}
+use Rattle.step_put.specs.Feeding.{Follow}
 use Rattle.op_rank.proofs.first_rows.put_all.Given as goal
 
 abbrev pub invariant-loop-i : goal.invariant-loop-i

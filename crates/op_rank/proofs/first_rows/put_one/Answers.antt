@@ -7,7 +7,7 @@ use Rattle.step_put.specs.Placed.{PlacesRise, made_step}
 use Rattle.step_put.specs.declared.labels_left.Left.{Left}
 use Rattle.step_table.specs.Groups.{Names}
 use Rattle.op_rank.specs.Contenders.{as_made, chosen}
-use Rattle.op_rank.proofs.Feeding.{few_here, stage_here, step_here}
+use Rattle.step_put.specs.Feeding.{few_here, stage_here, step_here}
 use Rattle.op_rank.proofs.FirstsMade.{chosen_rise, one_made, ranks_apart}
 use Rattle.op_rank.proofs.first_rows.put_one.Goals as goal
 

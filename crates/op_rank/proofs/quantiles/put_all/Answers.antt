@@ -7,7 +7,8 @@ use Rattle.step_table.specs.Groups.{Names}
 use Rattle.step_batch.specs.Lent.{stage_of, stages}
 use Rattle.op_rank.specs.Quantiles.{quantile_at}
 use Rattle.op_rank.specs.Rules.{made_of_each}
-use Rattle.op_rank.proofs.Feeding.{count_of, follow_here, follow_next, follow_none, lent_more, time_some, whole}
+use Rattle.step_put.specs.Feeding.{count_of, follow_here, follow_next, follow_none, time_some, whole}
+use Rattle.op_rank.proofs.Feeding.{lent_more}
 use Rattle.op_rank.proofs.quantiles.put_all.Goals as goal
 
 pub loop-i-init : goal.loop-i-init

@@ -4,7 +4,7 @@ use Rattle.step_batch.specs.Lent.{stages}
 use Rattle.step_put.specs.Puts.{AreAt}
 use Rattle.op_rank.specs.Quantiles.{quantile_at}
 use Rattle.op_rank.specs.Rules.{made_of_each}
-use Rattle.op_rank.proofs.Feeding.{Follow}
+use Rattle.step_put.specs.Feeding.{Follow}
 use Rattle.op_rank.proofs.quantiles.put_all.Given as goal
 
 abbrev pub invariant-loop-i : goal.invariant-loop-i

@@ -6,7 +6,7 @@ use Rattle.step_put.specs.Placed.{made_step}
 use Rattle.step_put.specs.declared.labels_left.Left.{Left}
 use Rattle.step_table.specs.Unions.{united}
 use Rattle.op_rank.specs.Quantiles.{AreMade, marks_noted}
-use Rattle.op_rank.proofs.Feeding.{few_here, stage_here, step_here}
+use Rattle.step_put.specs.Feeding.{few_here, stage_here, step_here}
 use Rattle.op_rank.proofs.QuantilesMade.{filled_rise, one_quantile}
 use Rattle.op_rank.proofs.quantiles.put_one.Goals as goal
 

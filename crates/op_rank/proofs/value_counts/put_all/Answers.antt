@@ -1,7 +1,7 @@
 use Rattle.std.proofs.Common.{◌∙◌, ◌<◌, ◌≤◌, arith, length, map, ap}
 use Rattle.step_batch.specs.Lent.{stage_of, stages}
 use Rattle.op_rank.specs.ValueCounts.{counted_at, values_counted}
-use Rattle.op_rank.proofs.Feeding.{count_of, follow_here, follow_next, follow_none, time_some, whole}
+use Rattle.step_put.specs.Feeding.{count_of, follow_here, follow_next, follow_none, time_some, whole}
 use Rattle.op_rank.proofs.Steps.{each_more}
 use Rattle.op_rank.proofs.value_counts.put_all.Goals as goal
 

@@ -1,7 +1,7 @@
 use Rattle.std.proofs.Common.{◌≡◌, drop, take}
 use Rattle.step_batch.specs.Lent.{stages}
 use Rattle.op_rank.specs.ValueCounts.{IsCounting, values_counted}
-use Rattle.op_rank.proofs.Feeding.{Follow}
+use Rattle.step_put.specs.Feeding.{Follow}
 use Rattle.op_rank.proofs.value_counts.put_all.Given as goal
 
 abbrev pub invariant-loop-i : goal.invariant-loop-i

@@ -9,7 +9,7 @@ use Rattle.step_table.specs.Unions.{united}
 use Rattle.step_table.specs.declared.step.Step.{Step}
 use Rattle.op_rank.specs.ValueCounts.{counted_at, overflow_if, rows_in, slots_counted}
 use Rattle.op_rank.specs.declared.value_counts.Count.{Count}
-use Rattle.op_rank.proofs.Feeding.{stage_here}
+use Rattle.step_put.specs.Feeding.{stage_here}
 use Rattle.op_rank.proofs.ValuesCounted.{counts_rise, step_counted}
 use Rattle.op_rank.proofs.value_counts.put_one.Goals as goal
 

@@ -1,7 +1,8 @@
 use Rattle.std.proofs.Common.{◌≡◌, ◌∙◌, ◌<◌, ◌≤◌, arith, length, map, refl, ap, take}
 use Rattle.step_batch.specs.Lent.{stage_of, stages}
 use Rattle.op_ratio.specs.Ratios.{all_ratios}
-use Rattle.op_ratio.proofs.Feeding.{count_of, follow_here, follow_next, follow_none, lent_more, time_some, whole}
+use Rattle.step_put.specs.Feeding.{count_of, follow_here, follow_next, follow_none, time_some, whole}
+use Rattle.op_ratio.proofs.Feeding.{lent_more}
 use Rattle.op_ratio.proofs.ratios.put_all.Goals as goal
 
 pub loop-i-init : goal.loop-i-init

@@ -9,7 +9,7 @@ use Rattle.step_table.specs.Unions.{united}
 use Rattle.step_table.specs.declared.marks.Marks.{Marks}
 use Rattle.op_ratio.specs.Counts.{AreBelow, AreQuotients}
 use Rattle.op_ratio.proofs.Counting.{placed_rise}
-use Rattle.op_ratio.proofs.Feeding.{stage_here, step_here}
+use Rattle.step_put.specs.Feeding.{stage_here, step_here}
 use Rattle.op_ratio.proofs.Naming.{at_below, at_length, placed_all}
 use Rattle.op_ratio.proofs.Quotients.{AreFed, Laws, one_made}
 use Rattle.op_ratio.proofs.ratios.put_one.Goals as goal

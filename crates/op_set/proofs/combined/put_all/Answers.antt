@@ -1,7 +1,8 @@
 use Rattle.std.proofs.Common.{◌≡◌, ◌∙◌, ◌<◌, ◌≤◌, arith, length, map, refl, ap, take}
 use Rattle.step_batch.specs.Lent.{stage_of, stages}
 use Rattle.op_set.specs.Combining.{all_combined}
-use Rattle.op_set.proofs.Feeding.{follow_here, follow_next, follow_none, lent_more, time_some}
+use Rattle.step_put.specs.Feeding.{follow_here, follow_next, follow_none, time_some}
+use Rattle.op_set.proofs.Feeding.{lent_more}
 use Rattle.op_set.proofs.Named.{count_of, whole}
 use Rattle.op_set.proofs.combined.put_all.Goals as goal
 

@@ -1,7 +1,7 @@
 use Rattle.std.proofs.Common.{◌≡◌, length, drop, take}
 use Rattle.step_batch.specs.Lent.{stages}
 use Rattle.op_set.specs.Combining.{all_combined}
-use Rattle.op_set.proofs.Feeding.{Follow}
+use Rattle.step_put.specs.Feeding.{Follow}
 use Rattle.op_set.proofs.combined.put_all.Given as goal
 
 abbrev pub invariant-loop-i : goal.invariant-loop-i

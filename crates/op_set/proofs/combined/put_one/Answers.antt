@@ -6,7 +6,7 @@ use Rattle.step_batch.specs.declared.steps.Slot.{Slot}
 use Rattle.step_table.specs.Groups.{Names}
 use Rattle.step_table.specs.Unions.{united}
 use Rattle.op_set.specs.Sides.{AreBelow}
-use Rattle.op_set.proofs.Feeding.{stage_here, step_here}
+use Rattle.step_put.specs.Feeding.{stage_here, step_here}
 use Rattle.op_set.proofs.Making.{AreFed, Laws, lent_count, one_made, rise_made, side_count}
 use Rattle.op_set.proofs.Named.{at_below, at_length}
 use Rattle.op_set.proofs.combined.put_one.Goals as goal

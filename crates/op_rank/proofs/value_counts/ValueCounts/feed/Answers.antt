@@ -8,7 +8,7 @@ use Rattle.step_put.specs.Puts.{AreAt}
 use Rattle.step_table.specs.Groups.{Names}
 use Rattle.op_rank.specs.Rules.{GroupedSteps}
 use Rattle.op_rank.specs.ValueCounts.{counted_at}
-use Rattle.op_rank.proofs.Feeding.{count_of}
+use Rattle.step_put.specs.Feeding.{count_of}
 use Rattle.op_rank.proofs.Steps.{unread}
 use Rattle.op_rank.proofs.value_counts.ValueCounts.feed.Goals as goal
 
