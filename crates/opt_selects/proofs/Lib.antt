@@ -1,5 +1,4 @@
 mod Merges
 mod Numbers
 mod Orders
-mod Parts
 mod Trims

@@ -9,13 +9,13 @@ use Rattle.promql_meaning.specs.Filters.{MoreRulesFilterRows, MoreRulesFilterWin
 use Rattle.promql_meaning.specs.Selecting.{Asked}
 use Rattle.logical_plan.specs.declared.nodes.PlanNode.TheVariants as node
 use Rattle.logical_plan.specs.declared.nodes.PlanNode.TheOpen.{PlanNode-F}
+use Rattle.plan_rewrite.specs.FilteredSelectors.{range_kept, select_kept}
 use Rattle.plan_rewrite.specs.NodeMeanings.{at_range, at_select, rolled_means}
 use Rattle.plan_rewrite.specs.Rebuilding.{KeepsMeaning, node_of}
 use Rattle.plan_rewrite.specs.RuleLaws.{parts_together}
 use Rattle.plan_rewrite.specs.RuleLists.{is_part, lacking}
 use Rattle.opt_selects.specs.Bases.{base_among, is_base, merge_selects, over_base, same_moment, same_range, share_metric}
 use Rattle.opt_selects.specs.declared.found.Found.{Found}
-use Rattle.opt_selects.proofs.Parts.{range_kept, select_kept}
 
 left_true : (a b : Bool) → (a && b) ≡ true → a ≡ true
 left_true true b e = refl

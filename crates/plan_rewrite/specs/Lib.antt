@@ -1,3 +1,4 @@
+pub mod FilteredSelectors
 pub mod Insertion
 pub mod NodeMeanings
 pub mod Rebuilding

@@ -16,6 +16,7 @@ ghost use Rattle.std.specs.Prelude.{◌≡◌, ℕ, ℤ, IfOk};
 use logical_plan::Plan;
 use match_rule::Patterns;
 use opt_matchers::{propagate, sort};
+use opt_pushdown::push;
 use opt_selects::{merge, trim};
 use opt_split_avg::apply;
 use rewrite_laws::laws::{
@@ -102,5 +103,32 @@ pub fn rewritten(
     let joined = merged(alloc, handed, choices.merge)?;
     let bare = trimmed(alloc, joined, choices.trim)?;
     let q = split(alloc, bare, choices.avg)?;
+    Ok(q)
+}
+
+/// A plan as it is evaluated where one store holds all samples: behind the rewrites that are chosen but that of averages, since the sum
+/// and the count would both be made of the same samples, and with filters in the selectors that they stand over, since no sample is
+/// read then of a series that a filter leaves out. A typed plan means what it meant, rows, notes and marks, on every list of samples
+/// whose labels are label sets, at every instant, and what stands under Once nodes stays the same at each instant. The only error is
+/// want of memory. (This project's own.)
+pub fn evaluated(
+    alloc: Global,
+    p: Plan,
+    choices: Choices,
+    patterns: &Patterns<'_>,
+) -> Result<Plan, AllocError>
+    ensures means { IfOk result (λ q. (asked : Asked) (t : ℤ) → IsTyped p → HaveLabelSets asked → plan_meaning asked q t ≡ plan_meaning asked p t) }
+    ensures onces { IfOk result (λ q. OncesAreSteady p → OncesAreSteady q) }
+{
+    rewritten_onces_are_steady();
+    let unsplit = Choices {
+        sort: choices.sort,
+        propagate: choices.propagate,
+        merge: choices.merge,
+        trim: choices.trim,
+        avg: false,
+    };
+    let plan = rewritten(alloc, p, unsplit, patterns)?;
+    let q = push(alloc, plan)?;
     Ok(q)
 }

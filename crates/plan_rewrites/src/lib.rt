@@ -3,4 +3,4 @@
 
 mod choosing;
 
-pub use choosing::{Choices, rewritten};
+pub use choosing::{Choices, evaluated, rewritten};

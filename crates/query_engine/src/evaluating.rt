@@ -17,9 +17,9 @@ use std::sync::ledger::Ledger;
 use ticks::{Grid, Work};
 
 /// What the text of a query comes to over the samples of a store: its one refusal, with its place in the text, or its result
-/// at the instants of a grid, with the windows that are chosen; nothing else that is chosen changes it. `instant` tells that it is an instant query, whose root may ask
-/// for an order by value. Samples are read by counted calls alone, and of a refused text none. The only error is want of memory.
-/// (Prometheus querying.)
+/// at the instants of a grid, with the windows that are chosen; nothing else that is chosen changes it. `instant` tells that it
+/// is an instant query, whose root may ask for an order by value. Samples are read by counted calls alone, and of a refused text
+/// none. The only error is want of memory. (Prometheus querying.)
 pub fn evaluate<W: Ledger>(
     alloc: Global,
     text: &str,

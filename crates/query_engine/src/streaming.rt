@@ -15,7 +15,7 @@ ghost use Rattle.step_table.specs.Timed.{steps_over};
 ghost use Rattle.ticks.specs.declared.walk.Walk.{Grid as GridWalk};
 
 use crate::options::Options;
-use crate::planning::planned;
+use crate::planning::evaluated;
 use logical_plan::kept_patterns_are_placed;
 use match_rule::Patterns;
 use phys_plan::laws::steady_onces_stay;
@@ -62,8 +62,9 @@ fn collected<W: Ledger>(
     }
 }
 
-/// The result of a typed query over a grid by the tree of kernels of its plan, rewritten as is chosen, which goes on by at most a batch of instants at once;
-/// none where a part of the plan has no kernel. The patterns stay as they are. The only error is want of memory.
+/// The result of a typed query over a grid by the tree of kernels of its plan, rewritten as is chosen, which goes on by at most a
+/// batch of instants at once; none where the tree isn't built, since a pattern isn't kept or a window leads beyond the times. The
+/// patterns stay as they are. The only error is want of memory.
 fn streamed<W: Ledger>(
     alloc: Global,
     typed: &Typed,
@@ -85,7 +86,7 @@ fn streamed<W: Ledger>(
     grids_are_listed();
     let _ = typed.expr();
     let _ = store.series();
-    let plan = planned(alloc, typed, options, patterns)?;
+    let plan = evaluated(alloc, typed, options, patterns)?;
     match build(
         alloc,
         &plan,
@@ -107,8 +108,9 @@ fn streamed<W: Ledger>(
     }
 }
 
-/// The result of a typed query over a grid: by the tree of kernels of its plan, rewritten as is chosen, which goes on by at most a batch of instants at once,
-/// or where a part of the plan has no kernel, or there is one instant alone, by the tree of the query. The only error is want of memory. (Prometheus querying.)
+/// The result of a typed query over a grid: by the tree of kernels of its plan, rewritten as is chosen, which goes on by at most a
+/// batch of instants at once, or where that isn't built, or there is one instant alone, by the tree of the query. The only error is
+/// want of memory. (Prometheus querying.)
 pub(crate) fn answered<W: Ledger>(
     alloc: Global,
     typed: &Typed,

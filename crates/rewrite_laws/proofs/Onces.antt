@@ -1,15 +1,23 @@
 -- What stands under Once nodes stays the same at each instant under each rewrite.
 use Rattle.std.proofs.Common.{◌≡◌, ◌∙◌, ℕ, List, [], ◌∷◌, map, ap, ap₂, sym, refl, Bool, true, false}
-use Rattle.std.specs.Prelude.{◌&&◌}
+use Rattle.std.specs.Prelude.{◌++◌, ◌&&◌, unwrap_or}
 use Rattle.func_table.specs.declared.table.Aggregate.TheVariants as aggregate
 use Rattle.label_set.specs.declared.rules.Grouping.{Grouping}
 use Rattle.promql_meaning.specs.Steadiness.{steady_window}
 use Rattle.logical_plan.specs.declared.steadiness.Facts.{Facts}
+use Rattle.label_set.specs.declared.rules.Rule.{Rule}
+use Rattle.logical_plan.specs.Lowering.{planned}
+use Rattle.logical_plan.specs.PlanFolds.{by_node, of-Select, of-Range, of-Filter}
+use Rattle.logical_plan.specs.declared.nodes.Plan.{Plan}
+use Rattle.logical_plan.specs.declared.nodes.PlanNode.{PlanNode}
+use Rattle.logical_plan.specs.declared.nodes.PlanNode.TheVariants as node_kind
 use Rattle.logical_plan.specs.declared.nodes.PlanNode.TheOpen.{PlanNode-F}
+use Rattle.logical_plan.specs.declared.nodes.PlanNode.TheViews.{out-PlanNode, roll-PlanNode}
 use Rattle.logical_plan.specs.Steadiness.{Checked, all_good, all_of, both, constant, is_steady, node_checked, still_if}
 use Rattle.plan_rewrite.specs.Rebuilding.{rebuilt}
 use Rattle.opt_matchers.specs.Handing.{hand_rules}
 use Rattle.opt_matchers.specs.RuleOrder.{order_rules}
+use Rattle.opt_pushdown.specs.Pushing.{push_filter, selector_with}
 use Rattle.opt_selects.specs.Bases.{merge_selects}
 use Rattle.opt_selects.specs.Selectors.{ordered, selectors}
 use Rattle.opt_selects.specs.Trimming.{trim}
@@ -17,6 +25,7 @@ use Rattle.opt_split_avg.specs.Averages.{split_average}
 use Rattle.rewrite_laws.specs.Keeping.{KeepsOnces}
 use Rattle.rewrite_laws.proofs.Ands.{and, left, right}
 use Rattle.rewrite_laws.proofs.Follows.{Child, Follows, after_of, bares, before_of, befores}
+use Rattle.rewrite_laws.proofs.Rebuilt.{every, folded, of, rolled}
 use Rattle.rewrite_laws.proofs.Singles.{handed_follows, merged_follows, ordered_follows, split_follows}
 use Rattle.rewrite_laws.proofs.Trimmed.{trimmed_follows}
 
@@ -158,6 +167,74 @@ onces_follow = record {
   bare_once = λ at c. record { alike = c.loose.alike; good = once_good c.before c.bare c.loose };
 }
 
+-- ---- filters that go into selectors
+
+abbrev facts : Plan → Checked
+facts = of node_checked (λ p. p.node)
+
+module _ (at : ℕ) (base : Plan) (more : List Rule) where
+  abbrev over : Checked
+  over = node_checked (PlanNode-F.Filter (facts base) more)
+
+  filter_is : facts (planned at (roll-PlanNode (PlanNode-F.Filter base more))) ≡ over
+  filter_is = rolled node_checked (λ p. p.node) at (PlanNode-F.Filter base more)
+
+  base_is : (y : PlanNode-F PlanNode Plan) → out-PlanNode base.node ≡ y → facts base ≡ node_checked (folded node_checked (λ p. p.node) y)
+  base_is y is = by_node node_checked (λ p. p.node) base ∙ ap (λ (z : PlanNode-F PlanNode Plan). node_checked (folded node_checked (λ p. p.node) z)) is
+
+  stays : Kept (facts (planned at (roll-PlanNode (PlanNode-F.Filter base more)))) (facts (planned at (node_kind.Filter base more)))
+  stays = same _ _ (of-Filter node_checked (λ p. p.node) at base more ∙ sym filter_is)
+
+  pushes_into : (y : PlanNode-F PlanNode Plan) → out-PlanNode base.node ≡ y
+      → Kept (facts (planned at (roll-PlanNode (PlanNode-F.Filter base more)))) (facts (planned at (unwrap_or (selector_with more y) (node_kind.Filter base more))))
+  pushes_into (PlanNode-F.Select rules moment false) is =
+      same _ _ (of-Select node_checked (λ p. p.node) at (rules ++ more) moment false
+      ∙ sym (filter_is ∙ ap (λ (c : Checked). node_checked (PlanNode-F.Filter c more)) (base_is (PlanNode-F.Select rules moment false) is)))
+  pushes_into (PlanNode-F.Range rules moment range) is =
+      same _ _ (of-Range node_checked (λ p. p.node) at (rules ++ more) moment range
+      ∙ sym (filter_is ∙ ap (λ (c : Checked). node_checked (PlanNode-F.Filter c more)) (base_is (PlanNode-F.Range rules moment range) is)))
+  pushes_into (PlanNode-F.Select rules moment true) is = stays
+  pushes_into (PlanNode-F.Number value) is = stays
+  pushes_into PlanNode-F.Time is = stays
+  pushes_into (PlanNode-F.Subquery inner range step moment) is = stays
+  pushes_into (PlanNode-F.Element f inner arguments) is = stays
+  pushes_into (PlanNode-F.Stamp inner) is = stays
+  pushes_into (PlanNode-F.Window f inner arguments) is = stays
+  pushes_into (PlanNode-F.Absent labels inner) is = stays
+  pushes_into (PlanNode-F.Buckets quantile inner) is = stays
+  pushes_into (PlanNode-F.Relabel rule inner) is = stays
+  pushes_into (PlanNode-F.Sort down inner) is = stays
+  pushes_into (PlanNode-F.ScalarOf inner) is = stays
+  pushes_into (PlanNode-F.VectorOf inner) is = stays
+  pushes_into (PlanNode-F.Group f grouping arguments label) is = stays
+  pushes_into (PlanNode-F.Pair op l r pairing) is = stays
+  pushes_into (PlanNode-F.Set op l r pairing) is = stays
+  pushes_into (PlanNode-F.Filter below rules) is = stays
+  pushes_into (PlanNode-F.Ratio sum count) is = stays
+  pushes_into (PlanNode-F.Once inner) is = stays
+
+pushes : (at : ℕ) (y : PlanNode-F PlanNode Plan) → Kept (facts (planned at (roll-PlanNode y))) (facts (planned at (push_filter at y)))
+pushes at (PlanNode-F.Filter base more) = pushes_into at base more (out-PlanNode base.node) refl
+pushes at (PlanNode-F.Select rules moment stamped) = same _ _ refl
+pushes at (PlanNode-F.Range rules moment range) = same _ _ refl
+pushes at (PlanNode-F.Number value) = same _ _ refl
+pushes at PlanNode-F.Time = same _ _ refl
+pushes at (PlanNode-F.Subquery inner range step moment) = same _ _ refl
+pushes at (PlanNode-F.Element f inner arguments) = same _ _ refl
+pushes at (PlanNode-F.Stamp inner) = same _ _ refl
+pushes at (PlanNode-F.Window f inner arguments) = same _ _ refl
+pushes at (PlanNode-F.Absent labels inner) = same _ _ refl
+pushes at (PlanNode-F.Buckets quantile inner) = same _ _ refl
+pushes at (PlanNode-F.Relabel rule inner) = same _ _ refl
+pushes at (PlanNode-F.Sort down inner) = same _ _ refl
+pushes at (PlanNode-F.ScalarOf inner) = same _ _ refl
+pushes at (PlanNode-F.VectorOf inner) = same _ _ refl
+pushes at (PlanNode-F.Group f grouping arguments label) = same _ _ refl
+pushes at (PlanNode-F.Pair op l r pairing) = same _ _ refl
+pushes at (PlanNode-F.Set op l r pairing) = same _ _ refl
+pushes at (PlanNode-F.Ratio sum count) = same _ _ refl
+pushes at (PlanNode-F.Once inner) = same _ _ refl
+
 -- ---- each rewrite
 
 pub ordered_onces : (kept : List (Bool × List ℕ)) → KeepsOnces (rebuilt (order_rules kept))
@@ -174,3 +251,6 @@ trimmed_onces p e = (trimmed_follows node_checked (λ p. p.node) Loose Kept once
 
 pub split_onces : KeepsOnces (rebuilt split_average)
 split_onces p e = (split_follows node_checked (λ p. p.node) Loose Kept onces_follow p).loose.good e
+
+pub pushed_onces : KeepsOnces (rebuilt push_filter)
+pushed_onces p e = (every node_checked (λ p. p.node) Loose Kept onces_follow push_filter pushes p).loose.good e

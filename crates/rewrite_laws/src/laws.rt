@@ -1,6 +1,7 @@
 //! The functions do nothing: each stands for what its contract says.
 ghost use Rattle.opt_matchers.specs.Handing.{hand_rules};
 ghost use Rattle.opt_matchers.specs.RuleOrder.{order_rules};
+ghost use Rattle.opt_pushdown.specs.Pushing.{push_filter};
 ghost use Rattle.opt_selects.specs.Bases.{merge_selects};
 ghost use Rattle.opt_selects.specs.Selectors.{ordered, selectors};
 ghost use Rattle.opt_selects.specs.Trimming.{trim};
@@ -28,11 +29,13 @@ pub fn rewritten_plans_are_valid()
     ensures split { KeepsValidity (rebuilt split_average) }
 {}
 
-/// What stands under the Once nodes of a plan stays the same at each instant under each of these.
+/// What stands under the Once nodes of a plan stays the same at each instant under each of these, and where filters go into the
+/// selectors that they stand over.
 pub fn rewritten_onces_are_steady()
     ensures ordered { (kept : List (Bool × List ℕ)) → KeepsOnces (rebuilt (order_rules kept)) }
     ensures handed { KeepsOnces (rebuilt hand_rules) }
     ensures merged { KeepsOnces (λ p. rebuilt (merge_selects (ordered (selectors p))) p) }
     ensures trimmed { KeepsOnces trim }
     ensures split { KeepsOnces (rebuilt split_average) }
+    ensures pushed { KeepsOnces (rebuilt push_filter) }
 {}

@@ -1,4 +1,4 @@
--- A filter over a selector of a part of the rules is the selector of all.
+-- A filter over a selector of a part of the rules is the selector of all, for proofs. (This project's own.)
 use Rattle.std.proofs.Common.{◌≡◌, ◌∙◌, ℕ, List, [], ap, sym, false}
 use Rattle.std.specs.Prelude.{ℤ}
 use Rattle.label_set.specs.declared.rules.Rule.{Rule}
