@@ -10,4 +10,6 @@ mod modifiers;
 #[cfg(test)]
 mod ranks;
 #[cfg(test)]
+mod ratios;
+#[cfg(test)]
 mod sets;
