@@ -1,8 +1,8 @@
 #!/usr/bin/env bash
 # Judges each script below tests/scripts/, whose README.md says which must pass and which must fail, and runs it in batches of
-# other sizes and with fewer rewrites of plans too, which must print the same bytes. It prints a line for each script that does
-# otherwise, and last how many scripts passed and failed. It runs tests/refusals.sh, tests/texts.sh and tests/limits.sh too. It
-# ends with 0 where all passed.
+# other sizes and with fewer rewrites of plans too, which must print the same bytes: those named optimised*.test with each choice
+# of rewrites. It prints a line for each script that does otherwise, and last how many scripts passed and failed. It runs
+# tests/refusals.sh, tests/texts.sh and tests/limits.sh too. It ends with 0 where all passed.
 #   tests/scripts.sh                   by bin/promqltest; it fails where the release isn't of the sources that stand here
 #   tests/scripts.sh --program FILE    by this program, whatever the release is
 set -u
@@ -41,13 +41,27 @@ judge_all() {
     done
 }
 
-# Runs words that printed what stands in `told` by other choices, which change no answer: they must print the same bytes.
+# Runs words that printed what stands in `told` by the other choices, which change no answer: they must print the same bytes.
 prints_so_otherwise() {
     local choice
-    for choice in --batch={1,3,64,1024} --opts={none,propagate,merge,trim,avg}; do
+    for choice in "${choices[@]}"; do
         "${program[@]}" promqltest "$choice" "$@" >"$room/otherwise"
         cmp -s "$room/told" "$room/otherwise" ||
             fails "by $choice $(diff "$room/told" "$room/otherwise" | sed -n 's/^< /lacks: /p; s/^> /prints: /p' | head -n 2 | paste -sd' ')"
+    done
+}
+
+# Each choice among five rewrites.
+all_rewrites() {
+    local number rest name names
+    for number in {0..31}; do
+        rest=$number names=
+        for name in sort propagate merge trim avg; do
+            [ $((rest % 2)) = 0 ] || names+=,$name
+            rest=$((rest / 2))
+        done
+        names=${names#,}
+        echo "--opts=${names:-none}"
     done
 }
 
@@ -86,20 +100,24 @@ else
     fi
 fi
 mapfile -t files < <(find . -type f | sed 's,^\./,,' | sort)
-together=() alone=()
+together=() alone=() optimised=()
 for file in "${files[@]}"; do
     name=${file%.*}
     case $file in
         README.md) ;;
+        optimised*.test) optimised+=("$file") ;;
         *.test) [ -e "$name.expected" ] || [ -e "$name.words" ] && alone+=("$file") || together+=("$file") ;;
         *.expected | *.status | *.words) [ -e "$name.test" ] || fails "$file stands beside no script" ;;
         *) fails "$file is no script" ;;
     esac
 done
+choices=(--batch={1,3,64,1024} --opts={none,propagate,merge,trim,avg})
 judge_all "${together[@]}"
 for file in "${alone[@]}"; do judge_one "$file"; done
+mapfile -t choices < <(all_rewrites)
+judge_all "${optimised[@]}"
 for more in refusals texts limits; do
     [ ! -e "$top/tests/$more.sh" ] || "$top/tests/$more.sh" "${program[0]}" || failed=$((failed + 1))
 done
-echo "scripts: ${#together[@]} that pass as they stand, ${#alone[@]} with files beside them, $failed failed"
+echo "scripts: ${#together[@]} that pass as they stand, ${#optimised[@]} by each choice of rewrites, ${#alone[@]} with files beside them, $failed failed"
 [ "$failed" -eq 0 ]
