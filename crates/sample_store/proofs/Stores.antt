@@ -19,16 +19,16 @@ use Rattle.std.specs.declared.cmp.Ordering.TheVariants.{Less, Equal, Greater}
 use Rattle.label_set.specs.Entries.{recursion_map, sorted_insert}
 use Rattle.ticks.specs.declared.moment.Ms.{Ms}
 use Rattle.xfrac.specs.declared.value.Held.{Held}
-use Rattle.sample_store.specs.Samples.{AllSeries, IsFoundAt, IsRising, Puts, PutsAt, Appends, IsRoomIn, IsStore, IsTimeAt, IsTimeGapAt, Names, Samples, IsNumberOf, held_in, is_same, labels_at, later_than, samples_at, limit_broken, refusal_beside, refusal_in, refusal_of, sample_count, samples_of, time_cmp, with_sample}
+use Rattle.sample_store.specs.Samples.{AllSeries, ArePostings, Pair, Postings, has_pair, numbers_with, IsFoundAt, IsRising, Puts, PutsAt, Appends, IsRoomIn, IsStore, IsTimeAt, IsTimeGapAt, Names, Samples, IsNumberOf, held_in, is_same, labels_at, later_than, samples_at, limit_broken, refusal_beside, refusal_in, refusal_of, sample_count, samples_of, time_cmp, with_sample}
 use Rattle.sample_store.specs.declared.refusal.StoreRefusal.{StoreRefusal}
 use Rattle.sample_store.specs.declared.refusal.StoreRefusal.TheVariants.{Conflict, TooManySamples, TooManySeries, Memory}
 use Rattle.sample_store.proofs.Columns.{length_inserted}
 use Rattle.sample_store.specs.Laws.{time_cmp_total}
 use Rattle.sample_store.specs.Laws.{held_same}
 
-pub store_empty : (series : AllSeries) → series ≡ [] → IsStore series 0
+pub store_empty : (series : AllSeries) (lists : Postings) → series ≡ [] → lists ≡ [] → IsStore series 0 lists
 unfolding IsDistinct
-store_empty series e = subst (λ z. IsStore z 0) (sym e) (record { labelled = tt; distinct = tt; rising = tt; counted = refl; few_series = omega arith; few_samples = omega arith })
+store_empty series lists e f = subst (λ z. IsStore z 0 lists) (sym e) (subst (λ z. IsStore [] 0 z) (sym f) (record { labelled = tt; distinct = tt; rising = tt; counted = refl; few_series = omega arith; few_samples = omega arith; listed = record { exact = λ pair ne. refl } }))
 
 rising-one : (at : Ms) (held : Held) → IsRising ((at, held) ∷ [])
 unfolding IsStrictlySortedBy
@@ -178,7 +178,7 @@ found-read series i names kept d h e = by (slice_get series i) refl h
         let same : one.0 ≡ names = (let f : one.0 ≡ kept = cc in f ∙ e) in
         subst (λ z. IsFoundAt series z i) same (found-at series i one.0 one.1 d p)
 
-put-new : (series : AllSeries) (names : Names) (more : Samples) → lookup (labels_eq names) series ≡ None → put_entry labels_eq series names more ≡ series ++ (names, more) ∷ []
+pub put-new : (series : AllSeries) (names : Names) (more : Samples) → lookup (labels_eq names) series ≡ None → put_entry labels_eq series names more ≡ series ++ (names, more) ∷ []
 put-new [] names more h = refl
 put-new (x ∷ xs) names more h = by (labels_eq names x.0) refl h (put-new xs names more)
   where
@@ -207,9 +207,9 @@ labelled-set [] i samples a = tt
 labelled-set (x ∷ xs) zero samples a = (a.0, a.1)
 labelled-set (x ∷ xs) (suc i) samples a = (a.0, labelled-set xs i samples a.1)
 
-pub store-series : (series new : AllSeries) (count : ℕ) (names kept : Names) (at : Ms) (held : Held) (samples : Samples) → IsStore series count → lookup (labels_eq names) series ≡ None
-    → IsLabelSet names → ◌≡◌ {A = Names × Samples} (kept, samples) (names, (at, held) ∷ []) → new ≡ put_entry labels_eq series kept samples → IsDistinct labels_eq (keys_of new) → length series < 100000 → count < 2000000 → IsStore new (count + 1)
-store-series series new count names kept at held samples s absent told one e d few fewer =
+pub store-series : (series new : AllSeries) (count : ℕ) (lists more : Postings) (names kept : Names) (at : Ms) (held : Held) (samples : Samples) → IsStore series count lists → lookup (labels_eq names) series ≡ None
+    → IsLabelSet names → ◌≡◌ {A = Names × Samples} (kept, samples) (names, (at, held) ∷ []) → new ≡ put_entry labels_eq series kept samples → IsDistinct labels_eq (keys_of new) → length series < 100000 → count < 2000000 → ArePostings new more → IsStore new (count + 1) more
+store-series series new count lists more names kept at held samples s absent told one e d few fewer listed =
     let one0 : kept ≡ names = ap (λ (z : Names × Samples). z.0) one in
     let one1 : samples ≡ (at, held) ∷ [] = ap (λ (z : Names × Samples). z.1) one in
     let is : new ≡ series ++ (kept, samples) ∷ [] = e ∙ put-new series kept samples (subst (λ z. lookup (labels_eq z) series ≡ None) (sym one0) absent) in
@@ -224,11 +224,22 @@ store-series series new count names kept at held samples s absent told one e d f
           omega (arith, h, c, l);
       few_series = let h = ap length is ∙ length-more series (kept, samples) in omega (arith, h, few);
       few_samples = omega (arith, fewer);
+      listed = listed;
     }
 
+-- a store without a series that didn't come, whose lists tell the same
+pub store_relisted : (series new : AllSeries) (count : ℕ) (lists more : Postings) → IsStore series count lists → new ≡ series → ArePostings new more → IsStore new count more
+store_relisted series new count lists more s e a = subst (λ z. IsStore z count more) (sym e)
+    (record { labelled = s.labelled; distinct = s.distinct; rising = s.rising; counted = s.counted; few_series = s.few_series; few_samples = s.few_samples; listed = subst (λ z. ArePostings z more) e a })
+
+numbers-set : (pair : Pair) (n : ℕ) (series : AllSeries) (i : ℕ) (samples : Samples) → numbers_with pair n (set_value_at series i samples) ≡ numbers_with pair n series
+numbers-set pair n [] i samples = refl
+numbers-set pair n (x ∷ xs) zero samples = refl
+numbers-set pair n (x ∷ xs) (suc i) samples = ap (λ ns. if has_pair pair x.0 then n ∷ ns else ns) (numbers-set pair (n + 1) xs i samples)
+
 -- a store in which a series took a sample
-pub store-put : (series new : AllSeries) (place count total : ℕ) (at : Ms) (held : Held) → IsStore series count → PutsAt series new place at held count (Ok total) → IsStore new total
-store-put series new place count total at held s p = subst (λ z. IsStore z total) (sym p.changed) (record {
+pub store-put : (series new : AllSeries) (place count total : ℕ) (lists : Postings) (at : Ms) (held : Held) → IsStore series count lists → PutsAt series new place at held count (Ok total) → IsStore new total lists
+store-put series new place count total lists at held s p = subst (λ z. IsStore z total lists) (sym p.changed) (record {
   labelled = labelled-set series place p.after s.labelled;
   distinct = subst (IsDistinct labels_eq) (sym (keys-set series place p.after)) s.distinct;
   rising = rising-set series place p.after s.rising p.puts.4;
@@ -239,6 +250,7 @@ store-put series new place count total at held s p = subst (λ z. IsStore z tota
       omega (arith, g, c, t);
   few_series = let l = length-set series place p.after in let f = s.few_series in omega (arith, l, f);
   few_samples = p.puts.3;
+  listed = record { exact = λ pair ne. s.listed.exact pair ne ∙ sym (numbers-set pair 0 series place p.after) };
 })
 
 set-back : (series : AllSeries) (i : ℕ) (names : Names) (samples : Samples) → slice_get series i ≡ Some (names, samples) → set_value_at series i samples ≡ series
@@ -249,7 +261,7 @@ set-back (x ∷ xs) (suc i) names samples h = ap (λ zs. x ∷ zs) (set-back xs 
 pub left-as-was : (series new : AllSeries) (place count : ℕ) (at : Ms) (held : Held) (e : StoreRefusal) → PutsAt series new place at held count (Err e) → new ≡ series
 left-as-was series new place count at held e p = p.changed ∙ ap (set_value_at series place) p.puts.0 ∙ set-back series place p.names p.before p.there
 
-module _ (series : AllSeries) (names : Names) (at : Ms) (held : Held) (place count : ℕ) (s : IsStore series count) (f : IsFoundAt series names place) where
+module _ (series : AllSeries) (names : Names) (at : Ms) (held : Held) (place count : ℕ) (lists : Postings) (s : IsStore series count lists) (f : IsFoundAt series names place) where
   samples-are : samples_of series names ≡ f.samples
   samples-are = ap (λ o. unwrap_or o []) f.known
 
@@ -294,16 +306,16 @@ labels_set (x ∷ xs) (suc i) more (suc k) = labels_set xs i more k
 labels_there : (series : AllSeries) (place : ℕ) (names : Names) (samples : Samples) → slice_get series place ≡ Some (names, samples) → labels_at series place ≡ names
 labels_there series place names samples h = ap (λ (o : Option (Names × Samples)). unwrap_or (option_map (λ (one : Names × Samples). one.0) o) []) h
 
-module _ (series new : AllSeries) (place count : ℕ) (at : Ms) (held : Held) (s : IsStore series count) where
+module _ (series new : AllSeries) (place count : ℕ) (at : Ms) (held : Held) (lists : Postings) (s : IsStore series count lists) where
   pub into_ok : (total : ℕ) → PutsAt series new place at held count (Ok total) → Appends series new (labels_at series place) at held (Ok tt)
   into_ok total p =
       subst (λ (z : Names). Appends series new z at held (Ok tt)) (sym (labels_there series place p.names p.before p.there))
-      (appends-ok series p.names at held place count s (found-at series place p.names p.before s.distinct p.there) new total p)
+      (appends-ok series p.names at held place count lists s (found-at series place p.names p.before s.distinct p.there) new total p)
 
   pub into_err : (e : StoreRefusal) → PutsAt series new place at held count (Err e) → Appends series new (labels_at series place) at held (Err e)
   into_err e p =
       subst (λ (z : Names). Appends series new z at held (Err e)) (sym (labels_there series place p.names p.before p.there))
-      (appends-err series p.names at held place count s (found-at series place p.names p.before s.distinct p.there) new e p)
+      (appends-err series p.names at held place count lists s (found-at series place p.names p.before s.distinct p.there) new e p)
 
 pub many_as_was : (series new : AllSeries) (place count : ℕ) (at : Ms) (held : Held) (r : Result ℕ StoreRefusal) → PutsAt series new place at held count r → length new ≡ length series
 many_as_was series new place count at held r p = ap length p.changed ∙ length-set series place p.after
@@ -392,11 +404,11 @@ total_later series s after rest samples there later = later ∙ ap (later_than a
 pub total_rising : (series : AllSeries) (s : ℕ) (samples : Samples) → option_map (λ (one : Names × Samples). one.1) (slice_get series s) ≡ Some samples → IsRising samples → IsRising (samples_at series s)
 total_rising series s samples there rising = subst IsRising (sym (total_samples series s samples there)) rising
 
-pub few_there : (series : AllSeries) (count i : ℕ) (samples : Samples) → IsStore series count → option_map (λ (one : Names × Samples). one.1) (slice_get series i) ≡ Some samples → length samples ≤ 2000000
-few_there series count i samples s h = let o = one-there series i samples h in let b = below-count series i o.0 samples o.1 in let c = s.counted in let f = s.few_samples in omega (arith, b, c, f)
+pub few_there : (series : AllSeries) (count i : ℕ) (lists : Postings) (samples : Samples) → IsStore series count lists → option_map (λ (one : Names × Samples). one.1) (slice_get series i) ≡ Some samples → length samples ≤ 2000000
+few_there series count i lists samples s h = let o = one-there series i samples h in let b = below-count series i o.0 samples o.1 in let c = s.counted in let f = s.few_samples in omega (arith, b, c, f)
 
-pub rising_there : (series : AllSeries) (count i : ℕ) (samples : Samples) → IsStore series count → option_map (λ (one : Names × Samples). one.1) (slice_get series i) ≡ Some samples → IsRising samples
-rising_there series count i samples s h = let o = one-there series i samples h in rising-at series i o.0 samples s.rising o.1
+pub rising_there : (series : AllSeries) (count i : ℕ) (lists : Postings) (samples : Samples) → IsStore series count lists → option_map (λ (one : Names × Samples). one.1) (slice_get series i) ≡ Some samples → IsRising samples
+rising_there series count i lists samples s h = let o = one-there series i samples h in rising-at series i o.0 samples s.rising o.1
 
 -- ---- an equal sample changes nothing
 

@@ -1,6 +1,6 @@
 -- What a store holds: series in the order of their first samples, each with its samples in rising time (Prometheus, "Data
 -- model"). That an equal sample is taken twice and another one refused, and the limits, are this project's own.
-use Rattle.std.specs.Prelude.{Bool, true, false, ◌&&◌, ◌==◌, nat_le, is_none, if◌then◌else◌, ◌≡◌, ◌<◌, ◌≤◌, ◌+◌, ◌++◌, slice_get, slice_set, insert, ℕ, List, [], ◌∷◌, length, Option, None, Some, int_lt, unwrap_or, filter, Result, Ok, Err, MatchOption, map, Contains, ◌↔◌}
+use Rattle.std.specs.Prelude.{Bool, true, false, ◌&&◌, ◌==◌, nat_le, is_none, if◌then◌else◌, ◌≡◌, ◌≢◌, ◌<◌, ◌≤◌, ◌+◌, ◌++◌, slice_get, slice_set, insert, ℕ, List, [], ◌∷◌, length, min, bytes_eq, Option, None, Some, int_lt, unwrap_or, filter, Result, Ok, Err, MatchOption, map, Contains, ◌↔◌}
 use Rattle.std.specs.BTreeMap.{insert_entry, is_at}
 use Rattle.std.specs.List.{AllByRecursion, IsDistinct}
 pub use Rattle.indexmap.specs.IndexMap.{insert_entry as put_entry}
@@ -11,9 +11,11 @@ use Rattle.std.specs.Option.{option_map}
 use Rattle.std.specs.Map.{keys_of, lookup}
 use Rattle.std.specs.Ordering.{int_cmp, int_eq, on}
 use Rattle.std.specs.declared.cmp.Ordering.{Ordering}
-use Rattle.label_set.specs.Labels.{IsLabelSet, labels_cmp}
+use Rattle.label_set.specs.Labels.{IsLabelSet, labels_cmp, value_of}
 use Rattle.label_set.specs.LabelOrder.{by_labels}
 use Rattle.label_set.specs.declared.rules.Rule.{Rule}
+use Rattle.label_set.specs.declared.rules.RuleKind.{RuleKind}
+use Rattle.label_set.specs.declared.rules.RuleKind.TheVariants.{Eq}
 use Rattle.match_rule.specs.Patterns.{labels_pass}
 use Rattle.sample_store.specs.declared.refusal.StoreRefusal.{StoreRefusal}
 use Rattle.sample_store.specs.declared.refusal.StoreRefusal.TheVariants.{Conflict, TooManySamples, TooManySeries, Memory}
@@ -46,15 +48,45 @@ abbrev pub sample_count : AllSeries → ℕ
 sample_count [] = 0
 sample_count (s ∷ series) = length s.1 + sample_count series
 
+-- a label with its value
+abbrev pub Pair : Type 0
+Pair = List ℕ × List ℕ
+
+abbrev pub pair_eq : Pair → Pair → Bool
+pair_eq p q = bytes_eq p.0 q.0 && bytes_eq p.1 q.1
+
+-- whether labels have a pair; a label that is missing reads as the empty text
+abbrev pub has_pair : Pair → Names → Bool
+has_pair pair names = bytes_eq (value_of names pair.0) pair.1
+
+-- the rising numbers of the series that have a pair, where the first of these series has this number
+abbrev pub numbers_with : Pair → ℕ → AllSeries → List ℕ
+numbers_with pair number [] = []
+numbers_with pair number (s ∷ series) =
+    if has_pair pair s.0 then number ∷ numbers_with pair (number + 1) series else numbers_with pair (number + 1) series
+
+-- numbers of series, each list under one pair
+abbrev pub Postings : Type 0
+Postings = List (Pair × List ℕ)
+
+-- the numbers under a pair, none where there is no such list
+abbrev pub posted : Postings → Pair → List ℕ
+posted lists pair = unwrap_or (lookup (pair_eq pair) lists) []
+
+-- each pair with a value has the numbers of its series
+pub record ArePostings (series : AllSeries) (lists : Postings) : Type 0 where
+  pub exact : (pair : Pair) → pair.1 ≢ [] → posted lists pair ≡ numbers_with pair 0 series
+
 -- series in the order of their first samples: the labels of each are a label set, no two have equal labels, the times of each
--- rise, the limits are kept, and the samples are counted
-pub record IsStore (series : AllSeries) (samples : ℕ) : Type 0 where
+-- rise, the limits are kept, the samples are counted, and each pair has the numbers of its series
+pub record IsStore (series : AllSeries) (samples : ℕ) (lists : Postings) : Type 0 where
   pub labelled : AllByRecursion (λ s. IsLabelSet s.0) series
   pub distinct : IsDistinct labels_eq (keys_of series)
   pub rising : AllByRecursion (λ s. IsRising s.1) series
   pub counted : samples ≡ sample_count series
   pub few_series : length series ≤ 100000
   pub few_samples : samples ≤ 2000000
+  pub listed : ArePostings series lists
 
 -- the samples under some labels, none where there is no such series
 abbrev pub samples_of : AllSeries → Names → Samples
@@ -180,9 +212,43 @@ pub record IsSelected (kept : List (Bool × List ℕ)) (rules : List Rule) (seri
 abbrev pub chosen : List (Bool × List ℕ) → List Rule → AllSeries → AllSeries
 chosen kept rules series = filter (λ s. labels_pass kept rules s.0) (by_labels series)
 
--- how many series a selection looks at
+-- of the series with some numbers those that pass, by labels and number
+abbrev pub passing_at : List (Bool × List ℕ) → List Rule → AllSeries → List ℕ → List (Names × ℕ)
+passing_at kept rules series [] = []
+passing_at kept rules series (n ∷ ns) =
+    if labels_pass kept rules (labels_at series n) then (labels_at series n, n) ∷ passing_at kept rules series ns else passing_at kept rules series ns
+
+-- the pair that a rule asks for: `=` with a text that isn't empty
+abbrev pub asked_under : List ℕ → RuleKind → Option Pair
+asked_under label (Eq text) = if length text == 0 then None else Some (label, text)
+asked_under label kind = None
+
+abbrev pub asked : Rule → Option Pair
+asked rule = asked_under rule.label rule.kind
+
+-- the least of a number and of what some rules' pairs count
+abbrev pub fewer : (Pair → ℕ) → ℕ → Option Pair → ℕ
+fewer count most None = most
+fewer count most (Some pair) = min (count pair) most
+
+abbrev pub fewest : (Pair → ℕ) → ℕ → List Rule → ℕ
+fewest count most [] = most
+fewest count most (rule ∷ rules) = fewest count (fewer count most (asked rule)) rules
+
+-- how many series a selection looks at: as many as have the rarest of the pairs that its rules ask for, or all
 abbrev pub looked_at : List Rule → AllSeries → ℕ
-looked_at rules series = length series
+looked_at rules series = fewest (λ pair. length (numbers_with pair 0 series)) (length series) rules
+
+-- some numbers are those of a pair that the rules ask for
+pub record IsListed (rules : List Rule) (series : AllSeries) (numbers : List ℕ) : Type 0 where
+  pub label : List ℕ
+  pub text : List ℕ
+  pub among : Contains rules (record { label = label; kind = Eq text })
+  pub exact : numbers ≡ numbers_with (label, text) 0 series
+
+-- they are those of the rarest such pair
+abbrev pub IsShortest : List Rule → AllSeries → List ℕ → Type 0
+IsShortest rules series numbers = IsListed rules series numbers × (length numbers ≡ looked_at rules series)
 
 -- some pairs in the order of their labels
 pub record IsInOrder (pairs : List (Names × ℕ)) (places : List ℕ) : Type 0 where

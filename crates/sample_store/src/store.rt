@@ -7,6 +7,7 @@ ghost use Rattle.std.specs.List.{AllByRecursion, IsDistinct, filter_map};
 ghost use Rattle.std.specs.Option.{option_map};
 ghost use Rattle.std.specs.Prelude.{◌≡◌, ◌<◌, ◌≤◌, ◌+◌, ◌++◌, ℕ, Some, None, [], ◌∷◌, length, slice_get, IfOk, IsOk, IsOkUnless, MatchOption, OnErr, OnOk};
 
+use crate::postings::{Postings, put_series};
 use crate::select::places_of;
 use crate::timeline::Timeline;
 use crate::{Cursor, StoreRefusal};
@@ -35,6 +36,8 @@ pub struct Store {
     samples: u32,
     /// The place of the series that took the last sample.
     latest: usize,
+    /// The numbers of the series of each pair of a label and its value.
+    postings: Postings,
 }
 
 impl Model for Store {
@@ -44,7 +47,7 @@ impl Model for Store {
 
     ghost view = { λ s. s.series.entries };
 
-    ghost invariant = { λ s. IsStore s.series.entries s.samples };
+    ghost invariant = { λ s. IsStore s.series.entries s.samples s.postings.entries };
 }
 
 impl Store {
@@ -58,6 +61,7 @@ impl Store {
             alloc,
             samples: 0,
             latest: 0,
+            postings: IndexMap::new(alloc),
         }
     }
 
@@ -69,6 +73,7 @@ impl Store {
         self.series.clear();
         self.samples = 0;
         self.latest = 0;
+        self.postings.clear();
     }
 
     /// How many series there are. It takes no memory.
@@ -111,9 +116,10 @@ impl Store {
         }
     }
 
-    /// The numbers of the series whose labels pass each rule, in the order of labels; each series that is looked at is
-    /// counted as tested. The patterns of the rules must be of `Patterns::whole`, from these patterns. The only error is
-    /// want of memory; then no series was counted twice.
+    /// The numbers of the series whose labels pass each rule, in the order of labels. It looks at the series of the rarest
+    /// pair that an `=` rule with a text asks for, or at all where no rule asks for one, and counts each of them as tested.
+    /// The patterns of the rules must be of `Patterns::whole`, from these patterns. The only error is want of memory; then
+    /// no series was counted twice.
     #[tactic(auto, using(crate::proofs::Chosen::chosen_by))]
     pub fn select<W: Ledger>(
         &self,
@@ -131,7 +137,14 @@ impl Store {
         ensures probed { work.new.probed ≡ work.old.probed }
         ensures same { patterns.new ≡ patterns.old }
     {
-        places_of(self.alloc, &self.series, rules.as_slice(), patterns, work)
+        places_of(
+            self.alloc,
+            &self.series,
+            &self.postings,
+            rules.as_slice(),
+            patterns,
+            work,
+        )
     }
 
     /// A cursor before the samples of a series that are later than a time. It takes no memory, and looks at no more than
@@ -224,6 +237,7 @@ impl Store {
     }
 
     /// Puts in a series of one sample.
+    #[tactic(auto, using(crate::proofs::Stores::store_relisted))]
     fn add_series(&mut self, labels: &Labels, at: Ms, held: &Held) -> Result<(), StoreRefusal>
         requires absent { lookup (labels_eq labels.now) self.old ≡ None }
         ensures { Appends self.old self.new labels.now at held.now result }
@@ -237,14 +251,22 @@ impl Store {
         }
         match one_sample(self.alloc, labels, at, held) {
             Err(_) => Err(StoreRefusal::Memory),
-            Ok((names, samples)) => match self.series.insert(names, samples) {
-                Err(_) => Err(StoreRefusal::Memory),
-                Ok(_) => {
-                    self.samples += 1;
-                    self.latest = place;
-                    Ok(())
+            Ok((names, samples)) => {
+                match put_series(
+                    self.alloc,
+                    &mut self.series,
+                    &mut self.postings,
+                    names,
+                    samples,
+                ) {
+                    Err(_) => Err(StoreRefusal::Memory),
+                    Ok(()) => {
+                        self.samples += 1;
+                        self.latest = place;
+                        Ok(())
+                    }
                 }
-            },
+            }
         }
     }
 }
