@@ -4,6 +4,8 @@
 #[cfg(test)]
 mod labels;
 #[cfg(test)]
+mod lists;
+#[cfg(test)]
 mod outside;
 #[cfg(test)]
 mod patterns;
