@@ -1,3 +1,6 @@
+pub mod BestAre
+pub mod BestKept
+pub mod BestSorted
 pub mod Choosing
 pub mod Feeding
 pub mod Firsts

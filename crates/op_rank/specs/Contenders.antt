@@ -1,8 +1,7 @@
 -- The rows of a step by numbers alone: each has the place of its group, and the rank of its labels among all that are fed.
 -- (This project's own.)
-use Rattle.std.specs.Prelude.{◌≡◌, ℕ, ◌+◌, ◌<◌, Bool, ◌==◌, ◌&&◌, nat_lt, List, [], ◌∷◌, length, filter, count_by, slice_get, slice_index_or, Some, Ok, if◌then◌else◌}
+use Rattle.std.specs.Prelude.{◌≡◌, ℕ, zero, suc, ◌+◌, ◌<◌, Bool, ◌==◌, ◌&&◌, nat_lt, List, [], ◌∷◌, length, filter, count_by, slice_get, slice_index_or, Some, Ok, if◌then◌else◌}
 use Rattle.std.specs.List.{AllByRecursion, list_any}
-use Rattle.std.specs.List.Sorted.{IsStrictlySortedBy}
 use Rattle.std.specs.Ordering.{is_lt, nat_cmp, ordering_then}
 use Rattle.std.specs.declared.cmp.Ordering.{Ordering}
 use Rattle.label_set.specs.Labels.{labels_cmp}
@@ -12,7 +11,8 @@ use Rattle.step_batch.specs.declared.steps.Slot.{Slot}
 use Rattle.step_put.specs.declared.placed.PlacedOutcome.{PlacedOutcome}
 use Rattle.step_table.specs.Groups.{Names}
 use Rattle.xfrac.specs.Laws.{IsNumber}
-use Rattle.op_rank.specs.declared.contenders.Contender.{Contender}
+use Rattle.op_rank.specs.declared.best.Best.{Best}
+use Rattle.op_rank.specs.declared.best.Contender.{Contender}
 
 -- ---- slots
 
@@ -52,50 +52,49 @@ AreApart ranks = (i j : ℕ) → i < length ranks → j < length ranks → slice
 -- ---- contenders
 
 -- a slot by numbers alone
-abbrev pub contender_of : List ℕ → List ℕ → ℕ → Slot → Contender
-contender_of groups ranks at slot = record { at = at; group = number_at groups slot; value = slot.value; rank = number_at ranks slot }
+abbrev pub contender_of : List ℕ → ℕ → Slot → Contender
+contender_of ranks at slot = record { at = at; value = slot.value; rank = number_at ranks slot }
 
--- slots, numbered from one on
-abbrev pub contenders_from : List ℕ → List ℕ → ℕ → List Slot → List Contender
-contenders_from groups ranks at [] = []
-contenders_from groups ranks at (slot ∷ slots) = contender_of groups ranks at slot ∷ contenders_from groups ranks (at + 1) slots
+-- the slots of a group, where slots are numbered from one on
+abbrev pub contenders_in : List ℕ → List ℕ → ℕ → ℕ → List Slot → List Contender
+contenders_in groups ranks group at [] = []
+contenders_in groups ranks group at (slot ∷ slots) =
+    if group == number_at groups slot then contender_of ranks at slot ∷ contenders_in groups ranks group (at + 1) slots
+    else contenders_in groups ranks group (at + 1) slots
 
 -- by value, those of equal values by rank
-abbrev pub order_within : Bool → Contender → Contender → Ordering
-order_within down a b = ordering_then (value_order down a.value b.value) (nat_cmp a.rank b.rank)
-
--- by groups, and so in each group
 abbrev pub contender_order : Bool → Contender → Contender → Ordering
-contender_order down a b = ordering_then (nat_cmp a.group b.group) (order_within down a b)
+contender_order down a b = ordering_then (value_order down a.value b.value) (nat_cmp a.rank b.rank)
 
 -- the same order, of all that look like numbers
 abbrev pub tidied : Contender → Contender
-tidied c = record { at = c.at; group = c.group; value = tidy c.value; rank = c.rank }
+tidied c = record { at = c.at; value = tidy c.value; rank = c.rank }
 
 unfoldable pub tidied_order : Bool → Contender → Contender → Ordering
 tidied_order down a b = contender_order down (tidied a) (tidied b)
 
-abbrev pub AreNumbers : List Contender → Type 0
-AreNumbers contenders = AllByRecursion (λ (c : Contender). IsNumber c.value) contenders
+-- a contender comes before another
+abbrev pub before : Bool → Contender → Contender → Bool
+before down a b = is_lt (tidied_order down a b)
 
--- contenders in their order, no two alike
-pub record AreSorted (down : Bool) (contenders : List Contender) : Type 0 where
-  pub sorted : IsStrictlySortedBy (tidied_order down) contenders
-  pub numbers : AreNumbers contenders
+abbrev pub AreNumbers : List Slot → Type 0
+AreNumbers slots = AllByRecursion (λ (slot : Slot). IsNumber slot.value) slots
 
--- another contender of the same group comes before one
-abbrev pub is_ahead : Bool → Contender → Contender → Bool
-is_ahead down c other = (c.group == other.group) && is_lt (order_within down other c)
-
--- fewer than k contenders of its group come before one
-abbrev pub is_among : Bool → ℕ → List Contender → Contender → Bool
-is_among down k all c = nat_lt (count_by (is_ahead down c) all) k
-
--- whether a contender of some that is among the first k of its group has this number
-abbrev pub has_among : Bool → ℕ → List Contender → List Contender → ℕ → Bool
-has_among down k all some at = list_any (λ (c : Contender). (c.at == at) && is_among down k all c) some
+-- what is kept of a group; nothing where there is no such group
+abbrev pub kept_in : List Best → ℕ → List Contender
+kept_in [] group = []
+kept_in (b ∷ best) zero = b.kept.items
+kept_in (b ∷ best) (suc group) = kept_in best group
 
 -- ---- marks
+
+-- one of some contenders has a number
+abbrev pub has_at : ℕ → List Contender → Bool
+has_at at some = list_any (λ (c : Contender). c.at == at) some
+
+-- one that is kept of some group has it
+abbrev pub is_in_some : ℕ → List Best → Bool
+is_in_some at best = list_any (λ (b : Best). has_at at b.kept.items) best
 
 -- the slots that have a mark
 abbrev pub marked : List Bool → List Slot → List Slot

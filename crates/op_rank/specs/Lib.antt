@@ -1,7 +1,9 @@
+pub mod Best
 pub mod Contenders
 pub mod Entries
 pub mod Groups
 pub mod LabelOrders
+pub mod Laws
 pub mod Quantiles
 pub mod Rules
 pub mod ValueCounts

@@ -1,40 +1,30 @@
-//! The rows of a step by numbers alone, and the first of each group by value.
-ghost use Rattle.op_rank.specs.Contenders.{AreApart, AreNumbers, AreSorted, as_made, chosen, contender_order as order_of_contenders, contenders_from, has_among, is_among, marked, number_at as number_of, tidied_order};
-ghost use Rattle.std.specs.List.{All, IsDistinct};
-ghost use Rattle.std.specs.List.Sorted.{IsPermutation};
-ghost use Rattle.std.specs.Ordering.{eq_by_cmp};
-ghost use Rattle.std.specs.Prelude.{◌≡◌, ◌==◌, ◌||◌, ◌++◌, ◌<◌, ℕ, false, true, length, map, replicate, slice_index_or, OnOk};
+//! The first of each group among the rows of a step, by value.
+ghost use Rattle.op_rank.specs.Best.{AreBest, Keeps};
+ghost use Rattle.op_rank.specs.Contenders.{AreApart, AreNumbers, as_made, before, chosen, contender_of, contenders_in, has_at, is_in_some, kept_in, marked, number_at as number_of};
+ghost use Rattle.std.specs.List.{All, AllByRecursion};
+ghost use Rattle.std.specs.Prelude.{◌≡◌, ◌||◌, ◌++◌, ◌<◌, ◌≤◌, [], ℕ, false, length, map, replicate, slice_index_or, OnOk};
 ghost use Rattle.step_batch.specs.Lent.{SlotsRise};
 
-use promql_meaning::value_order;
+use crate::best::{Best, Contender, Wanted};
 use std::alloc::{AllocError, Global};
-use std::cmp::Ordering;
 use step_batch::Slot;
 use step_put::PlacedOutcome;
-use xfrac::XFrac;
 use xfrac::laws::{is_number, order_is_total};
 
-/// A row of a step: which of its slots it has, the place of its group, its value and the rank of its labels.
-#[derive(Clone, Copy, Debug)]
-pub(crate) struct Contender {
-    pub at: usize,
-    pub group: usize,
-    pub value: XFrac,
-    pub rank: usize,
-}
-
-/// How slots are ranked: beside each place its group and the rank of its labels, and from the greatest value down, or up.
+/// How slots are ranked: beside each place its group, of so many, and the rank of its labels, and from the greatest value down,
+/// or up.
 #[derive(Clone, Copy)]
 pub(crate) struct Ranking<'a> {
     pub groups: &'a [usize],
+    pub group_count: usize,
     pub ranks: &'a [usize],
     pub down: bool,
 }
 
-/// The memory that is kept for choosing among the rows of a step.
+/// The memory that is kept for choosing among the rows of a step: the best of each group, and which slots are taken.
 #[derive(Drop)]
 pub(crate) struct Choice {
-    contenders: Vec<Contender>,
+    best: Vec<Best>,
     is_taken: Vec<bool>,
     pub placed: Vec<PlacedOutcome>,
 }
@@ -42,7 +32,7 @@ pub(crate) struct Choice {
 impl Choice {
     pub(crate) fn new(alloc: Global) -> Choice {
         Choice {
-            contenders: Vec::new(alloc),
+            best: Vec::new(alloc),
             is_taken: Vec::new(alloc),
             placed: Vec::new(alloc),
         }
@@ -52,54 +42,100 @@ impl Choice {
     /// only error is want of memory.
     pub(crate) fn choose(
         &mut self,
+        alloc: Global,
         ranking: &Ranking<'_>,
         slots: &[Slot],
         count: u64,
     ) -> Result<(), AllocError>
         requires groups { SlotsRise 0 (length ranking.now.groups.now) slots.now }
+        requires within { All (λ group. group < ranking.now.group_count) ranking.now.groups.now }
         requires ranks { length ranking.now.ranks.now ≡ length ranking.now.groups.now }
         requires apart { AreApart ranking.now.ranks.now }
         ensures { OnOk result (self.new.placed.items ≡ map as_made (chosen ranking.now.down ranking.now.groups.now ranking.now.ranks.now count slots.now)) }
     {
+        order_is_total();
         self.placed.clear();
         if count == 0 {
             return Ok(());
         }
-        list(&mut self.contenders, ranking.groups, ranking.ranks, slots)?;
-        sort(&mut self.contenders, ranking.down);
+        let wanted = Wanted {
+            down: ranking.down,
+            count,
+        };
+        empty_all(&mut self.best);
+        make_room(alloc, &mut self.best, ranking.group_count)?;
+        offer_all(&mut self.best, ranking, wanted, slots)?;
+        settle_all(&mut self.best, wanted);
         mark_none(&mut self.is_taken, slots.len())?;
-        mark_first(&mut self.is_taken, self.contenders.as_slice(), count);
+        mark_all(&mut self.is_taken, self.best.as_slice());
         put_taken(&mut self.placed, self.is_taken.as_slice(), slots)?;
         Ok(())
     }
 }
 
-/// Lists the slots by numbers, in the place of what was listed.
-fn list(
-    contenders: &mut Vec<Contender>,
-    groups: &[usize],
-    ranks: &[usize],
+/// Empties what is kept of each group.
+fn empty_all(best: &mut Vec<Best>)
+    ensures { AllByRecursion (λ b. b.kept.items ≡ []) best.new.items }
+{
+    for i in 0..best.len() {
+        best[i].clear();
+    }
+}
+
+/// Makes room for so many groups at least; those that are new are empty.
+fn make_room(alloc: Global, best: &mut Vec<Best>, count: usize) -> Result<(), AllocError>
+    requires { AllByRecursion (λ b. b.kept.items ≡ []) best.old.items }
+    ensures many { OnOk result (count ≤ length best.new.items) }
+    ensures empty { OnOk result (AllByRecursion (λ b. b.kept.items ≡ []) best.new.items) }
+{
+    for _group in best.len()..count {
+        best.push(Best::new(alloc))?;
+    }
+    Ok(())
+}
+
+/// Offers each slot to its group.
+fn offer_all(
+    best: &mut Vec<Best>,
+    ranking: &Ranking<'_>,
+    wanted: Wanted,
     slots: &[Slot],
 ) -> Result<(), AllocError>
-    requires groups { SlotsRise 0 (length groups.now) slots.now }
-    requires ranks { length ranks.now ≡ length groups.now }
-    ensures list { OnOk result (contenders.new.items ≡ contenders_from groups.now ranks.now 0 slots.now) }
-    ensures numbers { OnOk result (AreNumbers contenders.new.items) }
+    requires some { 0 < wanted.count }
+    requires groups { SlotsRise 0 (length ranking.now.groups.now) slots.now }
+    requires within { All (λ group. group < length best.old.items) ranking.now.groups.now }
+    requires ranks { length ranking.now.ranks.now ≡ length ranking.now.groups.now }
+    requires empty { AllByRecursion (λ b. b.kept.items ≡ []) best.old.items }
+    ensures len { length best.new.items ≡ length best.old.items }
+    ensures numbers { OnOk result (AreNumbers slots.now) }
+    ensures keeps { OnOk result ((group : ℕ) → Keeps (before wanted.down) wanted.count (contenders_in ranking.now.groups.now ranking.now.ranks.now group 0 slots.now) (kept_in best.new.items group)) }
 {
-    contenders.clear();
     for i in 0..slots.len() {
         let slot = &slots[i];
         is_number(&slot.value);
-        let group = number_at(groups, slot);
-        let rank = number_at(ranks, slot);
-        contenders.push(Contender {
-            at: i,
-            group,
-            value: slot.value,
-            rank,
-        })?;
+        let group = number_at(ranking.groups, slot);
+        let rank = number_at(ranking.ranks, slot);
+        best[group].offer(
+            wanted,
+            Contender {
+                at: i,
+                value: slot.value,
+                rank,
+            },
+        )?;
     }
     Ok(())
+}
+
+/// Drops those of each group that aren't among its best.
+fn settle_all(best: &mut Vec<Best>, wanted: Wanted)
+    requires { 0 < wanted.count }
+    ensures len { length best.new.items ≡ length best.old.items }
+    ensures best { (group : ℕ) (all : _) → Keeps (before wanted.down) wanted.count all (kept_in best.old.items group) → AreBest (before wanted.down) wanted.count all (kept_in best.new.items group) }
+{
+    for i in 0..best.len() {
+        best[i].settle(wanted);
+    }
 }
 
 pub(crate) fn number_at(numbers: &[usize], slot: &Slot) -> usize
@@ -107,59 +143,6 @@ pub(crate) fn number_at(numbers: &[usize], slot: &Slot) -> usize
     ensures { result ≡ number_of numbers.now slot.now }
 {
     numbers[slot.place]
-}
-
-/// By groups, and in a group by value, those of equal values by rank.
-fn contender_order(down: bool, a: &Contender, b: &Contender) -> Ordering
-    ensures { result ≡ order_of_contenders down a.now b.now }
-{
-    match a.group.cmp(&b.group) {
-        Ordering::Equal => value_order(down, &a.value, &b.value).then(a.rank.cmp(&b.rank)),
-        apart => apart,
-    }
-}
-
-/// Sorts contenders. Each direction has a comparison of its own, since a sort is known to be by one order alone where that
-/// takes nothing from outside.
-fn sort(contenders: &mut Vec<Contender>, down: bool)
-    requires numbers { AreNumbers contenders.old.items }
-    requires apart { IsDistinct (eq_by_cmp (tidied_order down)) contenders.old.items }
-    ensures moved { IsPermutation contenders.old.items contenders.new.items }
-    ensures sorted { AreSorted down contenders.new.items }
-{
-    if down {
-        sort_from_greatest(contenders);
-    } else {
-        sort_from_least(contenders);
-    }
-}
-
-fn sort_from_greatest(contenders: &mut Vec<Contender>)
-    requires numbers { AreNumbers contenders.old.items }
-    requires apart { IsDistinct (eq_by_cmp (tidied_order true)) contenders.old.items }
-    ensures moved { IsPermutation contenders.old.items contenders.new.items }
-    ensures sorted { AreSorted true contenders.new.items }
-{
-    order_is_total();
-    contenders.sort_unstable_by(|a, b| {
-        is_number(&a.value);
-        is_number(&b.value);
-        contender_order(true, a, b)
-    });
-}
-
-fn sort_from_least(contenders: &mut Vec<Contender>)
-    requires numbers { AreNumbers contenders.old.items }
-    requires apart { IsDistinct (eq_by_cmp (tidied_order false)) contenders.old.items }
-    ensures moved { IsPermutation contenders.old.items contenders.new.items }
-    ensures sorted { AreSorted false contenders.new.items }
-{
-    order_is_total();
-    contenders.sort_unstable_by(|a, b| {
-        is_number(&a.value);
-        is_number(&b.value);
-        contender_order(false, a, b)
-    });
 }
 
 /// So many marks, none of them set, in the place of those that were there.
@@ -171,40 +154,25 @@ fn mark_none(is_taken: &mut Vec<bool>, count: usize) -> Result<(), AllocError>
     Ok(())
 }
 
-/// Marks the first `count` of each group of sorted contenders.
-fn mark_first(is_taken: &mut Vec<bool>, sorted: &[Contender], count: u64)
-    requires within { All (λ c. c.at < length is_taken.old.items) sorted.now }
+/// Marks the slots of those that are kept of each group.
+fn mark_all(is_taken: &mut Vec<bool>, best: &[Best])
+    requires within { AllByRecursion (λ b. AllByRecursion (λ c. c.at < length is_taken.old.items) b.kept.items) best.now }
     ensures len { length is_taken.new.items ≡ length is_taken.old.items }
-    ensures marks { (down : _) → AreSorted down sorted.now → (k : ℕ) →
-        slice_index_or is_taken.new.items k false ≡ (slice_index_or is_taken.old.items k false || has_among down count sorted.now sorted.now k) }
+    ensures marks { (k : ℕ) → slice_index_or is_taken.new.items k false ≡ (slice_index_or is_taken.old.items k false || is_in_some k best.now) }
 {
-    for i in 0..sorted.len() {
-        if !is_first(sorted, i, count) {
-            continue;
-        }
-        let at = sorted[i].at;
-        is_taken[at] = true;
+    for some in best {
+        mark(is_taken, some.kept.as_slice());
     }
 }
 
-/// Whether fewer than `count` of its group stand before the contender at a place, where groups stand together: the one that
-/// stands so many places before it, if there is one, is of another group.
-fn is_first(sorted: &[Contender], i: usize, count: u64) -> bool
-    requires { i < length sorted.now }
-    ensures { (down : _) (c : _) → AreSorted down sorted.now → c ≡ slice_index_or sorted.now i c → result ≡ is_among down count sorted.now c }
+fn mark(is_taken: &mut Vec<bool>, some: &[Contender])
+    requires within { AllByRecursion (λ c. c.at < length is_taken.old.items) some.now }
+    ensures len { length is_taken.new.items ≡ length is_taken.old.items }
+    ensures marks { (k : ℕ) → slice_index_or is_taken.new.items k false ≡ (slice_index_or is_taken.old.items k false || has_at k some.now) }
 {
-    order_is_total();
-    if (i as u64) < count {
-        return true;
+    for one in some {
+        is_taken[one.at] = true;
     }
-    let before = i - count as usize;
-    !is_together(&sorted[before], &sorted[i])
-}
-
-fn is_together(a: &Contender, b: &Contender) -> bool
-    ensures { result ≡ (b.now.group == a.now.group) }
-{
-    b.group == a.group
 }
 
 /// Puts the slots that are marked behind others.

@@ -3,10 +3,11 @@ ghost use Rattle.op_rank.specs.Contenders.{AreRanks};
 ghost use Rattle.op_rank.specs.Groups.{IsGrouped, left_by};
 ghost use Rattle.op_rank.specs.Rules.{IsScalar, count_asked as count_of_slots, first_at, made_of_each, marks_asked as marks_of_asked};
 ghost use Rattle.promql_meaning.specs.Ranks.{if_within as within_most, rank_count as count_of};
+ghost use Rattle.std.specs.List.{All};
 ghost use Rattle.std.specs.Option.{option_map};
 ghost use Rattle.std.specs.Prelude.{◌≡◌, ◌<◌, ◌<ℤ◌, ◌++◌, ◌∷◌, [], Some, length, slice_get, IfOk, OnOk};
 ghost use Rattle.step_batch.specs.Lent.{IsLater, stages};
-ghost use Rattle.step_put.specs.declared.labels_left.Left.TheVariants.{All};
+ghost use Rattle.step_put.specs.declared.labels_left.Left.TheVariants.{All as AllLabels};
 ghost use Rattle.step_table.specs.Unions.{united, with_fatal};
 ghost use Rattle.step_table.specs.declared.marks.Mark.TheVariants.{Overflow};
 
@@ -80,6 +81,7 @@ impl FirstRows {
         self.rows.begin_feed(labels)?;
         let ranking = Ranking {
             groups: self.groups.places(),
+            group_count: self.groups.count(),
             ranks: self.order.ranks.as_slice(),
             down,
         };
@@ -114,7 +116,8 @@ fn put_all(
     requires scalar { IsScalar arg.now }
     requires ranks { AreRanks rows.now.labels ranking.now.ranks.now }
     requires groups { length ranking.now.groups.now ≡ length rows.now.labels }
-    requires left { made.old.left ≡ All }
+    requires within { All (λ group. group < ranking.now.group_count) ranking.now.groups.now }
+    requires left { made.old.left ≡ AllLabels }
     requires fed { made.old.fed ≡ rows.now.labels }
     requires empty { made.old.lent.steps ≡ [] }
     ensures left { made.new.left ≡ made.old.left }
@@ -142,7 +145,8 @@ fn put_one(
     requires scalar { IsScalar arg.now }
     requires ranks { AreRanks rows.now.labels ranking.now.ranks.now }
     requires groups { length ranking.now.groups.now ≡ length rows.now.labels }
-    requires left { made.old.left ≡ All }
+    requires within { All (λ group. group < ranking.now.group_count) ranking.now.groups.now }
+    requires left { made.old.left ≡ AllLabels }
     requires fed { made.old.fed ≡ rows.now.labels }
     requires later { (t : _) → option_map (λ s. s.at) (slice_get rows.now.steps i) ≡ Some t → IsLater made.old.lent t }
     ensures left { made.new.left ≡ made.old.left }
@@ -159,7 +163,7 @@ fn put_one(
     let _ = rows.labels();
     let count = count_asked(parameter);
     let marks = marks_asked(alloc, count, rows.marks(i), arg.marks(i))?;
-    choice.choose(ranking, slots, count.unwrap_or(0))?;
+    choice.choose(alloc, ranking, slots, count.unwrap_or(0))?;
     made.put(at, &marks, choice.placed.as_slice())?;
     Ok(())
 }

@@ -67,6 +67,13 @@ impl Groups {
         self.placing.places()
     }
 
+    /// How many groups there are. It takes no memory.
+    pub(crate) fn count(&self) -> usize
+        ensures { result ≡ length self.now.groups }
+    {
+        self.kept.lend().labels().len()
+    }
+
     /// Lends the labels of groups. It takes no memory.
     pub(crate) fn lend(&self) -> Batch<'_>
         ensures { result.labels ≡ self.now.groups }

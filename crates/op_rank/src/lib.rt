@@ -2,11 +2,13 @@
 //! Its rows of tests stand in `vector_tests`.
 #![tactic(auto)]
 
+mod best;
 mod contenders;
 mod entries;
 mod first_rows;
 mod groups;
 mod label_order;
+pub mod laws;
 mod quantiles;
 mod ranked;
 mod value_counts;
