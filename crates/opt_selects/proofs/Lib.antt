@@ -1,3 +1,4 @@
+mod Alike
 mod Merges
 mod Numbers
 mod Orders

@@ -1,6 +1,6 @@
 -- Which selector is the base of another: a selector of fewer rules at the same moment. (thanos-io/promql-engine, the optimiser that merges
 -- selects; the choice among several is this project's own.)
-use Rattle.std.specs.Prelude.{ℕ, Bool, true, false, ◌&&◌, not, bytes_eq, List, Option, None, Some}
+use Rattle.std.specs.Prelude.{◌≡◌, ℕ, Bool, true, false, ◌&&◌, not, bytes_eq, List, Option, None, Some}
 use Rattle.std.specs.List.{find, list_any}
 use Rattle.std.specs.Option.{option_map}
 use Rattle.std.specs.Ordering.{int_eq}
@@ -62,6 +62,17 @@ is_base rules moment range a =
 -- the rules of the first selector that is one
 abbrev pub base_among : List Found → List Rule → Moment → Option Ms → Option (List Rule)
 base_among found rules moment range = option_map (λ (a : Found). a.rules) (find (is_base rules moment range) found)
+
+-- two selectors are alike: the same moment and range, and the same rules, whatever their order
+abbrev pub is_alike : Found → Found → Bool
+is_alike a b = same_moment a.moment b.moment && same_range a.range b.range && is_part a.rules b.rules && is_part b.rules a.rules
+
+abbrev pub has_alike : List Found → Found → Bool
+has_alike found one = list_any (λ a. is_alike a one) found
+
+-- whatever the rules, the moment and the range, the base among some selectors is the one among others
+abbrev pub HaveSameBases : List Found → List Found → Type 0
+HaveSameBases some others = (rules : List Rule) (moment : Moment) (range : Option Ms) → base_among some rules moment range ≡ base_among others rules moment range
 
 -- a selector over its base: at its own place the base, and a filter of the rules that the base lacks
 abbrev pub over_base : ℕ → (List Rule → PlanNode) → List Rule → Option (List Rule) → PlanNode

@@ -1,28 +1,37 @@
 -- Numbers of rules, which equal rules share and most others don't, so that few rules have to be compared. (This project's own.)
-use Rattle.std.specs.Prelude.{ℕ, ◌+◌, ◌*◌, ◌%◌, ◌==◌, Bool, List, [], fold}
+use Rattle.std.specs.Prelude.{ℕ, ◌+◌, ◌*◌, ◌%◌, ◌==◌, Bool, List, fold}
 use Rattle.std.specs.List.{list_all, list_any}
 use Rattle.label_set.specs.declared.rules.Rule.{Rule}
 use Rattle.label_set.specs.declared.rules.RuleKind.{RuleKind}
 use Rattle.label_set.specs.declared.rules.RuleKind.TheVariants.{Eq, Ne, Re, Nre}
 
--- a text's number behind another: its bytes are the digits of a number to the base 31, of which 32 bits are kept
-abbrev pub with_byte : ℕ → ℕ → ℕ
-with_byte number byte = (number * 31 + byte) % 4294967296
+-- a number behind one more digit to the base 509, of which 55 bits are kept
+abbrev pub with_digit : ℕ → ℕ → ℕ
+with_digit number digit = (number * 509 + digit) % 36028797018963968
 
+-- a text's bytes are digits behind a number
 abbrev pub text_number : ℕ → List ℕ → ℕ
-text_number start text = fold with_byte start text
+text_number start text = fold with_digit start text
 
-abbrev pub kind_text : RuleKind → List ℕ
-kind_text (Eq text) = text
-kind_text (Ne text) = text
-kind_text (Re id) = []
-kind_text (Nre id) = []
+-- so are the kind of test, by a digit that is no byte, and the text or the pattern's number
+abbrev pub kind_number : ℕ → RuleKind → ℕ
+kind_number start (Eq text) = text_number (with_digit start 256) text
+kind_number start (Ne text) = text_number (with_digit start 257) text
+kind_number start (Re id) = with_digit (with_digit start 258) id.0
+kind_number start (Nre id) = with_digit (with_digit start 259) id.0
 
 abbrev pub rule_key : Rule → ℕ
-rule_key rule = text_number (text_number 0 rule.label) (kind_text rule.kind)
+rule_key rule = kind_number (text_number 0 rule.label) rule.kind
 
 abbrev pub has_key : List ℕ → ℕ → Bool
 has_key keys key = list_any (λ k. k == key) keys
 
 abbrev pub has_keys : List ℕ → List ℕ → Bool
 has_keys keys some = list_all (has_key keys) some
+
+-- a number that the order of others doesn't change: 55 bits of the sum of their squares, 31 bits of each number taken
+abbrev pub with_square : ℕ → ℕ → ℕ
+with_square sum key = (sum + (key % 2147483648) * (key % 2147483648)) % 36028797018963968
+
+abbrev pub sum_of_squares : List ℕ → ℕ
+sum_of_squares keys = fold with_square 0 keys

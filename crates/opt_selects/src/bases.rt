@@ -31,13 +31,13 @@ fn same_flag(a: bool, b: bool) -> bool
     a == b
 }
 
-fn same_moment(a: &Moment, b: &Moment) -> bool
+pub(crate) fn same_moment(a: &Moment, b: &Moment) -> bool
     ensures { result ≡ same_moment a.now b.now }
 {
     same_fixed(a.fixed, b.fixed) && a.offset.0 == b.offset.0 && same_flag(a.closed, b.closed)
 }
 
-fn same_range(a: Option<Ms>, b: Option<Ms>) -> bool
+pub(crate) fn same_range(a: Option<Ms>, b: Option<Ms>) -> bool
     ensures { result ≡ same_range a b }
 {
     match (a, b) {

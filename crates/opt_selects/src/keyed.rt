@@ -1,5 +1,5 @@
 //! Selectors beside numbers of their rules.
-ghost use Rattle.opt_selects.specs.RuleKeys.{has_key, has_keys, kind_text, rule_key, text_number};
+ghost use Rattle.opt_selects.specs.RuleKeys.{has_key, has_keys, kind_number, rule_key, sum_of_squares, text_number, with_digit};
 ghost use Rattle.std.specs.Prelude.{◌≡◌, ◌<◌, map, IfOk};
 
 use crate::found::Found;
@@ -55,6 +55,13 @@ impl Keyed {
     {
         are_among(keys, self.keys.as_slice())
     }
+
+    /// A number that selectors share which have the same rules, each as often, in whatever order.
+    pub fn number(&self) -> u64
+        ensures { result ≡ sum_of_squares (map rule_key self.now.rules) }
+    {
+        sum_of_squares(self.keys.as_slice())
+    }
 }
 
 fn has_key(keys: &[u64], key: u64) -> bool
@@ -79,34 +86,56 @@ fn are_among(keys: &[u64], some: &[u64]) -> bool
     true
 }
 
-/// The number of a text behind another.
+/// A number behind one more digit.
+fn with_digit(number: u64, digit: u64) -> u64
+    requires number { number < 36028797018963968 }
+    requires digit { digit < 4294967296 }
+    ensures number { result ≡ with_digit number digit }
+    ensures small { result < 36028797018963968 }
+{
+    (number * 509 + digit) % 36028797018963968
+}
+
+/// A text's bytes as digits behind a number.
 fn text_number(start: u64, text: &str) -> u64
-    requires { start < 4294967296 }
+    requires { start < 36028797018963968 }
     ensures number { result ≡ text_number start text.now }
-    ensures small { result < 4294967296 }
+    ensures small { result < 36028797018963968 }
 {
     let mut number = start;
     for byte in text.as_bytes() {
-        number = (number * 31 + *byte as u64) % 4294967296;
+        number = with_digit(number, *byte as u64);
     }
     number
 }
 
-fn kind_text(kind: &RuleKind) -> &str
-    ensures { result.now ≡ kind_text kind.now }
+fn kind_number(start: u64, kind: &RuleKind) -> u64
+    requires { start < 36028797018963968 }
+    ensures { result ≡ kind_number start kind.now }
 {
     match kind {
-        RuleKind::Eq(text) => text.as_str(),
-        RuleKind::Ne(text) => text.as_str(),
-        RuleKind::Re(_) => "",
-        RuleKind::Nre(_) => "",
+        RuleKind::Eq(text) => text_number(with_digit(start, 256), text.as_str()),
+        RuleKind::Ne(text) => text_number(with_digit(start, 257), text.as_str()),
+        RuleKind::Re(id) => with_digit(with_digit(start, 258), id.0 as u64),
+        RuleKind::Nre(id) => with_digit(with_digit(start, 259), id.0 as u64),
     }
 }
 
 fn key(rule: &Rule) -> u64
     ensures { result ≡ rule_key rule.now }
 {
-    text_number(text_number(0, rule.label.as_str()), kind_text(&rule.kind))
+    kind_number(text_number(0, rule.label.as_str()), &rule.kind)
+}
+
+fn sum_of_squares(keys: &[u64]) -> u64
+    ensures { result ≡ sum_of_squares keys.now }
+{
+    let mut sum = 0;
+    for key in keys {
+        let small = *key % 2147483648;
+        sum = (sum + small * small) % 36028797018963968;
+    }
+    sum
 }
 
 /// The numbers of rules.

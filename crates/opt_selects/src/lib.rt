@@ -5,6 +5,7 @@
 mod bases;
 mod found;
 mod keyed;
+mod kinds;
 mod merging;
 mod trimming;
 

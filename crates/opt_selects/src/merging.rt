@@ -1,4 +1,4 @@
-ghost use Rattle.opt_selects.specs.Bases.{base_among, merge_selects, over_base};
+ghost use Rattle.opt_selects.specs.Bases.{HaveSameBases, base_among, merge_selects, over_base};
 ghost use Rattle.opt_selects.specs.Selectors.{ordered, selectors};
 ghost use Rattle.logical_plan.specs.declared.nodes.PlanNode.TheVariants.{Filter as FilterNode, Range as RangeNode, Select as SelectNode};
 ghost use Rattle.logical_plan.specs.Lowering.{planned as planned_at};
@@ -8,6 +8,7 @@ ghost use Rattle.std.specs.Prelude.{◌≡◌, false, Some, None, IfOk};
 use crate::bases::{base_among, lacking};
 use crate::found::found_in;
 use crate::keyed::{Keyed, with_keys};
+use crate::kinds::first_of_each;
 use holders::{Boxed, Items};
 use label_set::Rule;
 use logical_plan::{Plan, PlanNode};
@@ -41,6 +42,14 @@ impl<'f> Rewrite for MergeSelects<'f> {
             node => Ok(node),
         }
     }
+}
+
+/// Selectors of a plan among which each selector has the base that it has among all.
+fn candidates(alloc: Global, p: &Plan) -> Result<Vec<Keyed>, AllocError>
+    ensures { IfOk result (λ found. HaveSameBases found.items (ordered (selectors p.now))) }
+{
+    let found = with_keys(alloc, found_in(alloc, p)?)?;
+    first_of_each(alloc, found)
 }
 
 /// A filter of rules over a base at a place.
@@ -122,7 +131,7 @@ pub fn merge(alloc: Global, p: Plan) -> Result<Plan, AllocError>
     ensures means { IfOk result (λ q. MeanTheSame q p) }
 {
     more_rules_filter();
-    let found = with_keys(alloc, found_in(alloc, &p)?)?;
+    let found = candidates(alloc, &p)?;
     let q = rewritten(
         alloc,
         &MergeSelects {
