@@ -4,6 +4,8 @@
 #[cfg(test)]
 mod aggregates;
 #[cfg(test)]
+mod cells;
+#[cfg(test)]
 mod joins;
 #[cfg(test)]
 mod modifiers;
