@@ -35,11 +35,13 @@ module _ (rows_pass : MoreRulesFilterRows) (windows_pass : MoreRulesFilterWindow
     node_is y is = sym (roll-out-PlanNode base.node) ∙ ap roll-PlanNode is
 
     select_stays : (rules : List Rule) (moment : Moment) → out-PlanNode base.node ≡ PlanNode-F.Select rules moment false → Stays (PlanNode-F.Select rules moment false)
+    unfolding roll-PlanNode denote.Hole.Carrier.roll
     select_stays rules moment is =
         sym (select_kept rows_pass windows_pass asked (rules ++ more) rules more (added_together asked rules more) base.at moment)
         ∙ over (node.Select rules moment false) (node_is (PlanNode-F.Select rules moment false) is) ∙ kept
 
     range_stays : (rules : List Rule) (moment : Moment) (range : Ms) → out-PlanNode base.node ≡ PlanNode-F.Range rules moment range → Stays (PlanNode-F.Range rules moment range)
+    unfolding roll-PlanNode denote.Hole.Carrier.roll
     range_stays rules moment range is =
         sym (range_kept rows_pass windows_pass asked (rules ++ more) rules more (added_together asked rules more) base.at moment range)
         ∙ over (node.Range rules moment range) (node_is (PlanNode-F.Range rules moment range) is) ∙ kept
