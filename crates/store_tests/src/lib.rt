@@ -4,8 +4,6 @@
 #[cfg(test)]
 mod labels;
 #[cfg(test)]
-mod lists;
-#[cfg(test)]
 mod outside;
 #[cfg(test)]
 mod patterns;

@@ -1,7 +1,6 @@
 //! Calls on one store after another.
 ghost use Rattle.std.specs.Prelude.{◌≡◌};
 
-use crate::lists::{add, find};
 use crate::rows::{field, text_is};
 use holders::{Items, Text};
 use label_set::{LabelRefusal, Labels, Rule, RuleKind};
@@ -40,32 +39,6 @@ select .+= 1 2 0
 select up= 0
 select (d|x).*= 1
 select no=";
-
-// Each line is a call and its answer: what comes of a series with some labels, or the numbers of those that pass some rules. So a
-// list misses no series that came later, two rules that are the same pass what one passes, and an empty value is no value.
-const LISTS: &str = "add a job:x env:p=taken
-add b job:x env:p zone:n=taken
-add b job:y env:p=taken
-find job:x= 0 1
-find job:z=
-find gone:x=
-find zone:n= 1
-find env:p= 0 1 2
-find zone:= 0 2
-find job:=
-find job:x job:x= 0 1
-find job:x job:y=
-find env:p zone:n job:x= 1
-find env:p job:x zone:= 0
-find __name__:b= 1 2
-find __name__:b job!y= 1
-find job~x|y zone:= 0 2
-add c job:x env:p=taken
-add a job:x env:p=taken
-find job:x= 0 1 3
-find job:x zone:= 0 3
-find __name__:c= 3
-find job:y= 2";
 
 // Each line is a call and its answer: samples that are put in, or a cursor's place with the time before it and the next two.
 // Chunks end at 512 samples and are parted where samples come into their midst. Counted by hand: the first load has the even
@@ -336,8 +309,6 @@ fn answer<W: Ledger>(
         "at" => Ok(at_place(alloc, store, count(words, 0), work)?),
         "behind" => Ok(behind(alloc, store, number(words, 0), work)?),
         "later" => Ok(later(alloc, store, words, work)?),
-        "add" => Ok(String::from_str(alloc, told(add(alloc, store, words)?))?),
-        "find" => find(alloc, store, words, work),
         _ => selected(alloc, store, words, work),
     }
 }
@@ -367,11 +338,6 @@ fn lines_hold(alloc: Global, lines: &str) -> Result<(), Fail> {
 #[test]
 fn samples_are_put_found_and_selected(rt: HostRuntime) -> Result<(), Fail> {
     lines_hold(rt.alloc(), SAMPLES)
-}
-
-#[test]
-fn lists_tell_the_series_of_each_value(rt: HostRuntime) -> Result<(), Fail> {
-    lines_hold(rt.alloc(), LISTS)
 }
 
 #[test]
