@@ -4,8 +4,6 @@
 #[cfg(test)]
 mod aggregates;
 #[cfg(test)]
-mod cells;
-#[cfg(test)]
 mod joins;
 #[cfg(test)]
 mod modifiers;

@@ -10,8 +10,8 @@ use step_table::Step;
 use ticks::Ms;
 use written_steps::{Case, Feed, are_lent, buffer_of, has_same_steps, line_that_differs};
 
-// Each line is an aggregation and its grouping, steps that are fed, steps of its parameter, which `count_values` doesn't read, and
-// steps that are lent. A step that is lent with a note of a quantile has it behind `~`.
+// Each line is an aggregation and its grouping, steps that are fed, steps of its parameter, and steps that are lent. A step that
+// is lent with a note of a quantile has it behind `~`.
 const LINES: &str =
     "topk by > 10 a,x=1:1;a,x=2:3;a,x=3:2 | 20 - | 30 a,x=1:1;a,x=2:1 > 10 :2 | 20 :2 | 30 :1 > 10 a,x=2:3;a,x=3:2 | 20 - | 30 a,x=1:1
 bottomk by > 10 a,x=1:1;a,x=2:3;a,x=3:2 | 20 - | 30 a,x=2:1;a,x=1:1 > 10 :2 | 20 :2 | 30 :1 > 10 a,x=1:1;a,x=3:2 | 20 - | 30 a,x=1:1
@@ -36,23 +36,13 @@ quantile by > 10 a:1;b:2 | 20 a:1 | 30 - > 10 :2 | 20 :-1 | 30 :nan > 10 :inf~2 
 quantile by > 10 a:1;b:2 | 20 a:1;b:2 | 30 a:1 > 10 :inf | 20 :-inf | 30 -!O > 10 :inf~inf | 20 :-inf~-inf | 30 -!O
 quantile by > 10 a:1 | 20 a:1;b:3 | 30 a:1 > 10 :nan | 20 :1/2 | 30 -!I > 10 :nan~nan | 20 :2 | 30 -!I
 quantile by x > 10 a,x=1:big;b,x=1:1;a,x=2:6;b,x=2:8 | 20 a,x=2:1 | 30 a,x=1:2!C > 10 :1/3 | 20 :1/3 | 30 :1/3 > 10 ,x=2:20/3!O | 20 ,x=2:1 | 30 ,x=1:2!C
-quantile by x > 10 a,x=1:3;b,x=1:1;c,x=1:2 | 20 c,x=1:1;b,x=2:2;a,x=1:4 | 30 a,x=2:9 > 10 :1 | 20 :1/2 | 30 :0 > 10 ,x=1:3 | 20 ,x=1:5/2;,x=2:2 | 30 ,x=2:9
-count_values by > 10 a:1;b:2;c:1 | 20 - | 30 a:1/2;b:1/2;c:1/3 > 10 :0 | 20 :0 | 30 :0 > 10 ,v=1:2;,v=2:1 | 20 - | 30 ,v=0.5:2;,v=1/3:1
-count_values by > 10 a:nan;b:inf;c:nan;d:-inf | 20 a:-3/4;b:-3/4 | 30 a:0 > 10 - | 20 - | 30 - > 10 ,v=NaN:2;,v=+Inf:1;,v=-Inf:1 | 20 ,v=-0.75:2 | 30 ,v=0:1
-count_values by x > 10 a,x=1:5;b,x=1:5;a,x=2:5;b,x=2:6 | 20 a,x=2:5 | 30 b:5;c,x=2:6;a:5 > 10 :1 | 20 :1 | 30 :1 > 10 ,x=1,v=5:2;,x=2,v=5:1;,x=2,v=6:1 | 20 ,x=2,v=5:1 | 30 ,v=5:2;,x=2,v=6:1
-count_values without x > 10 a,x=1,y=1:5;b,x=2,y=1:5;c,y=2:5 | 20 a,x=1:7!I | 30 -!O > 10 :1 | 20 :1 | 30 :1 > 10 ,y=1,v=5:2;,y=2,v=5:1 | 20 ,v=7:1!I | 30 -!O
-count_values by v > 10 a,v=9:1;b,v=8:1;c:1 | 20 a,v=9:9 | 30 a,v=1:2;b,v=2:1 > 10 :1 | 20 :1 | 30 :1 > 10 ,v=1:3 | 20 ,v=9:1 | 30 ,v=1:1;,v=2:1
-count_values without v > 10 a,v=9:1;b,v=8:2;c,x=1:1 | 20 a,v=9:9 | 30 a:1;b,v=2:1 > 10 :1 | 20 :1 | 30 :1 > 10 :2;,x=1:1 | 20 :1 | 30 :2";
-
-/// The label that `count_values` sets.
-const LABEL: &str = "v";
+quantile by x > 10 a,x=1:3;b,x=1:1;c,x=1:2 | 20 c,x=1:1;b,x=2:2;a,x=1:4 | 30 a,x=2:9 > 10 :1 | 20 :1/2 | 30 :0 > 10 ,x=1:3 | 20 ,x=1:5/2;,x=2:2 | 30 ,x=2:9";
 
 fn aggregate(word: &str) -> Result<Aggregate, Fail> {
     match word {
         "topk" => Ok(Aggregate::TopK),
         "bottomk" => Ok(Aggregate::BottomK),
         "quantile" => Ok(Aggregate::Quantile),
-        "count_values" => Ok(Aggregate::CountValues),
         _ => Err("no such aggregation")?,
     }
 }
@@ -65,7 +55,7 @@ fn kernel(alloc: Global, rule: &str) -> Result<Ranked, Fail> {
         return Err(Fail::new("an aggregation that doesn't rank"));
     }
     let by = grouping(alloc, by)?;
-    Ok(Ranked::new(alloc, f, by, Text::of(alloc, LABEL)?)?)
+    Ok(Ranked::new(alloc, f, by, Text::of(alloc, "")?)?)
 }
 
 /// Feeds steps beside their parameters, and answers whether what is lent are the wanted ones.
