@@ -10,6 +10,4 @@ mod modifiers;
 #[cfg(test)]
 mod ranks;
 #[cfg(test)]
-mod ratios;
-#[cfg(test)]
 mod sets;
