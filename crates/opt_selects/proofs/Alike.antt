@@ -15,7 +15,7 @@ use Rattle.logical_plan.specs.declared.nodes.PlanNode.TheOpen.{PlanNode-F}
 use Rattle.logical_plan.specs.declared.nodes.Plan.{Plan}
 use Rattle.plan_rewrite.specs.RuleLaws.{member}
 use Rattle.plan_rewrite.specs.RuleLists.{has_rule, is_part}
-use Rattle.opt_selects.specs.Bases.{HaveSameBases, base_among, has_alike, is_alike, is_base, merge_selects, names_metric, over_base, same_fixed, same_flag, same_moment, same_range, share_metric}
+use Rattle.opt_selects.specs.Bases.{HaveSameBases, has_alike, is_alike, is_base, merge_selects, names_metric, over_base, same_fixed, same_flag, same_moment, same_range, share_metric}
 use Rattle.opt_selects.specs.declared.found.Found.{Found}
 
 left : (a b : Bool) → (a && b) ≡ true → a ≡ true

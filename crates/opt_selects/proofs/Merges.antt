@@ -17,16 +17,16 @@ use Rattle.plan_rewrite.specs.RuleLists.{is_part, lacking}
 use Rattle.opt_selects.specs.Bases.{base_among, is_base, merge_selects, over_base, same_moment, same_range, share_metric}
 use Rattle.opt_selects.specs.declared.found.Found.{Found}
 
-left_true : (a b : Bool) → (a && b) ≡ true → a ≡ true
+pub left_true : (a b : Bool) → (a && b) ≡ true → a ≡ true
 left_true true b e = refl
 left_true false b e = e
 
-right_true : (a b : Bool) → (a && b) ≡ true → b ≡ true
+pub right_true : (a b : Bool) → (a && b) ≡ true → b ≡ true
 right_true true b e = e
 right_true false b e = absurd (cc)
 
 -- a base has a part of the rules
-base_is_part : (rules : List Rule) (moment : Moment) (range : Option Ms) (a : Found) → is_base rules moment range a ≡ true → is_part a.rules rules ≡ true
+pub base_is_part : (rules : List Rule) (moment : Moment) (range : Option Ms) (a : Found) → is_base rules moment range a ≡ true → is_part a.rules rules ≡ true
 base_is_part rules moment range a e =
     right_true (same_moment a.moment moment && same_range a.range range && share_metric a.rules rules) (is_part a.rules rules)
     (left_true (same_moment a.moment moment && same_range a.range range && share_metric a.rules rules && is_part a.rules rules) (not (is_part rules a.rules)) e)

@@ -41,7 +41,7 @@ has_its_key rules rule e = by (has_key (map rule_key rules) (rule_key rule)) ref
         let no : not true ≡ true = ap not (sym (itself (rule_key rule))) ∙ other in
         absurd (cc)
 
-part_has_keys : (a b : List Rule) → is_part a b ≡ true → has_keys (map rule_key b) (map rule_key a) ≡ true
+pub part_has_keys : (a b : List Rule) → is_part a b ≡ true → has_keys (map rule_key b) (map rule_key a) ≡ true
 part_has_keys [] b e = refl
 part_has_keys (r ∷ a) b e =
     ap (λ x. x && has_keys (map rule_key b) (map rule_key a)) (has_its_key b r (left (has_rule b r) (is_part a b) e)) ∙ part_has_keys a b (right (has_rule b r) (is_part a b) e)

@@ -1,17 +1,26 @@
 //! The base of a selector.
-ghost use Rattle.opt_selects.specs.Bases.{base_among, is_base, is_equality, names_metric, same_fixed, same_flag, same_moment, same_range, share_metric};
+ghost use Rattle.opt_selects.specs.Bases.{is_base, is_equality, names_metric, same_fixed, same_flag, same_moment, same_range, share_metric};
 ghost use Rattle.opt_selects.specs.RuleKeys.{rule_key};
 ghost use Rattle.plan_rewrite.specs.RuleLists.{lacking as lacking_of};
-ghost use Rattle.std.specs.Prelude.{◌≡◌, map, option_map, IfOk};
+ghost use Rattle.std.specs.Prelude.{◌≡◌, map, IfOk};
 
 use crate::found::Found;
-use crate::keyed::{Keyed, keys_of};
+use crate::keyed::Keyed;
 use holders::Items;
 use label_set::{METRIC_NAME, Rule, RuleKind};
 use plan_rewrite::{has_rule, is_part};
 use promql_ast::{Fixed, Moment};
 use std::alloc::{AllocError, Global};
 use ticks::Ms;
+
+/// The rules for which a base is sought, their numbers, and their moment and range.
+#[derive(Clone, Copy)]
+pub(crate) struct Sought<'s> {
+    pub keys: &'s [u64],
+    pub rules: &'s [Rule],
+    pub moment: &'s Moment,
+    pub range: Option<Ms>,
+}
 
 fn same_fixed(a: Option<Fixed>, b: Option<Fixed>) -> bool
     ensures { result ≡ same_fixed a b }
@@ -83,47 +92,15 @@ fn is_base_of(a: &Found, rules: &[Rule], moment: &Moment, range: Option<Ms>) -> 
         && !is_part(rules, a.rules.as_slice())
 }
 
-/// Whether a selector is a base for rules with these numbers. Numbers are asked first, since they tell most rules apart.
-fn is_base(a: &Keyed, keys: &[u64], rules: &[Rule], moment: &Moment, range: Option<Ms>) -> bool
-    requires { keys.now ≡ map rule_key rules.now }
-    ensures { result ≡ is_base rules.now moment.now range a.now }
+/// Whether a selector is a base for what is sought. Numbers are asked first, since they tell most rules apart.
+pub(crate) fn is_base(a: &Keyed, sought: &Sought) -> bool
+    requires { sought.now.keys.now ≡ map rule_key sought.now.rules.now }
+    ensures { result ≡ is_base sought.now.rules.now sought.now.moment.now sought.now.range a.now }
 {
-    if !a.has_keys_in(keys) {
+    if !a.has_keys_in(sought.keys) {
         return false;
     }
-    is_base_of(a.found(), rules, moment, range)
-}
-
-fn first_base<'f>(
-    found: &'f [Keyed],
-    keys: &[u64],
-    rules: &[Rule],
-    moment: &Moment,
-    range: Option<Ms>,
-) -> Option<&'f Items<Rule>>
-    requires { keys.now ≡ map rule_key rules.now }
-    ensures { option_map (λ base. base.now) result ≡ base_among found.now rules.now moment.now range }
-{
-    for a in found {
-        if is_base(a, keys, rules, moment, range) {
-            return Some(a.rules());
-        }
-    }
-    None
-}
-
-/// The rules of the first selector that is a base for rules at a moment and over a range. The only error is want of memory.
-pub(crate) fn base_among<'f>(
-    alloc: Global,
-    found: &'f [Keyed],
-    rules: &[Rule],
-    moment: &Moment,
-    range: Option<Ms>,
-) -> Result<Option<&'f Items<Rule>>, AllocError>
-    ensures { IfOk result (λ base. option_map (λ b. b.now) base ≡ base_among found.now rules.now moment.now range) }
-{
-    let keys = keys_of(alloc, rules)?;
-    Ok(first_base(found, keys.as_slice(), rules, moment, range))
+    is_base_of(a.found(), sought.rules, sought.moment, sought.range)
 }
 
 /// The rules of the second list that the first one lacks.

@@ -49,6 +49,13 @@ impl Keyed {
         &self.found.rules
     }
 
+    /// The numbers of its rules.
+    pub fn keys(&self) -> &[u64]
+        ensures { result.now ≡ map rule_key self.now.rules }
+    {
+        self.keys.as_slice()
+    }
+
     /// Whether the number of each of its rules is among numbers.
     pub fn has_keys_in(&self, keys: &[u64]) -> bool
         ensures { result ≡ has_keys keys.now (map rule_key self.now.rules) }

@@ -3,6 +3,7 @@
 #![tactic(auto)]
 
 mod bases;
+mod candidates;
 mod found;
 mod keyed;
 mod kinds;

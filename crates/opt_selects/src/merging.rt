@@ -5,9 +5,10 @@ ghost use Rattle.logical_plan.specs.Lowering.{planned as planned_at};
 ghost use Rattle.plan_rewrite.specs.Rebuilding.{MeanTheSame, rebuilt};
 ghost use Rattle.std.specs.Prelude.{◌≡◌, false, Some, None, IfOk};
 
-use crate::bases::{base_among, lacking};
+use crate::bases::lacking;
+use crate::candidates::Candidates;
 use crate::found::found_in;
-use crate::keyed::{Keyed, with_keys};
+use crate::keyed::with_keys;
 use crate::kinds::first_of_each;
 use holders::{Boxed, Items};
 use label_set::Rule;
@@ -21,7 +22,7 @@ use ticks::Ms;
 /// Selectors over those of fewer rules.
 #[derive(Clone, Copy)]
 struct MergeSelects<'f> {
-    found: &'f [Keyed],
+    found: &'f Candidates,
 }
 
 impl<'f> Rewrite for MergeSelects<'f> {
@@ -45,11 +46,11 @@ impl<'f> Rewrite for MergeSelects<'f> {
 }
 
 /// Selectors of a plan among which each selector has the base that it has among all.
-fn candidates(alloc: Global, p: &Plan) -> Result<Vec<Keyed>, AllocError>
-    ensures { IfOk result (λ found. HaveSameBases found.items (ordered (selectors p.now))) }
+fn candidates(alloc: Global, p: &Plan) -> Result<Candidates, AllocError>
+    ensures { IfOk result (λ found. HaveSameBases found (ordered (selectors p.now))) }
 {
     let found = with_keys(alloc, found_in(alloc, p)?)?;
-    first_of_each(alloc, found)
+    Candidates::of(alloc, first_of_each(alloc, found)?)
 }
 
 /// A filter of rules over a base at a place.
@@ -67,14 +68,14 @@ fn filter(
 
 fn select_over_base(
     alloc: Global,
-    found: &[Keyed],
+    found: &Candidates,
     at: u32,
     rules: Items<Rule>,
     moment: Moment,
 ) -> Result<PlanNode, AllocError>
     ensures { IfOk result (λ n. n ≡ over_base at (λ r. SelectNode r moment false) rules (base_among found.now rules moment None)) }
 {
-    match base_among(alloc, found, rules.as_slice(), &moment, None)? {
+    match found.base_for(alloc, rules.as_slice(), &moment, None)? {
         None => Ok(PlanNode::Select {
             rules,
             moment,
@@ -94,7 +95,7 @@ fn select_over_base(
 
 fn range_over_base(
     alloc: Global,
-    found: &[Keyed],
+    found: &Candidates,
     at: u32,
     rules: Items<Rule>,
     moment: Moment,
@@ -102,7 +103,7 @@ fn range_over_base(
 ) -> Result<PlanNode, AllocError>
     ensures { IfOk result (λ n. n ≡ over_base at (λ r. RangeNode r moment range) rules (base_among found.now rules moment (Some range))) }
 {
-    match base_among(alloc, found, rules.as_slice(), &moment, Some(range))? {
+    match found.base_for(alloc, rules.as_slice(), &moment, Some(range))? {
         None => Ok(PlanNode::Range {
             rules,
             moment,
@@ -132,12 +133,6 @@ pub fn merge(alloc: Global, p: Plan) -> Result<Plan, AllocError>
 {
     more_rules_filter();
     let found = candidates(alloc, &p)?;
-    let q = rewritten(
-        alloc,
-        &MergeSelects {
-            found: found.as_slice(),
-        },
-        p,
-    )?;
+    let q = rewritten(alloc, &MergeSelects { found: &found }, p)?;
     Ok(q)
 }

@@ -1,4 +1,4 @@
-use Rattle.std.proofs.Common.{◌≡◌, ◌∙◌, ◌++◌, ◌∷◌, true, List, ap, sym}
+use Rattle.std.proofs.Common.{◌≡◌, ◌∙◌, ◌++◌, true, List, ap, sym}
 use Rattle.std.specs.Vec.Iter.{into_iter_items}
 use Rattle.opt_selects.specs.Bases.{base_among, has_alike}
 use Rattle.opt_selects.specs.declared.found.Found.{Found}
