@@ -1,0 +1,4 @@
+mod Distinct
+mod Following
+mod Rising
+mod Tested

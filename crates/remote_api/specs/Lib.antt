@@ -1,0 +1,4 @@
+pub mod Couriers
+pub mod Parted
+pub mod Seen
+pub mod Strays
