@@ -1,6 +1,7 @@
 -- The bound of what a plan costs at some instants: a sum over the selectors of the plan, which a reader can work out by hand. (This
 -- project's own.)
-use Rattle.std.specs.Prelude.{◌*◌, ◌-ℤ◌, ℕ, ℤ, List, [], ◌∷◌, length, sum_by}
+use Rattle.std.specs.Prelude.{◌*◌, ◌-ℤ◌, ◌&&◌, ℕ, ℤ, pos, Bool, List, [], ◌∷◌, filter, int_le, length, map, sum_by}
+use Rattle.std.specs.List.{list_any}
 use Rattle.label_set.specs.declared.rules.Rule.{Rule}
 use Rattle.logical_plan.specs.declared.nodes.Plan.{Plan}
 use Rattle.logical_plan.specs.declared.nodes.PlanNode.TheOpen.{PlanNode-F}
@@ -12,6 +13,7 @@ use Rattle.promql_meaning.specs.Subqueries.{as_times, first_multiple, instants_u
 use Rattle.series_marks.specs.Reaches.{last_instant, window_edge}
 use Rattle.series_marks.specs.Reads.{span_bound}
 use Rattle.step_table.specs.Groups.{Names}
+use Rattle.ticks.specs.Edges.{is_from}
 use Rattle.ticks.specs.declared.moment.Ms.{Ms}
 
 -- what a part of a plan costs at most at some instants
@@ -29,16 +31,26 @@ fetched_by back asked rules moment (t ∷ at) =
 abbrev pub selector_bound : ℤ → Asked → List Rule → Moment → Bounding
 selector_bound back asked rules moment at = record { fetched = fetched_by back asked rules moment at; probed = 64 * length (passing asked.samples asked.kept rules) }
 
--- the multiples of a subquery's step from the left edge of the first instant's range up to the last moment
+-- a time lies in the range that ends at the moment of an instant
+abbrev pub is_in_range : Asked → Moment → (range : Ms) → ℤ → Ms → Bool
+is_in_range asked moment range u t = is_from moment.closed (moment_of asked moment t.0 -ℤ range.0) u && int_le u (moment_of asked moment t.0)
+
+-- the multiples of a subquery's step that lie in the range of an instant: of those from the left edge of the first range up to the last
+-- moment
 abbrev pub inner_times : Asked → Moment → (range step : Ms) → List Ms → List Ms
 inner_times asked moment range step [] = []
 inner_times asked moment range step (t ∷ at) =
-    as_times (instants_up_to (first_multiple moment.closed step.0 (moment_of asked moment t.0 -ℤ range.0)) (moment_of asked moment (last_instant t at).0) step.0)
+    as_times (filter (λ (u : ℤ). list_any (is_in_range asked moment range u) (t ∷ at))
+    (instants_up_to (first_multiple moment.closed step.0 (moment_of asked moment t.0 -ℤ range.0)) (moment_of asked moment (last_instant t at).0) step.0))
 
--- the first instant alone, if there is one
+-- the first instant; where there is none, the time 0
+abbrev pub first_of : List Ms → Ms
+first_of [] = record { 0 = pos 0 }
+first_of (t ∷ at) = t
+
+-- the one instant at which a part is asked that is computed once
 abbrev pub first_alone : List Ms → List Ms
-first_alone [] = []
-first_alone (t ∷ at) = t ∷ []
+first_alone at = first_of at ∷ []
 
 -- all of some parts at the same instants
 abbrev pub all_of : List Bounding → Bounding
@@ -71,3 +83,7 @@ node_bound asked (PlanNode-F.Once inner) = λ at. inner (first_alone at)
 -- what a plan costs at most at some instants: a part that is computed once costs what it does at the first one
 abbrev pub plan_bound : Asked → Plan → Bounding
 plan_bound asked p = fold-Plan Bounding Bounding (node_bound asked) (λ p. p.node) p
+
+-- all arguments of a function
+abbrev pub arguments_bound : Asked → List Plan → Bounding
+arguments_bound asked arguments = all_of (map (plan_bound asked) arguments)
