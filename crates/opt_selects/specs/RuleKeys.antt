@@ -28,10 +28,3 @@ has_key keys key = list_any (λ k. k == key) keys
 
 abbrev pub has_keys : List ℕ → List ℕ → Bool
 has_keys keys some = list_all (has_key keys) some
-
--- a number that the order of others doesn't change: 55 bits of the sum of their squares, 31 bits of each number taken
-abbrev pub with_square : ℕ → ℕ → ℕ
-with_square sum key = (sum + (key % 2147483648) * (key % 2147483648)) % 36028797018963968
-
-abbrev pub sum_of_squares : List ℕ → ℕ
-sum_of_squares keys = fold with_square 0 keys

@@ -92,11 +92,14 @@ fn is_base_of(a: &Found, rules: &[Rule], moment: &Moment, range: Option<Ms>) -> 
         && !is_part(rules, a.rules.as_slice())
 }
 
-/// Whether a selector is a base for what is sought. Numbers are asked first, since they tell most rules apart.
+/// Whether a selector is a base for what is sought. Moments are asked first, then numbers, since they tell most rules apart.
 pub(crate) fn is_base(a: &Keyed, sought: &Sought) -> bool
     requires { sought.now.keys.now ≡ map rule_key sought.now.rules.now }
     ensures { result ≡ is_base sought.now.rules.now sought.now.moment.now sought.now.range a.now }
 {
+    if !same_moment(&a.found().moment, sought.moment) {
+        return false;
+    }
     if !a.has_keys_in(sought.keys) {
         return false;
     }

@@ -1,5 +1,5 @@
 //! Selectors beside numbers of their rules.
-ghost use Rattle.opt_selects.specs.RuleKeys.{has_key, has_keys, kind_number, rule_key, sum_of_squares, text_number, with_digit};
+ghost use Rattle.opt_selects.specs.RuleKeys.{has_key, has_keys, kind_number, rule_key, text_number, with_digit};
 ghost use Rattle.std.specs.Prelude.{◌≡◌, ◌<◌, map, IfOk};
 
 use crate::found::Found;
@@ -63,10 +63,9 @@ impl Keyed {
         are_among(keys, self.keys.as_slice())
     }
 
-    /// A number that selectors share which have the same rules, each as often, in whatever order.
-    pub fn number(&self) -> u64
-        ensures { result ≡ sum_of_squares (map rule_key self.now.rules) }
-    {
+    /// A number that selectors share which have the same rules, whatever their order and however often each stands. It only says
+    /// which selectors may be alike.
+    pub fn number(&self) -> u64 {
         sum_of_squares(self.keys.as_slice())
     }
 }
@@ -134,13 +133,23 @@ fn key(rule: &Rule) -> u64
     kind_number(text_number(0, rule.label.as_str()), &rule.kind)
 }
 
-fn sum_of_squares(keys: &[u64]) -> u64
-    ensures { result ≡ sum_of_squares keys.now }
+/// A sum and the square of 31 bits of a number, of which 55 bits are kept.
+fn with_square(sum: u64, key: u64) -> u64
+    requires { sum < 36028797018963968 }
+    ensures { result < 36028797018963968 }
 {
+    let small = key % 2147483648;
+    (sum + small * small) % 36028797018963968
+}
+
+/// A sum of squares of numbers, without those that stand among the first ones before: as many as rules have that are written by
+/// hand, so that long lists cost no more than their length.
+fn sum_of_squares(keys: &[u64]) -> u64 {
     let mut sum = 0;
-    for key in keys {
-        let small = *key % 2147483648;
-        sum = (sum + small * small) % 36028797018963968;
+    for i in 0..keys.len() {
+        if !has_key(keys.split_at(i.min(64)).0, keys[i]) {
+            sum = with_square(sum, keys[i]);
+        }
     }
     sum
 }
