@@ -1,0 +1,11 @@
+mod AsSets
+mod Following
+mod Grouping
+mod LoneWindows
+mod Merging
+mod Refusing
+mod Replaced
+mod Rooms
+mod Settling
+mod Sound
+mod Standing

@@ -1,0 +1,15 @@
+-- What is lent of the cells of all engines at one instant. (This project's own.)
+use Rattle.std.specs.Prelude.{◌≡◌, List, [], ◌∷◌}
+use Rattle.step_batch.specs.Lent.{Lent, stages}
+use Rattle.step_batch.specs.LentWindows.{WindowsAt}
+use Rattle.step_table.specs.declared.cells.PartKind.{PartKind}
+use Rattle.step_table.specs.declared.cells.PartKind.TheVariants as part
+use Rattle.step_table.specs.declared.cells.StepCells.{StepCells}
+use Rattle.ticks.specs.declared.moment.Ms.{Ms}
+use Rattle.op_gather.specs.Joins.{groups_joined, rows_joined, windows_joined}
+
+-- what engines gave at an instant is lent as what their cells come to: as windows where these are asked, else as a step
+abbrev pub LendsJoined : PartKind → Ms → List StepCells → Lent → WindowsAt → Type 0
+LendsJoined part.Rows t steps lent windows = stages lent ≡ record { at = t; step = rows_joined steps } ∷ []
+LendsJoined part.Windows t steps lent windows = windows ≡ windows_joined t steps
+LendsJoined (part.Partial f by) t steps lent windows = stages lent ≡ record { at = t; step = groups_joined f steps } ∷ []

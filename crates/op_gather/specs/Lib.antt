@@ -1,0 +1,6 @@
+pub mod Cells
+pub mod Histories
+pub mod Joined
+pub mod Joins
+pub mod Laws
+pub mod Queues

@@ -1,0 +1,13 @@
+//! Laws of a gather. The functions do nothing: each stands for what its contract says.
+ghost use Rattle.op_gather.specs.Joins.{SetsStay};
+ghost use Rattle.op_gather.specs.Laws.{RoomIsLeft};
+
+/// While an instant is left whose step isn't kept of each engine, some engine has room, so that there is one to pull.
+pub fn room_is_left()
+    ensures { RoomIsLeft }
+{}
+
+/// Marks and notes that are sets, as those of an engine that gives what it owes, are joined as they are.
+pub fn sets_stay()
+    ensures { SetsStay }
+{}
