@@ -1,12 +1,9 @@
 -- One selector of each kind has the bases that all have.
 use Rattle.std.proofs.Common.{◌≡◌, ◌∙◌, ℕ, List, [], ◌∷◌, ◌++◌, ap, sym, refl, Some, None, Bool, true, false, cond}
-use Rattle.std.specs.Prelude.{ℤ, Option, option_map, ◌&&◌, ◌||◌, not}
-use Rattle.std.specs.Ordering.{int_eq}
+use Rattle.std.specs.Prelude.{Option, option_map, ◌&&◌, ◌||◌, not}
 use Rattle.std.specs.List.{find, list_all, list_any}
-use Rattle.std.proofs.lemmas.Bool.Decides.{Decides-int_eq}
+use Rattle.std.proofs.lemmas.Bool.{and_from, and_parts}
 use Rattle.label_set.specs.declared.rules.Rule.{Rule}
-use Rattle.promql_ast.specs.declared.tree.Fixed.{Fixed}
-use Rattle.promql_ast.specs.declared.tree.Fixed.TheVariants.{At, Start, End}
 use Rattle.promql_ast.specs.declared.tree.Moment.{Moment}
 use Rattle.ticks.specs.declared.moment.Ms.{Ms}
 use Rattle.logical_plan.specs.declared.nodes.PlanNode.{PlanNode}
@@ -15,62 +12,17 @@ use Rattle.logical_plan.specs.declared.nodes.PlanNode.TheOpen.{PlanNode-F}
 use Rattle.logical_plan.specs.declared.nodes.Plan.{Plan}
 use Rattle.plan_rewrite.specs.RuleLaws.{member}
 use Rattle.plan_rewrite.specs.RuleLists.{has_rule, is_part}
-use Rattle.opt_selects.specs.Bases.{HaveSameBases, has_alike, is_alike, is_base, merge_selects, names_metric, over_base, same_fixed, same_flag, same_moment, same_range, share_metric}
+use Rattle.opt_selects.specs.Bases.{HaveSameBases, has_alike, is_alike, is_base, merge_selects, names_metric, over_base, same_moment, same_range}
 use Rattle.opt_selects.specs.declared.found.Found.{Found}
-
-left : (a b : Bool) → (a && b) ≡ true → a ≡ true
-left true b e = refl
-left false b e = e
-
-right : (a b : Bool) → (a && b) ≡ true → b ≡ true
-right true b e = e
-right false b e = absurd (cc)
-
-both : (a b : Bool) → a ≡ true → b ≡ true → (a && b) ≡ true
-both true b e f = f
-both false b e f = e
-
-fixed_same : (a b : Option Fixed) → same_fixed a b ≡ true → a ≡ b
-fixed_same None None e = refl
-fixed_same (Some (At a)) (Some (At b)) e = ap (λ (t : ℤ). Some (At (record { 0 = t }))) ((Decides-int_eq a.0 b.0).0 e)
-fixed_same (Some Start) (Some Start) e = refl
-fixed_same (Some End) (Some End) e = refl
-fixed_same None (Some b) e = absurd (cc)
-fixed_same (Some (At a)) None e = absurd (cc)
-fixed_same (Some (At a)) (Some Start) e = absurd (cc)
-fixed_same (Some (At a)) (Some End) e = absurd (cc)
-fixed_same (Some Start) None e = absurd (cc)
-fixed_same (Some Start) (Some (At b)) e = absurd (cc)
-fixed_same (Some Start) (Some End) e = absurd (cc)
-fixed_same (Some End) None e = absurd (cc)
-fixed_same (Some End) (Some (At b)) e = absurd (cc)
-fixed_same (Some End) (Some Start) e = absurd (cc)
-
-flag_same : (a b : Bool) → same_flag a b ≡ true → a ≡ b
-flag_same true true e = refl
-flag_same true false e = absurd (cc)
-flag_same false true e = absurd (cc)
-flag_same false false e = refl
-
-moment_same : (a b : Moment) → same_moment a b ≡ true → a ≡ b
-moment_same a b e =
-    let front = left (same_fixed a.fixed b.fixed && int_eq a.offset.0 b.offset.0) (same_flag a.closed b.closed) e in
-    let fixed = fixed_same a.fixed b.fixed (left (same_fixed a.fixed b.fixed) (int_eq a.offset.0 b.offset.0) front) in
-    let offset = (Decides-int_eq a.offset.0 b.offset.0).0 (right (same_fixed a.fixed b.fixed) (int_eq a.offset.0 b.offset.0) front) in
-    let closed = flag_same a.closed b.closed (right (same_fixed a.fixed b.fixed && int_eq a.offset.0 b.offset.0) (same_flag a.closed b.closed) e) in
-    λ i. record { fixed = fixed i; offset = record { 0 = offset i }; closed = closed i }
-
-range_same : (a b : Option Ms) → same_range a b ≡ true → a ≡ b
-range_same None None e = refl
-range_same (Some a) (Some b) e = ap (λ (t : ℤ). Some (record { 0 = t })) ((Decides-int_eq a.0 b.0).0 e)
-range_same None (Some b) e = absurd (cc)
-range_same (Some a) None e = absurd (cc)
+use Rattle.opt_selects.proofs.BaseParts.{base_from, base_parts}
+use Rattle.opt_selects.proofs.Moments.{moment_same, range_same}
 
 -- a part of a part is a part
 part_of_part : (a b c : List Rule) → is_part a b ≡ true → is_part b c ≡ true → is_part a c ≡ true
 part_of_part [] b c e f = refl
 part_of_part (r ∷ a) b c e f =
-    both (has_rule c r) (is_part a c) (member (has_rule c) b r (left (has_rule b r) (is_part a b) e) f) (part_of_part a b c (right (has_rule b r) (is_part a b) e) f)
+    let parts = and_parts (has_rule b r) (is_part a b) e in
+    and_from (has_rule c r) (is_part a c) (member (has_rule c) b r parts.0 f) (part_of_part a b c parts.1 f)
 
 module _ (p : Rule → Bool) where
   none : (rules : List Rule) → list_any p rules ≡ false → list_all (λ (rule : Rule). not (p rule)) rules ≡ true
@@ -93,10 +45,10 @@ module _ (p : Rule → Bool) where
 
   any_of_part : (a b : List Rule) → is_part a b ≡ true → list_any p a ≡ true → list_any p b ≡ true
   any_of_part [] b e f = absurd (cc)
-  any_of_part (r ∷ a) b e f = by (p r) refl f (any_of_part a b (right (has_rule b r) (is_part a b) e))
+  any_of_part (r ∷ a) b e f = by (p r) refl f (any_of_part a b (and_parts (has_rule b r) (is_part a b) e).1)
     where
       by : (s : Bool) → p r ≡ s → (s || list_any p a) ≡ true → (list_any p a ≡ true → list_any p b ≡ true) → list_any p b ≡ true
-      by true is f rest = found_in b r (left (has_rule b r) (is_part a b) e) is
+      by true is f rest = found_in b r (and_parts (has_rule b r) (is_part a b) e).0 is
       by false is f rest = rest f
 
 -- what is no part of some rules is no part of a part of them
@@ -110,24 +62,19 @@ no_part a b rules e f = by (is_part rules a) refl
 -- what a selector is a base for, one that is alike is a base for
 alike_base : (a b : Found) (rules : List Rule) (moment : Moment) (range : Option Ms) → is_alike a b ≡ true → is_base rules moment range b ≡ true → is_base rules moment range a ≡ true
 alike_base a b rules moment range e f =
-    let a1 = left (same_moment a.moment b.moment && same_range a.range b.range && is_part a.rules b.rules) (is_part b.rules a.rules) e in
-    let a2 = left (same_moment a.moment b.moment && same_range a.range b.range) (is_part a.rules b.rules) a1 in
-    let moments = moment_same a.moment b.moment (left (same_moment a.moment b.moment) (same_range a.range b.range) a2) in
-    let ranges = range_same a.range b.range (right (same_moment a.moment b.moment) (same_range a.range b.range) a2) in
-    let to = right (same_moment a.moment b.moment && same_range a.range b.range) (is_part a.rules b.rules) a1 in
-    let from = right (same_moment a.moment b.moment && same_range a.range b.range && is_part a.rules b.rules) (is_part b.rules a.rules) e in
-    let f1 = left (same_moment b.moment moment && same_range b.range range && share_metric b.rules rules && is_part b.rules rules) (not (is_part rules b.rules)) f in
-    let f2 = left (same_moment b.moment moment && same_range b.range range && share_metric b.rules rules) (is_part b.rules rules) f1 in
-    let f3 = left (same_moment b.moment moment && same_range b.range range) (share_metric b.rules rules) f2 in
-    both (same_moment a.moment moment && same_range a.range range && share_metric a.rules rules && is_part a.rules rules) (not (is_part rules a.rules))
-    (both (same_moment a.moment moment && same_range a.range range && share_metric a.rules rules) (is_part a.rules rules)
-    (both (same_moment a.moment moment && same_range a.range range) (share_metric a.rules rules)
-    (both (same_moment a.moment moment) (same_range a.range range)
-    (ap (λ (m : Moment). same_moment m moment) moments ∙ left (same_moment b.moment moment) (same_range b.range range) f3)
-    (ap (λ (r : Option Ms). same_range r range) ranges ∙ right (same_moment b.moment moment) (same_range b.range range) f3))
-    (any_of_part (λ (rule : Rule). names_metric rule && has_rule rules rule) b.rules a.rules from (right (same_moment b.moment moment && same_range b.range range) (share_metric b.rules rules) f2)))
-    (part_of_part a.rules b.rules rules to (right (same_moment b.moment moment && same_range b.range range && share_metric b.rules rules) (is_part b.rules rules) f1)))
-    (no_part a.rules b.rules rules to (right (same_moment b.moment moment && same_range b.range range && share_metric b.rules rules && is_part b.rules rules) (not (is_part rules b.rules)) f))
+    let all = and_parts (same_moment a.moment b.moment && same_range a.range b.range && is_part a.rules b.rules) (is_part b.rules a.rules) e in
+    let to = and_parts (same_moment a.moment b.moment && same_range a.range b.range) (is_part a.rules b.rules) all.0 in
+    let times = and_parts (same_moment a.moment b.moment) (same_range a.range b.range) to.0 in
+    let moments = moment_same a.moment b.moment times.0 in
+    let ranges = range_same a.range b.range times.1 in
+    let base = base_parts rules moment range b f in
+    base_from rules moment range a (record {
+      moments = ap (λ (m : Moment). same_moment m moment) moments ∙ base.moments;
+      ranges = ap (λ (r : Option Ms). same_range r range) ranges ∙ base.ranges;
+      metrics = any_of_part (λ (rule : Rule). names_metric rule && has_rule rules rule) b.rules a.rules all.1 base.metrics;
+      part = part_of_part a.rules b.rules rules to.1 base.part;
+      proper = no_part a.rules b.rules rules to.1 base.proper;
+    })
 
 module _ (p : Found → Bool) (one : Found) (alike_pass : (a : Found) → is_alike a one ≡ true → p one ≡ true → p a ≡ true) where
   passed_over : (kept rest : List Found) → p one ≡ false → find p (kept ++ one ∷ rest) ≡ find p (kept ++ rest)

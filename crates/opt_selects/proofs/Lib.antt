@@ -1,7 +1,10 @@
 mod Alike
+mod BaseParts
 mod FirstBases
 mod Merges
+mod Moments
 mod Numbers
 mod Orders
+mod RowsGrow
 mod Standing
 mod Trims

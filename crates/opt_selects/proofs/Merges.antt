@@ -1,6 +1,6 @@
 -- A selector over its base means what it meant.
 use Rattle.std.proofs.Common.{◌≡◌, ◌∙◌, ℕ, List, [], ◌∷◌, ap, sym, refl, Some, None, Bool, true, false, cond}
-use Rattle.std.specs.Prelude.{Option, option_map, ◌&&◌, not}
+use Rattle.std.specs.Prelude.{Option, option_map}
 use Rattle.std.specs.List.{find}
 use Rattle.label_set.specs.declared.rules.Rule.{Rule}
 use Rattle.promql_ast.specs.declared.tree.Moment.{Moment}
@@ -14,22 +14,9 @@ use Rattle.plan_rewrite.specs.NodeMeanings.{at_range, at_select, rolled_means}
 use Rattle.plan_rewrite.specs.Rebuilding.{KeepsMeaning, node_of}
 use Rattle.plan_rewrite.specs.RuleLaws.{parts_together}
 use Rattle.plan_rewrite.specs.RuleLists.{is_part, lacking}
-use Rattle.opt_selects.specs.Bases.{base_among, is_base, merge_selects, over_base, same_moment, same_range, share_metric}
+use Rattle.opt_selects.specs.Bases.{base_among, is_base, merge_selects, over_base}
 use Rattle.opt_selects.specs.declared.found.Found.{Found}
-
-pub left_true : (a b : Bool) → (a && b) ≡ true → a ≡ true
-left_true true b e = refl
-left_true false b e = e
-
-pub right_true : (a b : Bool) → (a && b) ≡ true → b ≡ true
-right_true true b e = e
-right_true false b e = absurd (cc)
-
--- a base has a part of the rules
-pub base_is_part : (rules : List Rule) (moment : Moment) (range : Option Ms) (a : Found) → is_base rules moment range a ≡ true → is_part a.rules rules ≡ true
-base_is_part rules moment range a e =
-    right_true (same_moment a.moment moment && same_range a.range range && share_metric a.rules rules) (is_part a.rules rules)
-    (left_true (same_moment a.moment moment && same_range a.range range && share_metric a.rules rules && is_part a.rules rules) (not (is_part rules a.rules)) e)
+use Rattle.opt_selects.proofs.BaseParts.{base_parts}
 
 part_among : (found : List Found) (rules : List Rule) (moment : Moment) (range : Option Ms) (base : List Rule) → base_among found rules moment range ≡ Some base → is_part base rules ≡ true
 part_among [] rules moment range base e = absurd (cc)
@@ -37,7 +24,7 @@ part_among (a ∷ found) rules moment range base e = by (is_base rules moment ra
   where
     by : (b : Bool) → is_base rules moment range a ≡ b → option_map (λ (a : Found). a.rules) (cond b (Some a) (find (is_base rules moment range) found)) ≡ Some base
         → (base_among found rules moment range ≡ Some base → is_part base rules ≡ true) → is_part base rules ≡ true
-    by true is e rest = let same : a.rules ≡ base = cc in ap (λ r. is_part r rules) (sym same) ∙ base_is_part rules moment range a is
+    by true is e rest = let same : a.rules ≡ base = cc in ap (λ r. is_part r rules) (sym same) ∙ (base_parts rules moment range a is).part
     by false is e rest = rest e
 
 module _ (rows_pass : MoreRulesFilterRows) (windows_pass : MoreRulesFilterWindows) (asked : Asked) (found : List Found) where

@@ -2,115 +2,109 @@
 use Rattle.std.proofs.Common.{◌≡◌, ◌∙◌, ℕ, zero, suc, ◌<◌, ◌≤◌, List, [], ◌∷◌, ◌++◌, length, get_or, ap, sym, refl, subst, Some, Bool, true, false, cond, arith, inl, inr, ◌⊎◌, Result, Ok, Err, OnOk, ltb-true, ltb-false, eqb-true, eq-eqb, slice_get, ◌≢◌}
 use Rattle.std.specs.Prelude.{⊤, ◌&&◌, ◌||◌, ◌%◌, ◌==◌, nat_lt, if◌then◌else◌}
 use Rattle.std.specs.List.{find}
-use Rattle.std.proofs.lemmas.Bool.{eqb-false}
+use Rattle.std.proofs.lemmas.Bool.{and_from, and_parts, eqb-false, or_left, or_right}
 use Rattle.std.proofs.lemmas.Nat.{mod_below}
 use Rattle.std.specs.declared.alloc.AllocError.{AllocError}
 use Rattle.std.proofs.lemmas.List.{get_or-set_same, get_or-set_other, length-set}
 use Rattle.opt_selects.specs.RuleKeys.{has_key, has_keys}
-use Rattle.opt_selects.specs.Candidates.{is_under, least_of, least_under, passes_at, put_under, under}
-
-left : (a b : Bool) → (a && b) ≡ true → a ≡ true
-left true b e = refl
-left false b e = absurd (cc)
-
-right : (a b : Bool) → (a && b) ≡ true → b ≡ true
-right true b e = e
-right false b e = absurd (cc)
-
-either : (a b : Bool) → b ≡ true → (a || b) ≡ true
-either true b e = refl
-either false b e = e
+use Rattle.opt_selects.specs.Candidates.{is_placed, is_under, least_of, least_under, passes_at, put_under, row_of}
+use Rattle.opt_selects.specs.declared.candidates.Placed.{Placed}
 
 module _ (p : ℕ → Bool) where
-  abbrev next : ℕ → ℕ → ℕ
-  next n bound = if nat_lt n bound && p n then n else bound
+  module _ (key : ℕ) where
+    abbrev next : Placed → ℕ → ℕ
+    next s bound = if s.key == key && nat_lt s.place bound && p s.place then s.place else bound
 
-  next_upto : (n bound : ℕ) → next n bound ≤ bound
-  next_upto n bound = by (nat_lt n bound) (p n) refl
-    where
-      by : (b c : Bool) → nat_lt n bound ≡ b → (if b && c then n else bound) ≤ bound
-      by true true e = let h = ltb-true n bound e in omega (arith, h)
-      by true false e = omega arith
-      by false c e = omega arith
+    next_upto : (s : Placed) (bound : ℕ) → next s bound ≤ bound
+    next_upto s bound = by (s.key == key) (nat_lt s.place bound) (p s.place) refl
+      where
+        by : (a b c : Bool) → nat_lt s.place bound ≡ b → (if a && b && c then s.place else bound) ≤ bound
+        by true true true e = let h = ltb-true s.place bound e in omega (arith, h)
+        by true true false e = omega arith
+        by true false c e = omega arith
+        by false b c e = omega arith
 
-  next_least : (n bound : ℕ) → p n ≡ true → next n bound ≤ n
-  next_least n bound e = subst (λ c. (if nat_lt n bound && c then n else bound) ≤ n) (sym e) (by (nat_lt n bound) refl)
-    where
-      by : (b : Bool) → nat_lt n bound ≡ b → (if b && true then n else bound) ≤ n
-      by true is = omega arith
-      by false is = let h = ltb-false n bound is in omega (arith, h)
+    next_least : (s : Placed) (bound : ℕ) → (s.key == key) ≡ true → p s.place ≡ true → next s bound ≤ s.place
+    next_least s bound same e =
+        subst (λ a. (if a && nat_lt s.place bound && p s.place then s.place else bound) ≤ s.place) (sym same)
+        (subst (λ c. (if nat_lt s.place bound && c then s.place else bound) ≤ s.place) (sym e) (by (nat_lt s.place bound) refl))
+      where
+        by : (b : Bool) → nat_lt s.place bound ≡ b → (if b && true then s.place else bound) ≤ s.place
+        by true is = omega arith
+        by false is = let h = ltb-false s.place bound is in omega (arith, h)
 
-  next_passes : (most n bound : ℕ) → (bound ≡ most) ⊎ (p bound ≡ true) → (next n bound ≡ most) ⊎ (p (next n bound) ≡ true)
-  next_passes most n bound e = by (nat_lt n bound) (p n) refl
-    where
-      by : (b c : Bool) → p n ≡ c → ((if b && c then n else bound) ≡ most) ⊎ (p (if b && c then n else bound) ≡ true)
-      by true true is = inr is
-      by true false is = e
-      by false c is = e
+    next_passes : (most : ℕ) (s : Placed) (bound : ℕ) → (bound ≡ most) ⊎ (p bound ≡ true) → (next s bound ≡ most) ⊎ (p (next s bound) ≡ true)
+    next_passes most s bound e = by (s.key == key) (nat_lt s.place bound) (p s.place) refl
+      where
+        by : (a b c : Bool) → p s.place ≡ c → ((if a && b && c then s.place else bound) ≡ most) ⊎ (p (if a && b && c then s.place else bound) ≡ true)
+        by true true true is = inr is
+        by true true false is = e
+        by true false c is = e
+        by false b c is = e
 
-  least_of_upto : (places : List ℕ) (bound : ℕ) → least_of p places bound ≤ bound
-  least_of_upto [] bound = omega arith
-  least_of_upto (n ∷ places) bound =
-      let here = next_upto n bound in
-      let rest = least_of_upto places (next n bound) in
-      omega (arith, here, rest)
+    least_of_upto : (row : List Placed) (bound : ℕ) → least_of p key row bound ≤ bound
+    least_of_upto [] bound = omega arith
+    least_of_upto (s ∷ row) bound =
+        let here = next_upto s bound in
+        let rest = least_of_upto row (next s bound) in
+        omega (arith, here, rest)
 
-  least_of_least : (places : List ℕ) (bound n : ℕ) → has_key places n ≡ true → p n ≡ true → least_of p places bound ≤ n
-  least_of_least [] bound n h e = absurd (cc)
-  least_of_least (m ∷ places) bound n h e = by (m == n) refl h (λ f. least_of_least places (next m bound) n f e)
-    where
-      by : (b : Bool) → (m == n) ≡ b → (b || has_key places n) ≡ true → (has_key places n ≡ true → least_of p places (next m bound) ≤ n) → least_of p places (next m bound) ≤ n
-      by true is h rest =
-          let same : m ≡ n = eqb-true m n is in
-          let here : next m bound ≤ m = next_least m bound (ap p same ∙ e) in
-          let upto = least_of_upto places (next m bound) in
-          omega (arith, same, here, upto)
-      by false is h rest = rest h
+    least_of_least : (row : List Placed) (bound n : ℕ) → is_placed row key n ≡ true → p n ≡ true → least_of p key row bound ≤ n
+    least_of_least [] bound n h e = absurd (cc)
+    least_of_least (s ∷ row) bound n h e = by (s.key == key && s.place == n) refl h (λ f. least_of_least row (next s bound) n f e)
+      where
+        by : (b : Bool) → (s.key == key && s.place == n) ≡ b → (b || is_placed row key n) ≡ true → (is_placed row key n ≡ true → least_of p key row (next s bound) ≤ n) → least_of p key row (next s bound) ≤ n
+        by true is h rest =
+            let same : s.place ≡ n = eqb-true s.place n (and_parts (s.key == key) (s.place == n) is).1 in
+            let here : next s bound ≤ s.place = next_least s bound (and_parts (s.key == key) (s.place == n) is).0 (ap p same ∙ e) in
+            let upto = least_of_upto row (next s bound) in
+            omega (arith, same, here, upto)
+        by false is h rest = rest h
 
-  least_of_passes : (most : ℕ) (places : List ℕ) (bound : ℕ) → (bound ≡ most) ⊎ (p bound ≡ true) → (least_of p places bound ≡ most) ⊎ (p (least_of p places bound) ≡ true)
-  least_of_passes most [] bound e = e
-  least_of_passes most (n ∷ places) bound e = least_of_passes most places (next n bound) (next_passes most n bound e)
+    least_of_passes : (most : ℕ) (row : List Placed) (bound : ℕ) → (bound ≡ most) ⊎ (p bound ≡ true) → (least_of p key row bound ≡ most) ⊎ (p (least_of p key row bound) ≡ true)
+    least_of_passes most [] bound e = e
+    least_of_passes most (s ∷ row) bound e = least_of_passes most row (next s bound) (next_passes most s bound e)
 
-  module _ (rows : List (List ℕ)) where
+  module _ (rows : List (List Placed)) where
     least_upto : (keys : List ℕ) (bound : ℕ) → least_under p rows keys bound ≤ bound
     least_upto [] bound = omega arith
     least_upto (key ∷ keys) bound =
-        let here = least_of_upto (under rows key) bound in
-        let rest = least_upto keys (least_of p (under rows key) bound) in
+        let here = least_of_upto key (row_of rows key) bound in
+        let rest = least_upto keys (least_of p key (row_of rows key) bound) in
         omega (arith, here, rest)
 
     least_is_least : (keys : List ℕ) (bound place : ℕ) → is_under rows keys place ≡ true → p place ≡ true → least_under p rows keys bound ≤ place
     least_is_least [] bound place h e = absurd (cc)
-    least_is_least (key ∷ keys) bound place h e = by (has_key (under rows key) place) refl h (λ f. least_is_least keys (least_of p (under rows key) bound) place f e)
+    least_is_least (key ∷ keys) bound place h e = by (is_placed (row_of rows key) key place) refl h (λ f. least_is_least keys (least_of p key (row_of rows key) bound) place f e)
       where
-        by : (b : Bool) → has_key (under rows key) place ≡ b → (b || is_under rows keys place) ≡ true → (is_under rows keys place ≡ true → least_under p rows keys (least_of p (under rows key) bound) ≤ place)
-            → least_under p rows keys (least_of p (under rows key) bound) ≤ place
+        by : (b : Bool) → is_placed (row_of rows key) key place ≡ b → (b || is_under rows keys place) ≡ true → (is_under rows keys place ≡ true → least_under p rows keys (least_of p key (row_of rows key) bound) ≤ place)
+            → least_under p rows keys (least_of p key (row_of rows key) bound) ≤ place
         by true is h rest =
-            let here = least_of_least (under rows key) bound place is e in
-            let upto = least_upto keys (least_of p (under rows key) bound) in
+            let here = least_of_least key (row_of rows key) bound place is e in
+            let upto = least_upto keys (least_of p key (row_of rows key) bound) in
             omega (arith, here, upto)
         by false is h rest = rest h
 
     least_passes : (most : ℕ) (keys : List ℕ) (bound : ℕ) → (bound ≡ most) ⊎ (p bound ≡ true) → (least_under p rows keys bound ≡ most) ⊎ (p (least_under p rows keys bound) ≡ true)
     least_passes most [] bound e = e
-    least_passes most (key ∷ keys) bound e = least_passes most keys (least_of p (under rows key) bound) (least_of_passes most (under rows key) bound e)
+    least_passes most (key ∷ keys) bound e = least_passes most keys (least_of p key (row_of rows key) bound) (least_of_passes key most (row_of rows key) bound e)
 
-module _ (rows : List (List ℕ)) (place : ℕ) where
-  under_one : (keys : List ℕ) (key : ℕ) → has_key keys key ≡ true → has_key (under rows key) place ≡ true → is_under rows keys place ≡ true
+module _ (rows : List (List Placed)) (place : ℕ) where
+  under_one : (keys : List ℕ) (key : ℕ) → has_key keys key ≡ true → is_placed (row_of rows key) key place ≡ true → is_under rows keys place ≡ true
   under_one [] key h e = absurd (cc)
   under_one (k ∷ keys) key h e = by (k == key) refl h (λ f. under_one keys key f e)
     where
-      by : (b : Bool) → (k == key) ≡ b → (b || has_key keys key) ≡ true → (has_key keys key ≡ true → is_under rows keys place ≡ true) → (has_key (under rows k) place || is_under rows keys place) ≡ true
-      by true is h rest = ap (λ z. has_key (under rows z) place || is_under rows keys place) (eqb-true k key is) ∙ ap (λ b. b || is_under rows keys place) e
-      by false is h rest = either (has_key (under rows k) place) (is_under rows keys place) (rest h)
+      by : (b : Bool) → (k == key) ≡ b → (b || has_key keys key) ≡ true → (has_key keys key ≡ true → is_under rows keys place ≡ true) → (is_placed (row_of rows k) k place || is_under rows keys place) ≡ true
+      by true is h rest = ap (λ z. is_placed (row_of rows z) z place || is_under rows keys place) (eqb-true k key is) ∙ ap (λ b. b || is_under rows keys place) e
+      by false is h rest = or_right (is_placed (row_of rows k) k place) (is_under rows keys place) (rest h)
 
   -- what stands under one of some numbers stands under one of more
   pub under_more : (keys some : List ℕ) → has_keys keys some ≡ true → is_under rows some place ≡ true → is_under rows keys place ≡ true
   under_more keys [] h e = absurd (cc)
-  under_more keys (k ∷ some) h e = by (has_key (under rows k) place) refl e (under_more keys some (right (has_key keys k) (has_keys keys some) h))
+  under_more keys (k ∷ some) h e = by (is_placed (row_of rows k) k place) refl e (under_more keys some (and_parts (has_key keys k) (has_keys keys some) h).1)
     where
-      by : (b : Bool) → has_key (under rows k) place ≡ b → (b || is_under rows some place) ≡ true → (is_under rows some place ≡ true → is_under rows keys place ≡ true) → is_under rows keys place ≡ true
-      by true is e rest = under_one keys k (left (has_key keys k) (has_keys keys some) h) is
+      by : (b : Bool) → is_placed (row_of rows k) k place ≡ b → (b || is_under rows some place) ≡ true → (is_under rows some place ≡ true → is_under rows keys place ≡ true) → is_under rows keys place ≡ true
+      by true is e rest = under_one keys k (and_parts (has_key keys k) (has_keys keys some) h).0 is
       by false is e rest = rest e
 
 -- the first that passes is the one at the least place
@@ -130,54 +124,57 @@ find_at p (x ∷ xs) (suc r) least e = by (p x) refl (find_at p xs r (λ n h. le
     by false is rest = rest
 
 -- among selectors of which those that pass stand under some numbers, the least place under these has the first that passes
-pub first_found : {X : Type 0} (p : X → Bool) (xs : List X) (rows : List (List ℕ)) (keys : List ℕ) → ((n : ℕ) → passes_at p xs n ≡ true → is_under rows keys n ≡ true)
+pub first_found : {X : Type 0} (p : X → Bool) (xs : List X) (rows : List (List Placed)) (keys : List ℕ) → ((n : ℕ) → passes_at p xs n ≡ true → is_under rows keys n ≡ true)
     → slice_get xs (least_under (passes_at p xs) rows keys (length xs)) ≡ find p xs
 first_found p xs rows keys stand =
     sym (find_at p xs (least_under (passes_at p xs) rows keys (length xs)) (λ n h. least_is_least (passes_at p xs) rows keys (length xs) n (stand n h) h)
     (least_passes (passes_at p xs) rows (length xs) keys (length xs) (inl refl)))
 
--- what stood under a number still does when one more place is put
-has_more : (places : List ℕ) (n m : ℕ) → has_key places n ≡ true → has_key (places ++ m ∷ []) n ≡ true
-has_more [] n m h = absurd (cc)
-has_more (k ∷ places) n m h = by (k == n) h (has_more places n m)
+-- what stood in a row still does when one more place is put there
+has_more : (row : List Placed) (k n : ℕ) (t : Placed) → is_placed row k n ≡ true → is_placed (row ++ t ∷ []) k n ≡ true
+has_more [] k n t h = absurd (cc)
+has_more (s ∷ row) k n t h = by (s.key == k && s.place == n) h (has_more row k n t)
   where
-    by : (b : Bool) → (b || has_key places n) ≡ true → (has_key places n ≡ true → has_key (places ++ m ∷ []) n ≡ true) → (b || has_key (places ++ m ∷ []) n) ≡ true
+    by : (b : Bool) → (b || is_placed row k n) ≡ true → (is_placed row k n ≡ true → is_placed (row ++ t ∷ []) k n ≡ true) → (b || is_placed (row ++ t ∷ []) k n) ≡ true
     by true h rest = refl
     by false h rest = rest h
 
-has_last : (places : List ℕ) (m : ℕ) → has_key (places ++ m ∷ []) m ≡ true
-has_last [] m = ap (λ b. b || false) (eq-eqb m m refl)
-has_last (k ∷ places) m = either (k == m) (has_key (places ++ m ∷ []) m) (has_last places m)
+has_last : (row : List Placed) (t : Placed) → is_placed (row ++ t ∷ []) t.key t.place ≡ true
+has_last [] t = or_left (t.key == t.key && t.place == t.place) false (and_from (t.key == t.key) (t.place == t.place) (eq-eqb t.key t.key refl) (eq-eqb t.place t.place refl))
+has_last (s ∷ row) t = or_right (s.key == t.key && s.place == t.place) (is_placed (row ++ t ∷ []) t.key t.place) (has_last row t)
 
-module _ (rows : List (List ℕ)) (key place : ℕ) (room : key % length rows < length rows) where
+module _ (rows : List (List Placed)) (key place : ℕ) (room : key % length rows < length rows) where
+  abbrev one : Placed
+  one = record { key = key; place = place }
+
   same_rows : length (put_under rows key place) ≡ length rows
-  same_rows = length-set rows (key % length rows) (under rows key ++ place ∷ [])
+  same_rows = length-set rows (key % length rows) (row_of rows key ++ one ∷ [])
 
-  stays_at : (k n : ℕ) → has_key (under rows k) n ≡ true → has_key (under (put_under rows key place) k) n ≡ true
-  stays_at k n h = ap (λ many. has_key (get_or (put_under rows key place) (k % many) []) n) same_rows ∙ by (k % length rows == key % length rows) refl
+  stays_at : (k n : ℕ) → is_placed (row_of rows k) k n ≡ true → is_placed (row_of (put_under rows key place) k) k n ≡ true
+  stays_at k n h = ap (λ many. is_placed (get_or (put_under rows key place) (k % many) []) k n) same_rows ∙ by (k % length rows == key % length rows) refl
     where
-      by : (b : Bool) → (k % length rows == key % length rows) ≡ b → has_key (get_or (put_under rows key place) (k % length rows) []) n ≡ true
+      by : (b : Bool) → (k % length rows == key % length rows) ≡ b → is_placed (get_or (put_under rows key place) (k % length rows) []) k n ≡ true
       by true is =
           let same : k % length rows ≡ key % length rows = eqb-true _ _ is in
-          ap (λ i. has_key (get_or (put_under rows key place) i []) n) same
-          ∙ ap (λ row. has_key row n) (get_or-set_same rows (key % length rows) (under rows key ++ place ∷ []) [] room)
-          ∙ has_more (under rows key) n place (ap (λ i. has_key (get_or rows i []) n) (sym same) ∙ h)
-      by false is = ap (λ row. has_key row n) (get_or-set_other rows (key % length rows) (k % length rows) (under rows key ++ place ∷ []) [] (eqb-false _ _ is)) ∙ h
+          ap (λ i. is_placed (get_or (put_under rows key place) i []) k n) same
+          ∙ ap (λ row. is_placed row k n) (get_or-set_same rows (key % length rows) (row_of rows key ++ one ∷ []) [] room)
+          ∙ has_more (row_of rows key) k n one (ap (λ i. is_placed (get_or rows i []) k n) (sym same) ∙ h)
+      by false is = ap (λ row. is_placed row k n) (get_or-set_other rows (key % length rows) (k % length rows) (row_of rows key ++ one ∷ []) [] (eqb-false _ _ is)) ∙ h
 
   pub stays_under : (keys : List ℕ) (n : ℕ) → is_under rows keys n ≡ true → is_under (put_under rows key place) keys n ≡ true
   stays_under [] n h = absurd (cc)
-  stays_under (k ∷ keys) n h = by (has_key (under rows k) n) refl h (stays_under keys n)
+  stays_under (k ∷ keys) n h = by (is_placed (row_of rows k) k n) refl h (stays_under keys n)
     where
-      by : (b : Bool) → has_key (under rows k) n ≡ b → (b || is_under rows keys n) ≡ true → (is_under rows keys n ≡ true → is_under (put_under rows key place) keys n ≡ true)
-          → (has_key (under (put_under rows key place) k) n || is_under (put_under rows key place) keys n) ≡ true
-      by true is h rest = ap (λ b. b || is_under (put_under rows key place) keys n) (stays_at k n is)
-      by false is h rest = either (has_key (under (put_under rows key place) k) n) (is_under (put_under rows key place) keys n) (rest h)
+      by : (b : Bool) → is_placed (row_of rows k) k n ≡ b → (b || is_under rows keys n) ≡ true → (is_under rows keys n ≡ true → is_under (put_under rows key place) keys n ≡ true)
+          → (is_placed (row_of (put_under rows key place) k) k n || is_under (put_under rows key place) keys n) ≡ true
+      by true is h rest = or_left (is_placed (row_of (put_under rows key place) k) k n) (is_under (put_under rows key place) keys n) (stays_at k n is)
+      by false is h rest = or_right (is_placed (row_of (put_under rows key place) k) k n) (is_under (put_under rows key place) keys n) (rest h)
 
-  put_there : has_key (under (put_under rows key place) key) place ≡ true
+  put_there : is_placed (row_of (put_under rows key place) key) key place ≡ true
   put_there =
-      ap (λ many. has_key (get_or (put_under rows key place) (key % many) []) place) same_rows
-      ∙ ap (λ row. has_key row place) (get_or-set_same rows (key % length rows) (under rows key ++ place ∷ []) [] room)
-      ∙ has_last (under rows key) place
+      ap (λ many. is_placed (get_or (put_under rows key place) (key % many) []) key place) same_rows
+      ∙ ap (λ row. is_placed row key place) (get_or-set_same rows (key % length rows) (row_of rows key ++ one ∷ []) [] room)
+      ∙ has_last (row_of rows key) one
 
   pub put_stands : (keys : List ℕ) → has_key keys key ≡ true → is_under (put_under rows key place) keys place ≡ true
   put_stands keys h = under_one (put_under rows key place) place keys key h put_there
@@ -185,9 +182,9 @@ module _ (rows : List (List ℕ)) (key place : ℕ) (room : key % length rows < 
 pub key_at : (keys : List ℕ) (i : ℕ) → i < length keys → has_key keys (get_or keys i 0) ≡ true
 key_at [] i h = absurd (omega (arith, h))
 key_at (k ∷ keys) zero h = ap (λ b. b || has_key keys k) (eq-eqb k k refl)
-key_at (k ∷ keys) (suc i) h = either (k == get_or keys i 0) (has_key keys (get_or keys i 0)) (key_at keys i (omega (arith, h)))
+key_at (k ∷ keys) (suc i) h = or_right (k == get_or keys i 0) (has_key keys (get_or keys i 0)) (key_at keys i (omega (arith, h)))
 
-module _ (answer : Result ⊤ AllocError) (rows after : List (List ℕ)) (key place : ℕ) (some : 0 < length rows) where
+module _ (answer : Result ⊤ AllocError) (rows after : List (List Placed)) (key place : ℕ) (some : 0 < length rows) where
   room : key % length rows < length rows
   room = mod_below key (length rows) some
 

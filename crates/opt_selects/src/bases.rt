@@ -1,8 +1,8 @@
 //! The base of a selector.
 ghost use Rattle.opt_selects.specs.Bases.{is_base, is_equality, names_metric, same_fixed, same_flag, same_moment, same_range, share_metric};
-ghost use Rattle.opt_selects.specs.RuleKeys.{rule_key};
+ghost use Rattle.opt_selects.specs.RuleKeys.{rule_keys};
 ghost use Rattle.plan_rewrite.specs.RuleLists.{lacking as lacking_of};
-ghost use Rattle.std.specs.Prelude.{◌≡◌, map, IfOk};
+ghost use Rattle.std.specs.Prelude.{◌≡◌, IfOk};
 
 use crate::found::Found;
 use crate::keyed::Keyed;
@@ -94,7 +94,7 @@ fn is_base_of(a: &Found, rules: &[Rule], moment: &Moment, range: Option<Ms>) -> 
 
 /// Whether a selector is a base for what is sought. Moments are asked first, then numbers, since they tell most rules apart.
 pub(crate) fn is_base(a: &Keyed, sought: &Sought) -> bool
-    requires { sought.now.keys.now ≡ map rule_key sought.now.rules.now }
+    requires { sought.now.keys.now ≡ rule_keys sought.now.moment.now sought.now.range sought.now.rules.now }
     ensures { result ≡ is_base sought.now.rules.now sought.now.moment.now sought.now.range a.now }
 {
     if !same_moment(&a.found().moment, sought.moment) {

@@ -1,8 +1,8 @@
 //! Selectors that may be bases, in rows by the numbers of their rules.
 ghost use Rattle.opt_selects.specs.Bases.{base_among, is_base};
-ghost use Rattle.opt_selects.specs.Candidates.{AreUnder, is_under, least_of, least_under, passes_at, put_under, under};
-ghost use Rattle.opt_selects.specs.RuleKeys.{rule_key};
-ghost use Rattle.std.specs.Prelude.{◌≡◌, ◌≢◌, ◌<◌, ◌%◌, ℕ, List, [], true, length, map, option_map, IfOk, OnOk};
+ghost use Rattle.opt_selects.specs.Candidates.{AreUnder, is_under, least_of, least_under, passes_at, put_under, row_of};
+ghost use Rattle.opt_selects.specs.RuleKeys.{rule_keys};
+ghost use Rattle.std.specs.Prelude.{◌≡◌, ◌≢◌, ◌<◌, ◌%◌, ℕ, List, [], true, length, option_map, IfOk, OnOk};
 
 use crate::bases::{Sought, is_base};
 use crate::keyed::{Keyed, keys_of};
@@ -13,12 +13,19 @@ use std::alloc::{AllocError, Global};
 use std::marker::Model;
 use ticks::Ms;
 
-/// Selectors in order, and their places in as many rows: each stands in the row of one of its rules, the one with the fewest
-/// places when it came, so that few are asked whether they are a base. Contracts see the selectors.
+/// A selector's place, and the number under which it stands.
+#[derive(Clone, Copy)]
+struct Placed {
+    key: u64,
+    place: usize,
+}
+
+/// Selectors in order, and where they stand in as many rows: each under the number of one of its rules, in the row that has the
+/// fewest when it came, so that few are asked whether they are a base. Contracts see the selectors.
 #[derive(Drop)]
 pub(crate) struct Candidates {
     found: Vec<Keyed>,
-    rows: Vec<Items<usize>>,
+    rows: Vec<Items<Placed>>,
 }
 
 impl Model for Candidates {
@@ -52,7 +59,7 @@ impl Candidates {
     ) -> Result<Option<&Items<Rule>>, AllocError>
         ensures { IfOk result (λ base. option_map (λ b. b.now) base ≡ base_among self.now rules.now moment.now range) }
     {
-        let keys = keys_of(alloc, rules)?;
+        let keys = keys_of(alloc, moment, range, rules)?;
         let sought = Sought {
             keys: keys.as_slice(),
             rules,
@@ -63,8 +70,8 @@ impl Candidates {
     }
 }
 
-/// The row that a number falls into.
-fn row_of(key: u64, rows: usize) -> usize
+/// The place of the row that a number falls into.
+fn place_of_row(key: u64, rows: usize) -> usize
     requires { 0 < rows }
     ensures row { result ≡ key % rows }
     ensures within { result < rows }
@@ -72,33 +79,33 @@ fn row_of(key: u64, rows: usize) -> usize
     (key % rows as u64) as usize
 }
 
-/// The places under a number.
-fn under(rows: &[Items<usize>], key: u64) -> &[usize]
-    ensures { result.now ≡ under rows.now key }
+/// The row that a number falls into.
+fn row_of(rows: &[Items<Placed>], key: u64) -> &[Placed]
+    ensures { result.now ≡ row_of rows.now key }
 {
     if rows.is_empty() {
         return &[];
     }
-    rows[row_of(key, rows.len())].as_slice()
+    rows[place_of_row(key, rows.len())].as_slice()
 }
 
 /// Puts one more place under a number. The only error is want of memory.
-fn put(rows: &mut Vec<Items<usize>>, key: u64, place: usize) -> Result<(), AllocError>
+fn put(rows: &mut Vec<Items<Placed>>, key: u64, place: usize) -> Result<(), AllocError>
     requires { 0 < length rows.old.items }
     ensures { OnOk result (rows.new.items ≡ put_under rows.old.items key place) }
 {
-    let row = row_of(key, rows.len());
-    rows[row].push(place)
+    let row = place_of_row(key, rows.len());
+    rows[row].push(Placed { key, place })
 }
 
-/// Which of some numbers has the fewest places under it.
-fn least_used(rows: &[Items<usize>], keys: &[u64]) -> usize
+/// Which of some numbers falls into the shortest row.
+fn least_used(rows: &[Items<Placed>], keys: &[u64]) -> usize
     requires { 0 < length keys.now }
     ensures { result < length keys.now }
 {
     let mut best = 0;
     for i in 1..keys.len() {
-        if under(rows, keys[i]).len() < under(rows, keys[best]).len() {
+        if row_of(rows, keys[i]).len() < row_of(rows, keys[best]).len() {
             best = i;
         }
     }
@@ -106,7 +113,7 @@ fn least_used(rows: &[Items<usize>], keys: &[u64]) -> usize
 }
 
 /// Puts a place under one of some numbers, if there are any. The only error is want of memory.
-fn stand(rows: &mut Vec<Items<usize>>, keys: &[u64], place: usize) -> Result<(), AllocError>
+fn stand(rows: &mut Vec<Items<Placed>>, keys: &[u64], place: usize) -> Result<(), AllocError>
     requires { 0 < length rows.old.items }
     ensures many { OnOk result (length rows.new.items ≡ length rows.old.items) }
     ensures stays { OnOk result ((others : List ℕ) (n : ℕ) → is_under rows.old.items others n ≡ true → is_under rows.new.items others n ≡ true) }
@@ -119,7 +126,7 @@ fn stand(rows: &mut Vec<Items<usize>>, keys: &[u64], place: usize) -> Result<(),
     put(rows, keys[i], place)
 }
 
-fn empty_rows(alloc: Global, many: usize) -> Result<Vec<Items<usize>>, AllocError>
+fn empty_rows(alloc: Global, many: usize) -> Result<Vec<Items<Placed>>, AllocError>
     ensures { IfOk result (λ rows. length rows.items ≡ many) }
 {
     let mut rows = Vec::with_capacity(alloc, many)?;
@@ -130,7 +137,7 @@ fn empty_rows(alloc: Global, many: usize) -> Result<Vec<Items<usize>>, AllocErro
 }
 
 /// Rows in which each selector stands. The only error is want of memory.
-fn rows_for(alloc: Global, found: &[Keyed]) -> Result<Vec<Items<usize>>, AllocError>
+fn rows_for(alloc: Global, found: &[Keyed]) -> Result<Vec<Items<Placed>>, AllocError>
     ensures { IfOk result (λ rows. AreUnder found.now rows.items (length found.now)) }
 {
     let mut rows = empty_rows(alloc, found.len())?;
@@ -142,7 +149,7 @@ fn rows_for(alloc: Global, found: &[Keyed]) -> Result<Vec<Items<usize>>, AllocEr
 
 /// Whether the selector at a place is a base for what is sought.
 fn is_base_at(found: &[Keyed], place: usize, sought: &Sought) -> bool
-    requires { sought.now.keys.now ≡ map rule_key sought.now.rules.now }
+    requires { sought.now.keys.now ≡ rule_keys sought.now.moment.now sought.now.range sought.now.rules.now }
     ensures { result ≡ passes_at (is_base sought.now.rules.now sought.now.moment.now sought.now.range) found.now place }
 {
     match found.get(place) {
@@ -151,38 +158,38 @@ fn is_base_at(found: &[Keyed], place: usize, sought: &Sought) -> bool
     }
 }
 
-/// The least of a bound and of those places at which a base stands.
-fn least_of(found: &[Keyed], places: &[usize], sought: &Sought, bound: usize) -> usize
-    requires { sought.now.keys.now ≡ map rule_key sought.now.rules.now }
-    ensures { result ≡ least_of (passes_at (is_base sought.now.rules.now sought.now.moment.now sought.now.range) found.now) places.now bound }
+/// The least of a bound and of those places under a number in a row at which a base stands.
+fn least_of(found: &[Keyed], key: u64, row: &[Placed], sought: &Sought, bound: usize) -> usize
+    requires { sought.now.keys.now ≡ rule_keys sought.now.moment.now sought.now.range sought.now.rules.now }
+    ensures { result ≡ least_of (passes_at (is_base sought.now.rules.now sought.now.moment.now sought.now.range) found.now) key row.now bound }
 {
     let mut least = bound;
-    for place in places {
-        if *place < least && is_base_at(found, *place, sought) {
-            least = *place;
+    for one in row {
+        if one.key == key && one.place < least && is_base_at(found, one.place, sought) {
+            least = one.place;
         }
     }
     least
 }
 
 /// The first place at which a base stands, the number of all where there is none.
-fn least_under(found: &[Keyed], rows: &[Items<usize>], sought: &Sought) -> usize
-    requires { sought.now.keys.now ≡ map rule_key sought.now.rules.now }
+fn least_under(found: &[Keyed], rows: &[Items<Placed>], sought: &Sought) -> usize
+    requires { sought.now.keys.now ≡ rule_keys sought.now.moment.now sought.now.range sought.now.rules.now }
     ensures { result ≡ least_under (passes_at (is_base sought.now.rules.now sought.now.moment.now sought.now.range) found.now) rows.now sought.now.keys.now (length found.now) }
 {
     let mut least = found.len();
     for key in sought.keys {
-        least = least_of(found, under(rows, *key), sought, least);
+        least = least_of(found, *key, row_of(rows, *key), sought, least);
     }
     least
 }
 
 fn first_base<'f>(
     found: &'f [Keyed],
-    rows: &[Items<usize>],
+    rows: &[Items<Placed>],
     sought: &Sought,
 ) -> Option<&'f Items<Rule>>
-    requires keys { sought.now.keys.now ≡ map rule_key sought.now.rules.now }
+    requires keys { sought.now.keys.now ≡ rule_keys sought.now.moment.now sought.now.range sought.now.rules.now }
     requires rows { AreUnder found.now rows.now (length found.now) }
     ensures { option_map (λ base. base.now) result ≡ base_among found.now sought.now.rules.now sought.now.moment.now sought.now.range }
 {
