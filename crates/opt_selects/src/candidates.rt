@@ -20,8 +20,8 @@ struct Placed {
     place: usize,
 }
 
-/// Selectors in order, and where they stand in as many rows: each under the number of one of its rules, in the row that has the
-/// fewest when it came, so that few are asked whether they are a base. Contracts see the selectors.
+/// Selectors in order, and where they stand in as many rows: each under the number of one of its rules, the one with the fewest
+/// places when it came, so that few are asked whether they are a base. Contracts see the selectors.
 #[derive(Drop)]
 pub(crate) struct Candidates {
     found: Vec<Keyed>,
@@ -98,15 +98,29 @@ fn put(rows: &mut Vec<Items<Placed>>, key: u64, place: usize) -> Result<(), Allo
     rows[row].push(Placed { key, place })
 }
 
-/// Which of some numbers falls into the shortest row.
+/// How many places stand under a number in a row.
+fn used(row: &[Placed], key: u64) -> usize {
+    let mut used = 0;
+    for one in row {
+        if one.key == key {
+            used += 1;
+        }
+    }
+    used
+}
+
+/// Which of some numbers has the fewest places under it.
 fn least_used(rows: &[Items<Placed>], keys: &[u64]) -> usize
     requires { 0 < length keys.now }
     ensures { result < length keys.now }
 {
     let mut best = 0;
+    let mut fewest = used(row_of(rows, keys[0]), keys[0]);
     for i in 1..keys.len() {
-        if row_of(rows, keys[i]).len() < row_of(rows, keys[best]).len() {
+        let many = used(row_of(rows, keys[i]), keys[i]);
+        if many < fewest {
             best = i;
+            fewest = many;
         }
     }
     best
