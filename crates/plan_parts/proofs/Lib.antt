@@ -1,3 +1,4 @@
+pub mod Beginning
 pub mod Chosen
 pub mod Giving
 pub mod Grown

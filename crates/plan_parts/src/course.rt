@@ -1,12 +1,13 @@
 //! The instants that a part of a plan is asked at.
 ghost use Rattle.plan_parts.specs.Courses.{AreSpread, AreWindows, BasesLieBetween};
+ghost use Rattle.plan_work.specs.TreeBounds.{BeginsAt};
 ghost use Rattle.std.specs.Prelude.{◌≡◌, ℤ, IfOk, IfSome, IsTrue};
 ghost use Rattle.ticks.specs.Walks.{IsInstant, IsTime, LeadsToTimes};
 
 use holders::Boxed;
 use std::alloc::{AllocError, Global};
 use std::marker::Model;
-use ticks::{Ms, Walk, WalkMoment};
+use ticks::{Ms, Walk, WalkMoment, walks_are_listed};
 
 /// A walk that leads to times, and two times between which its instants lie.
 #[derive(Drop)]
@@ -77,13 +78,15 @@ impl Course {
         &self.walk
     }
 
-    /// The first instant; where there is none, a time. It takes no memory.
+    /// The first instant; where there is none, the time 0. It takes no memory.
     pub fn first(&self) -> Ms
-        ensures { IsTime result.0 }
+        ensures begins { BeginsAt self.now.walk result }
+        ensures time { IsTime result.0 }
     {
+        walks_are_listed();
         match self.walk.first() {
             Some(t) => t,
-            None => self.low,
+            None => Ms(0),
         }
     }
 

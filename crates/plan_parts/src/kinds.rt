@@ -15,6 +15,7 @@ use label_set::{Grouping, Labels, Pairing, Relabel, Text};
 use match_rule::Patterns;
 use op_element::ElementRule;
 use op_small::SmallRule;
+use plan_work::laws::trees_stay_within;
 use std::alloc::{AllocError, Global};
 use step_kernels::{BinaryRule, UnaryRule};
 use xfrac::{PairOp, XFrac, whole};
@@ -120,6 +121,7 @@ pub fn as_vector(rows: Result<Part, Unbuilt>) -> Result<Part, Unbuilt>
     ensures sort { (asked : Asked) (walk : Walk) (p inner : Plan) (down : _) → p.node ≡ node.Sort down inner → IsPartOf asked walk inner rows → IsPartOf asked walk p result }
     ensures vector { (asked : Asked) (walk : Walk) (p inner : Plan) → p.node ≡ node.VectorOf inner → IsPartOf asked walk inner rows → IsPartOf asked walk p result }
 {
+    trees_stay_within();
     let rows = rows?;
     Ok(Part {
         tree: rows.tree,
@@ -238,6 +240,7 @@ pub fn clamped(
 fn beside_number(alloc: Global, rule: BinaryRule, value: XFrac, rows: Part) -> Result<Part, Unbuilt>
     ensures { IfOk result (λ part. IsBesideNumber rule value rows part) }
 {
+    trees_stay_within();
     let number = instants(alloc, SmallRule::Number(value));
     let (rows, number) = both(Ok(rows), number)?;
     binary(alloc, rule, false, rows, number)

@@ -1,12 +1,11 @@
 //! The trees of the kinds of nodes, over those of their children.
 ghost use Rattle.logical_plan.specs.declared.nodes.Plan.{Plan};
 ghost use Rattle.logical_plan.specs.declared.nodes.PlanNode.TheVariants as node;
-ghost use Rattle.plan_parts.specs.Parts.{IsBinary, IsClamp, IsMade, IsPart, IsPartOf, IsUnary};
-ghost use Rattle.plan_tree.specs.Nodes.{CanGo};
-ghost use Rattle.plan_tree.specs.Shapes.{InstantsOf};
+ghost use Rattle.plan_parts.specs.Parts.{IsBinary, IsClamp, IsInstants, IsPart, IsPartOf, IsUnary};
+ghost use Rattle.plan_work.specs.TreeBounds.{BeginsAt};
 ghost use Rattle.promql_meaning.specs.Selecting.{Asked, asked_over, lookback};
 ghost use Rattle.promql_meaning.specs.WalkMoments.{IsMomentOf};
-ghost use Rattle.std.specs.Prelude.{◌≡◌, ℤ, None, true, IfOk, IsTrue};
+ghost use Rattle.std.specs.Prelude.{◌≡◌, ℤ, IfOk, IsTrue};
 ghost use Rattle.ticks.specs.Walks.{HasTimes, IsInstant, moment_at};
 ghost use Rattle.ticks.specs.declared.walk.Walk.{Walk};
 
@@ -20,6 +19,7 @@ use op_element::{ElementRows, ElementRule};
 use op_select::Select;
 use op_small::{Small, SmallRule};
 use plan_tree::Node;
+use plan_work::laws::trees_stay_within;
 use promql_ast::{Fixed, Moment};
 use promql_meaning::laws::walk_moments_are_moments;
 use sample_store::Store;
@@ -44,9 +44,9 @@ pub struct Part {
 
 /// A number, or the time.
 pub(crate) fn instants(alloc: Global, rule: SmallRule) -> Result<Part, Unbuilt>
-    ensures made { IfOk result (λ part. IsMade part (InstantsOf rule) true) }
-    ensures can { IfOk result (λ part. (store kept : _) → CanGo store kept None part.tree) }
+    ensures { IfOk result (IsInstants rule) }
 {
+    trees_stay_within();
     Ok(Part {
         tree: Node::Instants {
             kernel: Small::new(alloc, rule)?,
@@ -67,6 +67,7 @@ pub(crate) fn unary(
 ) -> Result<Part, Unbuilt>
     ensures { IfOk result (λ part. IsUnary patterns.now rule scalar rows part) }
 {
+    trees_stay_within();
     if !is_unary(&rule) {
         return Err(Unbuilt::Invalid);
     }
@@ -93,6 +94,7 @@ pub(crate) fn binary(
 ) -> Result<Part, Unbuilt>
     ensures { IfOk result (λ part. IsBinary rule scalar rows beside part) }
 {
+    trees_stay_within();
     if !is_binary(&rule) || (takes_scalar(&rule) && !beside.scalar) {
         return Err(Unbuilt::Invalid);
     }
@@ -117,6 +119,7 @@ pub(crate) fn clamp(
 ) -> Result<Part, Unbuilt>
     ensures { IfOk result (λ part. IsClamp rule rows low high part) }
 {
+    trees_stay_within();
     if !(low.scalar && high.scalar) {
         return Err(Unbuilt::Invalid);
     }
@@ -132,10 +135,12 @@ pub(crate) fn clamp(
     })
 }
 
-/// What a part gives at one instant, at each instant. It hands on why that wasn't built; else the only error is want of memory.
+/// What a part gives at one instant, the first of a walk, at each instant. It hands on why that wasn't built; else the only error is want
+/// of memory.
 pub fn repeated(alloc: Global, first: Ms, child: Result<Part, Unbuilt>) -> Result<Part, Unbuilt>
-    ensures { (asked : Asked) (walk below : Walk) (p inner : Plan) → below ≡ Walk.Fixed first → p.node ≡ node.Once inner → IsPartOf asked below inner child → IsPartOf asked walk p result }
+    ensures { (asked : Asked) (walk below : Walk) (p inner : Plan) → BeginsAt walk first → below ≡ Walk.Fixed first → p.node ≡ node.Once inner → IsPartOf asked below inner child → IsPartOf asked walk p result }
 {
+    trees_stay_within();
     let child = child?;
     Ok(Part {
         tree: Node::Once {
@@ -196,6 +201,7 @@ pub fn select<W: Ledger>(
     lent_steps_are_tables();
     seconds_are_numbers();
     walk_moments_are_moments();
+    trees_stay_within();
     if !are_rules_kept(patterns, rules.as_slice()) {
         return Err(Unbuilt::Invalid);
     }

@@ -1,15 +1,16 @@
 use Rattle.std.proofs.Common.{◌≡◌, ◌∙◌, ℕ, Bool, true, false, List, [], ◌∷◌, Option, refl, sym, ap, ap₂, subst, rules}
 use Rattle.ticks.specs.Walks.{IsInstant}
-use Rattle.plan_parts.proofs.Grown.{ok_both, ok_then, binary_part, clamp_part, instants_part, keeps_one, not_true, number_part, onces_below, part_at, unary_part}
+use Rattle.plan_parts.proofs.Grown.{ok_then, binary_part, clamp_part, instants_part, keeps_one, not_true, number_part, onces_below, part_at, unary_part}
 use Rattle.plan_parts.proofs.Giving.{absent_gives}
 use Rattle.plan_parts.specs.Parts.{of_absent}
 use Rattle.op_small.specs.declared.rule.SmallRule.TheVariants as small
 use Rattle.step_kernels.specs.declared.unary.UnaryRule.TheVariants as unary
+use Rattle.plan_work.specs.PlanLaws.{IsOver}
 use Rattle.plan_parts.proofs.kinds.absent.Goals as goal
 
 pub returns : goal.returns
 returns c = λ asked walk p inner k e i. ok_then c.unary.result c.unary.ensures (λ part u.
     let rows = c.in_ok-rows.rows in
     let r = part_at asked walk inner c.args.rows rows c.in_ok-rows.was i in
-    unary_part asked walk p part c.args.patterns.now (unary.Small (small.Absent c.args.labels)) false inner rows k u r (of_absent c.args.labels e) (λ h. absurd (cc))
+    unary_part asked walk p part c.args.patterns.now (unary.Small (small.Absent c.args.labels)) false inner rows k u r (of_absent c.args.labels e) (IsOver.of_absent c.args.labels e) (λ h. absurd (cc))
     (λ f g. absent_gives asked (IsInstant walk) p inner rows.scalar rows.own f g c.args.labels e))

@@ -1,6 +1,6 @@
 use Rattle.std.proofs.Common.{◌≡◌, ◌∙◌, ℕ, Bool, true, false, List, [], ◌∷◌, Option, refl, sym, ap, ap₂, subst, rules}
 use Rattle.ticks.specs.Walks.{IsInstant}
-use Rattle.plan_parts.proofs.Grown.{ok_both, ok_then, binary_part, clamp_part, instants_part, keeps_one, not_true, number_part, onces_below, part_at, unary_part}
+use Rattle.plan_parts.proofs.Grown.{ok_then, binary_part, clamp_part, instants_part, keeps_one, not_true, number_part, onces_below, part_at, unary_part}
 use Rattle.plan_parts.proofs.Giving.{alone_gives}
 use Rattle.plan_parts.specs.Parts.{IsUnary, keeps_scalar, of_element}
 use Rattle.step_kernels.specs.declared.unary.UnaryRule.TheVariants as unary
@@ -10,6 +10,7 @@ use Rattle.func_table.specs.declared.table.Element.TheVariants as element
 use Rattle.logical_plan.specs.declared.nodes.PlanNode.TheVariants as node
 use Rattle.plan_tree.specs.Nodes.{shape_of}
 use Rattle.op_element.specs.Rules.{reads_first}
+use Rattle.plan_work.specs.PlanLaws.{IsOver}
 use Rattle.plan_parts.proofs.kinds.applied.Goals as goal
 
 pub returns-in-Round : goal.returns-in-Round
@@ -25,5 +26,5 @@ returns-in_default c = λ asked walk p inner k e i. ok_then c.unary.result c.una
     let kept = c.args.patterns.now in
     let f = c.args.f in
     unary_part asked walk p part kept (unary.Apply (formula.Apply f)) (keeps_scalar f rows.scalar) inner rows k
-    (subst (λ (b : Bool). IsUnary kept (unary.Apply (formula.Apply f)) b rows part) c.keeps_scalar-scalar.ensures u) r (of_element f [] e) (λ h. keeps_one f rows.scalar (shape_of rows.tree) r.scalar h)
+    (subst (λ (b : Bool). IsUnary kept (unary.Apply (formula.Apply f)) b rows part) c.keeps_scalar-scalar.ensures u) r (of_element f [] e) (IsOver.of_element f e) (λ h. keeps_one f rows.scalar (shape_of rows.tree) r.scalar h)
     (λ x g. alone_gives asked (IsInstant walk) f p inner rows.scalar rows.own x g e (not_true (reads_first (formula.Apply f)) u.reads)))

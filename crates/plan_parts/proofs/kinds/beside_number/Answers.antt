@@ -1,11 +1,10 @@
 use Rattle.std.proofs.Common.{◌≡◌, ◌∙◌, false, true, None, ap, subst, sym}
 use Rattle.std.specs.Prelude.{IfOk, Ok, Result}
-use Rattle.op_labels.specs.Rules.{Kept}
-use Rattle.plan_tree.specs.Nodes.{CanGo, shape_of}
+use Rattle.plan_tree.specs.Nodes.{shape_of}
 use Rattle.plan_tree.specs.Shapes.{BinaryOf, InstantsOf, Shape}
+use Rattle.plan_work.specs.TreeBounds.{StaysWithin}
 use Rattle.op_small.specs.declared.rule.SmallRule.TheVariants as small
-use Rattle.promql_meaning.specs.Selecting.{AllSeries}
-use Rattle.plan_parts.specs.Parts.{IsBinary, IsMade}
+use Rattle.plan_parts.specs.Parts.{IsBinary, IsInstants, IsMade}
 use Rattle.plan_parts.specs.declared.parts.Part.{Part}
 use Rattle.plan_parts.specs.declared.unbuilt.Unbuilt.{Unbuilt}
 use Rattle.plan_parts.proofs.Grown.{ok_then, same_part}
@@ -13,19 +12,18 @@ use Rattle.plan_parts.proofs.kinds.beside_number.Goals as goal
 
 pub returns : goal.returns
 returns c =
+    let rule = c.args.rule in
+    let rows = c.args.rows in
+    let value = small.Number c.args.value in
     let number = c.in_ok-rows.number in
-    let same : c.args.rows ≡ c.in_ok-rows.rows = same_part c.args.rows c.in_ok-rows.rows c.in_ok-rows.ensures.first in
-    let made : IsMade number (InstantsOf (small.Number c.args.value)) true =
-    subst (λ (r : Result Part Unbuilt). IfOk r (λ (part : Part). IsMade part (InstantsOf (small.Number c.args.value)) true)) c.in_ok-rows.ensures.second c.instants-number.ensures.made in
-    let can : (store : AllSeries) (kept : Kept) → CanGo store kept None number.tree =
-    subst (λ (r : Result Part Unbuilt). IfOk r (λ (part : Part). (store : AllSeries) (kept : Kept) → CanGo store kept None part.tree)) c.in_ok-rows.ensures.second c.instants-number.ensures.can in
+    let same : rows ≡ c.in_ok-rows.rows = same_part rows c.in_ok-rows.rows c.in_ok-rows.ensures.first in
+    let n : IsInstants value number = subst (λ (r : Result Part Unbuilt). IfOk r (IsInstants value)) c.in_ok-rows.ensures.second c.instants-number.ensures in
     ok_then c.binary.result c.binary.ensures (λ part b'.
-    let b = subst (λ (r : Part). IsBinary c.args.rule false r number part) (sym same) b' in
+    let b = subst (λ (r : Part). IsBinary rule false r number part) (sym same) b' in
+    let shape = b.made.shape_is ∙ ap (λ (s : Shape). BinaryOf rule (shape_of rows.tree) s) n.made.shape_is in
     record {
-      made = record {
-        shape_is = b.made.shape_is ∙ ap (λ (s : Shape). BinaryOf c.args.rule (shape_of c.args.rows.tree) s) made.shape_is;
-        scalar_is = b.made.scalar_is;
-        plain = b.made.plain;
-      };
-      can = λ store kept k. b.can store kept k (can store kept);
+      made = record { shape_is = shape; scalar_is = b.made.scalar_is; plain = b.made.plain };
+      can = λ store kept k. b.can store kept k (n.can store kept);
+      fresh = λ f. b.fresh f n.fresh;
+      within = λ asked walk below p o w. subst (λ (s : Shape). StaysWithin asked walk p s) (sym shape) (c.trees_stay_within.ensures.over_number asked walk below p rule value (shape_of rows.tree) o w);
     })

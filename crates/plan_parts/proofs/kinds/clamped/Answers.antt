@@ -1,12 +1,13 @@
 use Rattle.std.proofs.Common.{◌≡◌, ◌∙◌, ℕ, Bool, true, false, List, [], ◌∷◌, Option, refl, sym, ap, ap₂, subst, rules}
 use Rattle.ticks.specs.Walks.{IsInstant}
-use Rattle.plan_parts.proofs.Grown.{ok_both, ok_then, binary_part, clamp_part, instants_part, keeps_one, not_true, number_part, onces_below, part_at, unary_part}
+use Rattle.plan_parts.proofs.Grown.{ok_then, binary_part, clamp_part, instants_part, keeps_one, not_true, number_part, onces_below, part_at, unary_part}
 use Rattle.plan_parts.proofs.Giving.{clamp_gives}
 use Rattle.plan_parts.specs.Parts.{of_element, of_element_argument}
 use Rattle.op_element.specs.declared.formula.ElementRule.TheVariants as formula
 use Rattle.func_table.specs.declared.table.Element.{Element}
 use Rattle.func_table.specs.declared.table.Element.TheVariants as element
 use Rattle.logical_plan.specs.declared.nodes.PlanNode.TheVariants as node
+use Rattle.plan_work.specs.PlanLaws.{IsThree}
 use Rattle.plan_parts.proofs.kinds.clamped.Goals as goal
 
 pub returns-in-Clamp : goal.returns-in-Clamp
@@ -19,4 +20,5 @@ returns-in-Clamp c = λ asked walk p inner a b e' i j k. ok_then c.clamp.result 
     let h = part_at asked walk b c.args.high high c.in_ok-low.ensures.second k in
     let e = e' ∙ ap (λ (f : Element). node.Element f inner (a ∷ b ∷ [])) c.in-Clamp.is in
     clamp_part asked walk p part (formula.Apply element.Clamp) inner a b rows low high m r l h (of_element element.Clamp (a ∷ b ∷ []) e) (of_element_argument element.Clamp inner [] (b ∷ []) e) (of_element_argument element.Clamp inner (a ∷ []) [] e)
+    (IsThree.of_arguments element.Clamp e)
     (λ x y z g u v. clamp_gives asked (IsInstant walk) p inner a b rows.scalar rows.own low.scalar low.own high.scalar high.own x y z g u v e))

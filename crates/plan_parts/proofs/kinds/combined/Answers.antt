@@ -1,9 +1,10 @@
-use Rattle.std.proofs.Common.{◌≡◌, ◌∙◌, ℕ, Bool, true, false, List, [], ◌∷◌, Option, refl, sym, ap, ap₂, subst, rules}
+use Rattle.std.proofs.Common.{◌≡◌, ◌∙◌, ℕ, Bool, true, false, List, [], ◌∷◌, Option, refl, sym, ap, ap₂, subst, rules, inl}
 use Rattle.ticks.specs.Walks.{IsInstant}
-use Rattle.plan_parts.proofs.Grown.{ok_both, ok_then, binary_part, clamp_part, instants_part, keeps_one, not_true, number_part, onces_below, part_at, unary_part}
+use Rattle.plan_parts.proofs.Grown.{ok_then, binary_part, clamp_part, instants_part, keeps_one, not_true, number_part, onces_below, part_at, unary_part}
 use Rattle.plan_parts.proofs.Giving.{set_gives}
 use Rattle.plan_parts.specs.Parts.{of_set_left, of_set_right}
 use Rattle.step_kernels.specs.declared.binary.BinaryRule.TheVariants as binary
+use Rattle.plan_work.specs.PlanLaws.{IsBeside}
 use Rattle.plan_parts.proofs.kinds.combined.Goals as goal
 
 pub returns : goal.returns
@@ -14,5 +15,5 @@ returns c = λ asked walk p left right e i j. ok_then c.binary.result c.binary.e
     let q = part_at asked walk right c.args.beside beside c.in_ok-rows.ensures.second j in
     let op = c.args.op in
     let pairing = c.args.pairing in
-    binary_part asked walk p part (binary.Combine op pairing) false left right rows beside b r q (of_set_left op right pairing e) (of_set_right op left pairing e) (λ h. absurd (cc))
+    binary_part asked walk p part (binary.Combine op pairing) false left right rows beside b r q (of_set_left op right pairing e) (of_set_right op left pairing e) (inl (IsBeside.of_set op pairing e)) (λ h. absurd (cc))
     (λ x y g h. set_gives asked (IsInstant walk) p left right rows.scalar rows.own beside.scalar beside.own x y g h op pairing e))

@@ -1,9 +1,10 @@
-use Rattle.std.proofs.Common.{◌≡◌, false}
+use Rattle.std.proofs.Common.{◌≡◌, false, inl}
 use Rattle.ticks.specs.Walks.{IsInstant}
 use Rattle.plan_parts.proofs.Grown.{ok_then, binary_part, part_at}
 use Rattle.plan_parts.proofs.Giving.{ratio_gives}
 use Rattle.plan_parts.specs.Parts.{of_count, of_sum}
 use Rattle.step_kernels.specs.declared.binary.BinaryRule.TheVariants as binary
+use Rattle.plan_work.specs.PlanLaws.{IsBeside}
 use Rattle.plan_parts.proofs.kinds.divided.Goals as goal
 
 pub returns : goal.returns
@@ -12,5 +13,5 @@ returns c = λ asked walk p left right e i j. ok_then c.binary.result c.binary.e
     let count = c.in_ok-sum.count in
     let r = part_at asked walk left c.args.sum sum c.in_ok-sum.ensures.first i in
     let q = part_at asked walk right c.args.count count c.in_ok-sum.ensures.second j in
-    binary_part asked walk p part binary.Ratio false left right sum count b r q (of_sum right e) (of_count left e) (λ h. absurd (cc))
+    binary_part asked walk p part binary.Ratio false left right sum count b r q (of_sum right e) (of_count left e) (inl (IsBeside.of_ratio e)) (λ h. absurd (cc))
     (λ x y g h. ratio_gives asked (IsInstant walk) p left right sum.scalar sum.own count.scalar count.own x y g h e))

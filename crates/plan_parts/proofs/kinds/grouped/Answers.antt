@@ -1,6 +1,6 @@
 use Rattle.std.proofs.Common.{◌≡◌, ◌∙◌, ℕ, Bool, true, false, List, [], ◌∷◌, Option, refl, sym, ap, ap₂, subst, rules}
 use Rattle.ticks.specs.Walks.{IsInstant}
-use Rattle.plan_parts.proofs.Grown.{ok_both, ok_then, binary_part, clamp_part, instants_part, keeps_one, not_true, number_part, onces_below, part_at, unary_part}
+use Rattle.plan_parts.proofs.Grown.{ok_then, binary_part, clamp_part, instants_part, keeps_one, not_true, number_part, onces_below, part_at, unary_part}
 use Rattle.plan_parts.proofs.Giving.{counted_gives, grouped_gives}
 use Rattle.plan_parts.specs.Parts.{of_group}
 use Rattle.step_kernels.specs.declared.binary.BinaryRule.TheVariants as binary
@@ -11,6 +11,7 @@ use Rattle.func_table.specs.declared.table.Aggregate.{Aggregate}
 use Rattle.func_table.specs.declared.table.Aggregate.TheVariants.{CountValues}
 use Rattle.op_small.specs.Rules.{small as small_step}
 use Rattle.promql_meaning.specs.Givens.{barren, no_marks}
+use Rattle.plan_work.specs.PlanLaws.{IsOver}
 use Rattle.plan_parts.proofs.kinds.grouped.Goals as goal
 
 pub returns-in-CountValues : goal.returns-in-CountValues
@@ -20,7 +21,7 @@ returns-in-CountValues c = λ asked walk p inner k e' i. ok_then c.beside_number
     let by = c.args.by in
     let label = c.args.label in
     let e = e' ∙ ap (λ (f : Aggregate). node.Group f by (inner ∷ []) label) c.in-CountValues.is in
-    number_part asked walk p part (binary.Rank CountValues by label) c.whole.result inner rows m r (of_group CountValues by [] [] label e)
+    number_part asked walk p part (binary.Rank CountValues by label) c.whole.result inner rows m r (of_group CountValues by [] [] label e) (IsOver.of_group CountValues by label e)
     (λ x g. counted_gives asked (IsInstant walk) by label p inner rows.scalar rows.own x (λ t. small_step (small.Number c.whole.result) t (barren no_marks)) g e))
 
 pub returns-in_default : goal.returns-in_default
@@ -30,5 +31,5 @@ returns-in_default c = λ asked walk p inner k e i. ok_then c.unary.result c.una
     let f = c.args.f in
     let by = c.args.by in
     let label = c.args.label in
-    unary_part asked walk p part c.args.patterns.now (unary.Group f by) false inner rows k u r (of_group f by [] [] label e) (λ h. absurd (cc))
+    unary_part asked walk p part c.args.patterns.now (unary.Group f by) false inner rows k u r (of_group f by [] [] label e) (IsOver.of_group f by label e) (λ h. absurd (cc))
     (λ x g. grouped_gives asked (IsInstant walk) f by label p inner rows.scalar rows.own x g e u.reads))

@@ -1,10 +1,11 @@
-use Rattle.std.proofs.Common.{◌≡◌, ◌∙◌, ℕ, Bool, true, false, List, [], ◌∷◌, Option, refl, sym, ap, ap₂, subst, rules}
+use Rattle.std.proofs.Common.{◌≡◌, ◌∙◌, ℕ, Bool, true, false, List, [], ◌∷◌, Option, refl, sym, ap, ap₂, subst, rules, inl, inr}
 use Rattle.ticks.specs.Walks.{IsInstant}
-use Rattle.plan_parts.proofs.Grown.{ok_both, ok_then, binary_part, clamp_part, instants_part, keeps_one, not_true, number_part, onces_below, part_at, unary_part}
+use Rattle.plan_parts.proofs.Grown.{ok_then, binary_part, clamp_part, instants_part, keeps_one, not_true, number_part, onces_below, part_at, unary_part}
 use Rattle.plan_parts.proofs.Giving.{left_gives, right_gives, vectors_give}
 use Rattle.plan_parts.specs.Parts.{of_left, of_right}
 use Rattle.step_kernels.specs.declared.binary.BinaryRule.TheVariants as binary
 use Rattle.op_element.specs.declared.formula.ElementRule.TheVariants as formula
+use Rattle.plan_work.specs.PlanLaws.{IsBeside}
 use Rattle.plan_parts.proofs.kinds.paired.Goals as goal
 
 pub returns-then-right : goal.returns-then-right
@@ -15,7 +16,7 @@ returns-then-right c = λ asked walk p l r' e i j. ok_then c.binary.result c.bin
     let q = part_at asked walk r' c.args.right right c.in_ok-left.ensures.second j in
     let op = c.args.op in
     let pairing = c.args.pairing in
-    binary_part asked walk p part (binary.Apply (formula.WithScalar op false)) left.scalar l r' left right b r q (of_left op r' pairing e) (of_right op l pairing e) r.scalar
+    binary_part asked walk p part (binary.Apply (formula.WithScalar op false)) left.scalar l r' left right b r q (of_left op r' pairing e) (of_right op l pairing e) (inl (IsBeside.of_pair op pairing e)) r.scalar
     (λ x y g h. right_gives asked (IsInstant walk) p l r' left.scalar left.own right.scalar right.own x y g h op pairing e c.if-right.true))
 
 pub returns-then-left : goal.returns-then-left
@@ -26,7 +27,7 @@ returns-then-left c = λ asked walk p l r' e i j. ok_then c.binary-then-left.res
     let q = part_at asked walk r' c.args.right right c.in_ok-left.ensures.second j in
     let op = c.args.op in
     let pairing = c.args.pairing in
-    binary_part asked walk p part (binary.Apply (formula.WithScalar op true)) false r' l right left b q r (of_right op l pairing e) (of_left op r' pairing e) (λ h. absurd (cc))
+    binary_part asked walk p part (binary.Apply (formula.WithScalar op true)) false r' l right left b q r (of_right op l pairing e) (of_left op r' pairing e) (inr (IsBeside.of_pair op pairing e)) (λ h. absurd (cc))
     (λ y x h g. left_gives asked (IsInstant walk) p l r' left.scalar left.own right.scalar right.own x y g h op pairing e c.if-left.true c.if-right.false))
 
 pub returns : goal.returns
@@ -37,5 +38,5 @@ returns c = λ asked walk p l r' e i j. ok_then c.binary-2.result c.binary-2.ens
     let q = part_at asked walk r' c.args.right right c.in_ok-left.ensures.second j in
     let op = c.args.op in
     let pairing = c.args.pairing in
-    binary_part asked walk p part (binary.Join op pairing) false l r' left right b r q (of_left op r' pairing e) (of_right op l pairing e) (λ h. absurd (cc))
+    binary_part asked walk p part (binary.Join op pairing) false l r' left right b r q (of_left op r' pairing e) (of_right op l pairing e) (inl (IsBeside.of_pair op pairing e)) (λ h. absurd (cc))
     (λ x y g h. vectors_give asked (IsInstant walk) p l r' left.scalar left.own right.scalar right.own x y g h op pairing e c.if-left.false c.if-right.false))

@@ -1,9 +1,10 @@
-use Rattle.std.proofs.Common.{◌≡◌, ◌∙◌, ℕ, Bool, true, false, List, [], ◌∷◌, Option, refl, sym, ap, ap₂, subst, rules}
+use Rattle.std.proofs.Common.{◌≡◌, ◌∙◌, ℕ, Bool, true, false, List, [], ◌∷◌, Option, refl, sym, ap, ap₂, subst, rules, inr}
 use Rattle.ticks.specs.Walks.{IsInstant}
-use Rattle.plan_parts.proofs.Grown.{ok_both, ok_then, binary_part, clamp_part, instants_part, keeps_one, not_true, number_part, onces_below, part_at, unary_part}
+use Rattle.plan_parts.proofs.Grown.{ok_then, binary_part, clamp_part, instants_part, keeps_one, not_true, number_part, onces_below, part_at, unary_part}
 use Rattle.plan_parts.proofs.Giving.{buckets_gives}
 use Rattle.plan_parts.specs.Parts.{of_buckets, of_quantile}
 use Rattle.step_kernels.specs.declared.binary.BinaryRule.TheVariants as binary
+use Rattle.plan_work.specs.PlanLaws.{IsBeside}
 use Rattle.plan_parts.proofs.kinds.quantiles.Goals as goal
 
 pub returns : goal.returns
@@ -12,5 +13,5 @@ returns c = λ asked walk p inner a e i j. ok_then c.binary.result c.binary.ensu
     let beside = c.in_ok-rows.beside in
     let r = part_at asked walk inner c.args.rows rows c.in_ok-rows.ensures.first i in
     let q = part_at asked walk a c.args.beside beside c.in_ok-rows.ensures.second j in
-    binary_part asked walk p part binary.Buckets false inner a rows beside b r q (of_buckets a e) (of_quantile inner e) (λ h. absurd (cc))
+    binary_part asked walk p part binary.Buckets false inner a rows beside b r q (of_buckets a e) (of_quantile inner e) (inr (IsBeside.of_buckets e)) (λ h. absurd (cc))
     (λ x y g h. buckets_gives asked (IsInstant walk) p a inner rows.scalar rows.own beside.scalar beside.own x y g h e))

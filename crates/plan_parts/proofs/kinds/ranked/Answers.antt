@@ -1,9 +1,10 @@
-use Rattle.std.proofs.Common.{◌≡◌, ◌∙◌, ℕ, Bool, true, false, List, [], ◌∷◌, Option, refl, sym, ap, ap₂, subst, rules}
+use Rattle.std.proofs.Common.{◌≡◌, ◌∙◌, ℕ, Bool, true, false, List, [], ◌∷◌, Option, refl, sym, ap, ap₂, subst, rules, inr}
 use Rattle.ticks.specs.Walks.{IsInstant}
-use Rattle.plan_parts.proofs.Grown.{ok_both, ok_then, binary_part, clamp_part, instants_part, keeps_one, not_true, number_part, onces_below, part_at, unary_part}
+use Rattle.plan_parts.proofs.Grown.{ok_then, binary_part, clamp_part, instants_part, keeps_one, not_true, number_part, onces_below, part_at, unary_part}
 use Rattle.plan_parts.proofs.Giving.{ranked_gives}
 use Rattle.plan_parts.specs.Parts.{of_group, reads_parameter}
 use Rattle.step_kernels.specs.declared.binary.BinaryRule.TheVariants as binary
+use Rattle.plan_work.specs.PlanLaws.{IsBeside}
 use Rattle.plan_parts.proofs.kinds.ranked.Goals as goal
 
 pub returns : goal.returns
@@ -16,5 +17,5 @@ returns c = λ asked walk p k a e i j. ok_then c.binary.result c.binary.ensures 
     let by = c.args.by in
     let label = c.args.label in
     let reads : reads_parameter f ≡ true = search rules in
-    binary_part asked walk p part (binary.Rank f by label) false a k rows parameter b r q (of_group f by (k ∷ []) [] label e) (of_group f by [] (a ∷ []) label e) (λ h. absurd (cc))
+    binary_part asked walk p part (binary.Rank f by label) false a k rows parameter b r q (of_group f by (k ∷ []) [] label e) (of_group f by [] (a ∷ []) label e) (inr (IsBeside.of_parameter f by label e)) (λ h. absurd (cc))
     (λ x y g h. ranked_gives asked (IsInstant walk) f by label p k a rows.scalar rows.own parameter.scalar parameter.own x y g h e reads))

@@ -1,18 +1,20 @@
 use Rattle.std.proofs.Common.{◌≡◌, None, refl, subst, sym, ap}
 use Rattle.plan_tree.specs.Nodes.{CanGo, shape_of}
-use Rattle.plan_tree.specs.Shapes.{IsFit, Shape, StaysInTimes, is_scalar, rule}
+use Rattle.plan_tree.specs.Shapes.{IsFit, OnceOf, Shape, StaysInTimes, is_scalar, rule}
+use Rattle.plan_tree.specs.Spending.{IsFresh}
 use Rattle.plan_tree.specs.declared.node.Node.{Node}
 use Rattle.ticks.specs.Walks.{IsInstant}
 use Rattle.ticks.specs.declared.walk.Walk.{Walk}
 use Rattle.std.specs.Prelude.{IsTrue}
 use Rattle.plan_parts.specs.Gives.{Gives}
+use Rattle.plan_work.specs.TreeBounds.{StaysWithin}
 use Rattle.plan_parts.specs.Parts.{here, of_once}
 use Rattle.plan_parts.proofs.Giving.{once_gives}
 use Rattle.plan_parts.proofs.Grown.{onces_below, part_at}
 use Rattle.plan_parts.proofs.parts.repeated.Goals as goal
 
 pub returns : goal.returns
-returns c = λ asked walk below p inner w e i.
+returns c = λ asked walk below p inner begins w e i.
     let child = c.in_ok-child.child in
     let box = c.in_ok-new.field-0 in
     let same = c.in_ok-new.ensures.ok in
@@ -24,8 +26,11 @@ returns c = λ asked walk below p inner w e i.
         fit = subst (IsFit asked.samples) (sym shape) r.sound.fit;
         can = (subst (λ (n : Node). CanGo asked.samples asked.kept None n) (sym same) r.sound.can, tt);
         times = λ t h. subst (λ (s : Shape). StaysInTimes s c.args.first.0) (sym shape) (r.sound.times c.args.first.0 now);
+        fresh = subst IsFresh (sym same) r.sound.fresh;
       };
       scalar = λ h. subst (λ (s : Shape). IsTrue (is_scalar s)) (sym shape) (r.scalar h);
       gives = λ stay. subst (λ (s : Shape). Gives asked (IsInstant walk) p child.scalar child.own (λ t. rule asked.samples asked.kept s c.args.first.0)) (sym shape)
           (once_gives asked (IsInstant walk) (IsInstant below) p inner child.scalar child.own (rule asked.samples asked.kept (shape_of child.tree)) c.args.first.0 (r.gives (onces_below asked inner p (of_once e) stay)) now e (stay.same inner (here p e)));
+      within = subst (λ (s : Shape). StaysWithin asked walk p (OnceOf c.args.first s)) (sym shape)
+          (c.trees_stay_within.ensures.once asked walk inner p c.args.first (shape_of child.tree) e begins (subst (λ (z : Walk). StaysWithin asked z inner (shape_of child.tree)) w r.within));
     }

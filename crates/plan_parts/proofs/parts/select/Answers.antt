@@ -6,6 +6,8 @@ use Rattle.series_marks.specs.Reaches.{AreThere, IsReached}
 use Rattle.series_marks.specs.Reads.{Reached}
 use Rattle.ticks.specs.Walks.{HasTimes, IsInstant, moment_at}
 use Rattle.ticks.specs.declared.walk.WalkMoment.{WalkMoment}
+use Rattle.plan_tree.specs.Shapes.{SelectOf}
+use Rattle.plan_work.specs.TreeBounds.{StaysWithin}
 use Rattle.plan_parts.specs.Gives.{Gives}
 use Rattle.plan_parts.proofs.Chosen.{IsChosen, chosen_once, chosen_there, select_gives}
 use Rattle.plan_parts.proofs.parts.select.Goals as goal
@@ -38,8 +40,11 @@ returns-clause-part g c = λ p e.
           edge = subst (λ (r : Reached). IsReached kernel.moment.closed lookback r) (sym made.fresh) tt;
         };
         times = here;
+        fresh = tt;
       };
       scalar = λ h. absurd (cc);
       gives = λ stay. subst (λ (b : Bool). Gives asked (IsInstant walk) p false c.args.stamped (λ t. (selected c.args.store.now kernel.series kernel.moment b (record { 0 = t })).step)) (sym made.stamped)
           (select_gives c.lent_steps_are_tables.ensures.sorted c.seconds_are_numbers.ensures c.walk_moments_are_moments.ensures asked (IsInstant walk) p c.args.rules.now c.args.moment.now c.args.stamped kernel.series kernel.moment these here e);
+      within = subst (λ (b : Bool). StaysWithin asked walk p (SelectOf kernel.series kernel.moment b)) (sym made.stamped)
+          (c.trees_stay_within.ensures.selector asked walk p c.args.rules.now c.args.moment.now c.args.stamped kernel.series kernel.moment e there these.these these.timed these.closed);
     }

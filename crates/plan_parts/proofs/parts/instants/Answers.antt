@@ -1,0 +1,16 @@
+use Rattle.std.proofs.Common.{◌≡◌, refl, subst, sym, ap}
+use Rattle.op_small.specs.declared.rule.SmallRule.{SmallRule}
+use Rattle.plan_tree.specs.Shapes.{InstantsOf, Shape}
+use Rattle.plan_work.specs.TreeBounds.{StaysWithin}
+use Rattle.plan_parts.proofs.parts.instants.Goals as goal
+
+pub returns : goal.returns
+returns c =
+    let one = c.args.rule in
+    let shape = ap InstantsOf c.in_ok-new.ensures.rule in
+    record {
+      made = record { shape_is = shape; scalar_is = refl; plain = refl };
+      can = λ store kept. tt;
+      fresh = tt;
+      within = λ asked walk p. subst (λ (s : Shape). StaysWithin asked walk p s) (sym shape) (c.trees_stay_within.ensures.number asked walk p one);
+    }
