@@ -5,7 +5,8 @@ use Rattle.logical_plan.specs.PlanMeaning.{plan_step}
 use Rattle.logical_plan.specs.declared.nodes.Plan.{Plan}
 use Rattle.op_labels.specs.Rules.{Kept}
 use Rattle.plan_parts.specs.Gives.{Gives, given_as}
-use Rattle.plan_parts.specs.Parts.{IsSound}
+use Rattle.plan_parts.specs.Parts.{IsPart, IsSound}
+use Rattle.plan_parts.specs.declared.parts.Part.{Part}
 use Rattle.plan_tree.specs.Chains.{IsReady}
 use Rattle.plan_tree.specs.Nodes.{CanGo, shape_of}
 use Rattle.plan_tree.specs.Shapes.{IsFit, StaysInTimes, is_single}
@@ -39,6 +40,10 @@ one_alone true few batch e h = omega (arith, e)
 one_alone false few batch e h = absurd (cc)
 
 -- ---- trees
+
+-- a part on an equal walk
+pub part_on : (asked : Asked) (walk given : Walk) (p : Plan) (part : Part) → given ≡ walk → IsPart asked walk p part → IsPart asked given p part
+part_on asked walk given p part is part_is = subst (λ (w : Walk). IsPart asked w p part) (sym is) part_is
 
 -- what is made of a node, a walk and a batch, and was fed nothing
 pub record IsNew (tree : Tree) (node : Node) (walk : Walk) (batch : ℕ) : Type 0 where

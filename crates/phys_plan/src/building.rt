@@ -5,6 +5,8 @@ ghost use Rattle.plan_parts.specs.Parts.{IsPart, OncesStay};
 ghost use Rattle.plan_tree.specs.Chains.{IsReady};
 ghost use Rattle.plan_tree.specs.Nodes.{shape_of};
 ghost use Rattle.plan_tree.specs.Shapes.{rule};
+ghost use Rattle.plan_tree.specs.Spending.{IsFresh};
+ghost use Rattle.plan_work.specs.TreeBounds.{StaysWithin};
 ghost use Rattle.promql_meaning.specs.Selecting.{Asked, asked_over};
 ghost use Rattle.std.specs.Prelude.{◌≡◌, ◌<◌, ℤ, None, IfOk};
 ghost use Rattle.ticks.specs.Walks.{IsInstant, LeadsToTimes};
@@ -39,10 +41,13 @@ pub fn build<W: Ledger>(
     ensures ready { IfOk result (λ tree. IsReady store.now patterns.old tree) }
     // and was fed nothing
     ensures fed { IfOk result (λ tree. tree.fed ≡ None) }
+    ensures fresh { IfOk result (λ tree. IsFresh tree.node) }
     ensures walk { IfOk result (λ tree. tree.walk ≡ walk.now) }
     // where what stands below Once nodes is the same at all instants, the tree gives at each instant what the plan gives
     ensures gives { IfOk result (λ tree. OncesStay (asked_over store.now patterns.old span.now) p.now
         → (t : ℤ) → IsInstant walk.now t → rule store.now patterns.old (shape_of tree.node) t ≡ plan_step (asked_over store.now patterns.old span.now) p.now t) }
+    // over the whole walk it may spend at most what the plan costs at the walk's instants, which is worked out by hand over its selectors
+    ensures within { IfOk result (λ tree. StaysWithin (asked_over store.now patterns.old span.now) walk.now p.now (shape_of tree.node)) }
     ensures same { patterns.new ≡ patterns.old }
 {
     let Some(course) = Course::of(walk)? else {
@@ -60,7 +65,9 @@ fn planted(alloc: Global, part: Part, walk: Walk, batch: u32) -> Tree
     requires times { LeadsToTimes walk }
     ensures ready { (asked : Asked) (p : Plan) → IsPart asked walk p part → IsReady asked.samples asked.kept result }
     ensures fed { result.fed ≡ None }
+    ensures fresh { (asked : Asked) (p : Plan) → IsPart asked walk p part → IsFresh result.node }
     ensures walk { result.walk ≡ walk }
+    ensures within { (asked : Asked) (p : Plan) → IsPart asked walk p part → StaysWithin asked walk p (shape_of result.node) }
     ensures gives { (asked : Asked) (p : Plan) → IsPart asked walk p part → OncesStay asked p
         → (t : ℤ) → IsInstant walk t → rule asked.samples asked.kept (shape_of result.node) t ≡ plan_step asked p t }
 {

@@ -1,5 +1,5 @@
 -- Parts for functions of windows: what may be fed, and what is given.
-use Rattle.std.proofs.Common.{◌≡◌, ◌∙◌, ℕ, ◌<◌, length, get_or, Bool, false, List, [], ◌∷◌, map, Option, Some, None, refl, sym, ap, subst}
+use Rattle.std.proofs.Common.{◌≡◌, ◌∙◌, ℕ, ◌<◌, length, get_or, Bool, false, List, [], ◌∷◌, map, Option, Some, None, refl, sym, ap, subst, arith}
 use Rattle.std.specs.Prelude.{ℤ, pos, ◌<ℤ◌, IfOk, IfSome, IsTrue, Result, Ok, Err}
 use Rattle.std.proofs.lemmas.List.Elements.{All-contains_itself, recursion_from_All}
 use Rattle.func_table.specs.declared.table.Window.{Window as WindowFunction}
@@ -11,6 +11,10 @@ use Rattle.logical_plan.specs.declared.nodes.PlanNode.TheVariants as node
 use Rattle.op_window.specs.Rules.{takes_scalar}
 use Rattle.plan_tree.specs.Nodes.{CanGo, shape_of}
 use Rattle.plan_tree.specs.Shapes.{IsFit, PointsOf, SeriesOf, Shape, StaysInTimes, rule}
+use Rattle.plan_tree.specs.Spending.{IsAtMost, IsFresh, nothing}
+use Rattle.plan_work.specs.PlanBounds.{Bounding, arguments_bound, plan_bound}
+use Rattle.plan_work.specs.PlanLaws.{IsBare, NoSelectorCostsNothing}
+use Rattle.plan_work.specs.TreeBounds.{IsWithin, StaysWithin, SubqueriesStay, WindowsStay}
 use Rattle.promql_ast.specs.declared.tree.Moment.{Moment}
 use Rattle.promql_meaning.specs.Laws.{MultiplesAreAll}
 use Rattle.promql_meaning.specs.Meaning.{step_at, windowed_by}
@@ -29,7 +33,7 @@ use Rattle.xfrac.specs.declared.value.XFrac.{XFrac}
 use Rattle.plan_parts.specs.Gives.{Gives}
 use Rattle.plan_parts.specs.Parts.{IsChild, IsPart, OncesStay, below, of_subquery, of_window, of_window_argument}
 use Rattle.plan_parts.specs.declared.parts.Part.{Part}
-use Rattle.window_parts.specs.Over.{GivesRange, IsArgument, IsScalarOf}
+use Rattle.window_parts.specs.Over.{IsArgument, IsRangeOf, IsScalarOf}
 use Rattle.window_parts.specs.declared.selectors.RangeSelector.{RangeSelector}
 use Rattle.window_parts.proofs.Giving.{given_step, points_give, series_gives, without_scalar}
 
@@ -45,13 +49,27 @@ ok_then (Err e) h f = h
 
 -- ---- scalars
 
--- where a function takes no scalar, any part that may be fed stands for it
-pub unread : (asked : Asked) (walk : Walk) (f : WindowFunction) (arguments : List Plan) (part : Part) (value : XFrac) → takes_scalar f ≡ false
+-- what costs nothing is within any bound
+nothing_within : (asked : Asked) (at : List Ms) (p : Plan) (most : Bounding) (shape : Shape) → plan_bound asked p at ≡ nothing → IsWithin asked at (plan_bound asked p) shape → IsWithin asked at most shape
+nothing_within asked at p most shape is w =
+    let none : IsAtMost w.cost nothing = subst (IsAtMost w.cost) is w.within in
+    record { cost = w.cost; of = w.of; within = record { fetched = (let f = none.fetched in omega arith); probed = (let q = none.probed in omega arith) } }
+
+-- the only argument is all of them
+only_within : (asked : Asked) (at : List Ms) (a : Plan) (shape : Shape) → IsWithin asked at (plan_bound asked a) shape → IsWithin asked at (arguments_bound asked (a ∷ [])) shape
+only_within asked at a shape w =
+    record { cost = w.cost; of = w.of; within = record { fetched = (let f = w.within.fetched in omega arith); probed = (let q = w.within.probed in omega arith) } }
+
+-- where a function takes no scalar, a number stands for it
+pub unread : NoSelectorCostsNothing → (asked : Asked) (walk : Walk) (f : WindowFunction) (arguments : List Plan) (part : Part) (value : XFrac) → takes_scalar f ≡ false
     → ((asked : Asked) (walk : Walk) (p : Plan) → p.node ≡ node.Number value → IsPart asked walk p part) → IsScalarOf asked walk f arguments part
-unread asked walk f arguments part value e number = record {
+unread free asked walk f arguments part value e number = record {
   sound = (number asked walk (planned 0 (node.Number value)) refl).sound;
   scalar = λ h. absurd (cc);
   gives = λ stay t on w. without_scalar f t (rule asked.samples asked.kept (shape_of part.tree) t) (step_at (givens_at (map (plan_meant asked) arguments) t) 0) w e;
+  within = λ at listed.
+      let p : Plan = planned 0 (node.Number value) in
+      nothing_within asked at p (arguments_bound asked arguments) (shape_of part.tree) (free asked p at (IsBare.of_number value refl)) ((number asked walk p refl).within at listed);
 }
 
 -- a part of the argument is a scalar for it
@@ -62,6 +80,7 @@ read asked walk f (a ∷ []) part s i = record {
   scalar = λ h. i.scalar s;
   gives = λ stay t on w. ap (λ (x : Step). windowed_by f t x w)
       (sym (ap step_of ((i.gives (stay a refl)).gives t on) ∙ given_step part.scalar (rule asked.samples asked.kept (shape_of part.tree) t)));
+  within = λ at listed. only_within asked at a (shape_of part.tree) (i.within at listed);
 }
 read asked walk f (a ∷ b ∷ arguments) part s i = absurd i
 
@@ -88,36 +107,41 @@ module _ (asked : Asked) (walk : Walk) (p inner : Plan) (f : WindowFunction) (ar
   K = asked.kept
 
   -- a part of this shape
-  shaped : (shape : Shape) → shape_of part.tree ≡ shape → part.scalar ≡ false → part.own ≡ false → IsFit S shape → CanGo S K None part.tree → ((t : ℤ) → IsInstant walk t → StaysInTimes shape t)
-      → (OncesStay asked p → Gives asked (IsInstant walk) p false false (rule S K shape)) → IsPart asked walk p part
-  shaped shape is plain rows fit can times gives = record {
+  shaped : (shape : Shape) → shape_of part.tree ≡ shape → part.scalar ≡ false → part.own ≡ false → IsFit S shape → CanGo S K None part.tree → ((t : ℤ) → IsInstant walk t → StaysInTimes shape t) → IsFresh part.tree
+      → (OncesStay asked p → Gives asked (IsInstant walk) p false false (rule S K shape)) → StaysWithin asked walk p shape → IsPart asked walk p part
+  shaped shape is plain rows fit can times fresh gives within = record {
     sound = record {
       fit = subst (IsFit S) (sym is) fit;
       can = can;
       times = λ t i. subst (λ (s : Shape). StaysInTimes s t) (sym is) (times t i);
+      fresh = fresh;
     };
     scalar = λ h. absurd (cc);
     gives = λ stay. subst (λ (b : Bool). Gives asked (IsInstant walk) p b part.own (rule S K (shape_of part.tree))) (sym plain)
         (subst (λ (o : Bool). Gives asked (IsInstant walk) p false o (rule S K (shape_of part.tree))) (sym rows)
         (subst (λ (s : Shape). Gives asked (IsInstant walk) p false false (rule S K s)) (sym is) (gives stay)));
+    within = subst (StaysWithin asked walk p) (sym is) within;
   }
 
-  pub series_part : WalkMomentIsMoment → (selector : RangeSelector) (series : List ℕ) (at : WalkMoment) → shape_of part.tree ≡ SeriesOf series f at selector.range (shape_of scalar.tree) → part.scalar ≡ false → part.own ≡ false
-      → CanGo S K None part.tree → IsSelected K selector.rules S series → numbered S series ≡ chosen K selector.rules S → IsMomentOf asked selector.moment at → at.closed ≡ selector.moment.closed → pos 0 <ℤ selector.range.0
-      → ((t : ℤ) → IsInstant walk t → IsTime t) → ((t : ℤ) → IsInstant walk t → HasTimes (moment_at at t) selector.range.0) → GivesRange asked inner selector → IsPart asked walk p part
-  series_part moments selector series at is plain rows can selected these timed closed forward on times i =
-      shaped (SeriesOf series f at selector.range (shape_of scalar.tree)) is plain rows (selected_there K selector.rules S series selected, forward, one.scalar, one.sound.fit) can
-      (λ t w. (on t w, times t w, one.sound.times t w))
-      (λ stay. series_gives asked (IsInstant walk) moments p inner f arguments selector.rules selector.moment selector.range series at (rule S K (shape_of scalar.tree)) these timed closed e i (one.gives (argument_stays asked p inner f arguments e stay)))
+  pub series_part : WalkMomentIsMoment → WindowsStay → (selector : RangeSelector) (series : List ℕ) (at : WalkMoment) → shape_of part.tree ≡ SeriesOf series f at selector.range (shape_of scalar.tree) → part.scalar ≡ false → part.own ≡ false
+      → CanGo S K None part.tree → IsFresh part.tree → IsSelected K selector.rules S series → numbered S series ≡ chosen K selector.rules S → IsMomentOf asked selector.moment at → at.closed ≡ selector.moment.closed → pos 0 <ℤ selector.range.0
+      → ((t : ℤ) → IsInstant walk t → IsTime t) → ((t : ℤ) → IsInstant walk t → HasTimes (moment_at at t) selector.range.0) → IsRangeOf asked inner selector → IsPart asked walk p part
+  series_part moments stays selector series at is plain rows can fresh selected these timed closed forward on times i =
+      let there : AreThere S series = selected_there K selector.rules S series selected in
+      shaped (SeriesOf series f at selector.range (shape_of scalar.tree)) is plain rows (there, forward, one.scalar, one.sound.fit) can
+      (λ t w. (on t w, times t w, one.sound.times t w)) fresh
+      (λ stay. series_gives asked (IsInstant walk) moments p inner f arguments selector.rules selector.moment selector.range series at (rule S K (shape_of scalar.tree)) these timed closed e i.gives (one.gives (argument_stays asked p inner f arguments e stay)))
+      (stays asked walk p inner f arguments selector.rules selector.moment selector.range series at (shape_of scalar.tree) e i.within there these timed closed one.within)
 
-  pub points_part : WalkMomentIsMoment → MultiplesAreAll → (q : Plan) (moment : Moment) (range step : Ms) (at : WalkMoment) (child : Part) → shape_of part.tree ≡ PointsOf f (Multiples walk at range step) at range step (shape_of child.tree) (shape_of scalar.tree)
-      → part.scalar ≡ false → part.own ≡ false → CanGo S K None part.tree → IsPart asked (Multiples walk at range step) q child → IsMomentOf asked moment at → at.closed ≡ moment.closed → pos 0 <ℤ step.0
+  pub points_part : WalkMomentIsMoment → MultiplesAreAll → SubqueriesStay → (q : Plan) (moment : Moment) (range step : Ms) (at : WalkMoment) (child : Part) → shape_of part.tree ≡ PointsOf f (Multiples walk at range step) at range step (shape_of child.tree) (shape_of scalar.tree)
+      → part.scalar ≡ false → part.own ≡ false → CanGo S K None part.tree → IsFresh part.tree → IsPart asked (Multiples walk at range step) q child → IsMomentOf asked moment at → at.closed ≡ moment.closed → pos 0 <ℤ step.0
       → ((t : ℤ) → IsInstant walk t → IsTime t) → inner.node ≡ node.Subquery q range step moment → IsPart asked walk p part
-  points_part moments law q moment range step at child is plain rows can r timed closed forward on i =
+  points_part moments law stays q moment range step at child is plain rows can fresh r timed closed forward on i =
       shaped (PointsOf f (Multiples walk at range step) at range step (shape_of child.tree) (shape_of scalar.tree)) is plain rows (r.sound.times, one.scalar, r.sound.fit, one.sound.fit) can
-      (λ t w. (on t w, (walk, refl, w), one.sound.times t w))
+      (λ t w. (on t w, (walk, refl, w), one.sound.times t w)) fresh
       (λ stay.
       let given = r.gives (onces_below asked q inner (of_subquery range step moment i) (onces_below asked inner p (of_window f arguments e) stay)) in
       points_give asked (IsInstant walk) moments law p inner q f arguments moment range step at (rule S K (shape_of scalar.tree)) (rule S K (shape_of child.tree)) timed closed forward e i
       (λ t u w v. ap step_of (given.gives u (coe 1 0 (k. multiples-instants walk at range step u k) (t, w, v))) ∙ given_step child.scalar (rule S K (shape_of child.tree) u))
       (one.gives (argument_stays asked p inner f arguments e stay)))
+      (stays asked walk p inner q f arguments moment range step at (shape_of child.tree) (shape_of scalar.tree) e i timed closed forward r.within one.within)

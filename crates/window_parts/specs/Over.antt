@@ -11,6 +11,8 @@ use Rattle.plan_parts.specs.declared.parts.Part.{Part}
 use Rattle.plan_parts.specs.declared.unbuilt.Unbuilt.{Unbuilt}
 use Rattle.plan_tree.specs.Nodes.{shape_of}
 use Rattle.plan_tree.specs.Shapes.{is_scalar, rule}
+use Rattle.plan_work.specs.PlanLaws.{CostsAtMost}
+use Rattle.plan_work.specs.TreeBounds.{StaysWithinAll}
 use Rattle.promql_ast.specs.declared.tree.Moment.{Moment}
 use Rattle.promql_meaning.specs.Meaning.{step_at, windowed_by}
 use Rattle.promql_meaning.specs.Selecting.{Asked}
@@ -34,19 +36,26 @@ IsArgument asked walk arguments part = ⊥
 abbrev pub IsArgumentOf : Asked → Walk → List Plan → Result (Option Part) Unbuilt → Type 0
 IsArgumentOf asked walk arguments built = IfOk built (λ part. IsArgument asked walk arguments part)
 
--- a part may stand for the scalar of a function: it may be fed, it is a scalar where the function reads it, and with it the function
--- gives of any windows what it gives with the argument, if what stands below the argument's Once nodes stays
+-- a part may stand for the scalar of a function: it may be fed, it is a scalar where the function reads it, it costs at most what the
+-- argument does, and with it the function gives of any windows what it gives with the argument, if what stands below the argument's Once
+-- nodes stays
 pub record IsScalarOf (asked : Asked) (walk : Walk) (f : WindowFunction) (arguments : List Plan) (part : Part) : Type 0 where
   pub sound : IsSound asked.samples asked.kept walk part.tree
   pub scalar : IsTrue (takes_scalar f) → IsTrue (is_scalar (shape_of part.tree))
   pub gives : ((a : Plan) → arguments ≡ a ∷ [] → OncesStay asked a) → (t : ℤ) → IsInstant walk t → (windows : Windows)
       → windowed_by f t (rule asked.samples asked.kept (shape_of part.tree) t) windows ≡ windowed_by f t (step_at (givens_at (map (plan_meant asked) arguments) t) 0) windows
+  pub within : StaysWithinAll asked walk arguments (shape_of part.tree)
 
 -- ---- range selectors
 
 -- a plan gives the windows of a range selector: what a range in its place gives
 abbrev pub GivesRange : Asked → Plan → RangeSelector → Type 0
 GivesRange asked p selector = (t : ℤ) → plan_meaning asked p t ≡ plan_meaning asked (planned p.at (node.Range selector.rules selector.moment selector.range)) t
+
+-- and it costs at most what the plan does
+pub record IsRangeOf (asked : Asked) (p : Plan) (selector : RangeSelector) : Type 0 where
+  pub gives : GivesRange asked p selector
+  pub within : CostsAtMost asked selector.rules selector.moment selector.range p
 
 -- ---- subqueries
 

@@ -8,7 +8,7 @@ ghost use Rattle.std.specs.Prelude.{◌≡◌, ◌<ℤ◌, ℤ, pos, List, IfOk,
 ghost use Rattle.ticks.specs.Walks.{HasTimes, IsInstant, moment_at};
 ghost use Rattle.ticks.specs.declared.moment.Ms.{Ms};
 ghost use Rattle.ticks.specs.declared.walk.Walk.TheVariants.{Multiples};
-ghost use Rattle.window_parts.specs.Over.{GivesRange, IsArgumentOf, IsInside, IsScalarOf};
+ghost use Rattle.window_parts.specs.Over.{IsArgumentOf, IsInside, IsRangeOf, IsScalarOf};
 
 use crate::scalars::scalar_for;
 use crate::selectors::{RangeSelector, range_selector};
@@ -18,6 +18,7 @@ use match_rule::Patterns;
 use op_window::WindowRows;
 use plan_parts::{Course, Part, Unbuilt, are_rules_kept, settled};
 use plan_tree::Node;
+use plan_work::laws::trees_stay_within;
 use promql_ast::Moment;
 use promql_meaning::laws::{multiples_are_all, walk_moments_are_moments};
 use sample_store::Store;
@@ -49,10 +50,11 @@ fn over_selector<W: Ledger>(
     patterns: &mut Patterns<'_>,
     work: &mut Work<W>,
 ) -> Result<Part, Unbuilt>
-    ensures part { (p inner : Plan) (arguments : List Plan) → p.node ≡ node.Window f inner arguments → GivesRange (asked_over store.now patterns.old span.now) inner selector.now → IsScalarOf (asked_over store.now patterns.old span.now) course.now.walk f arguments scalar → IsPartOf (asked_over store.now patterns.old span.now) course.now.walk p result }
+    ensures part { (p inner : Plan) (arguments : List Plan) → p.node ≡ node.Window f inner arguments → IsRangeOf (asked_over store.now patterns.old span.now) inner selector.now → IsScalarOf (asked_over store.now patterns.old span.now) course.now.walk f arguments scalar → IsPartOf (asked_over store.now patterns.old span.now) course.now.walk p result }
     ensures same { patterns.new ≡ patterns.old }
 {
     walk_moments_are_moments();
+    trees_stay_within();
     if !are_rules_kept(patterns, selector.rules.as_slice()) {
         return Err(Unbuilt::Invalid);
     }
@@ -153,6 +155,7 @@ pub fn points(
 {
     walk_moments_are_moments();
     multiples_are_all();
+    trees_stay_within();
     let rows = rows?;
     let argument = argument?;
     let scalar = scalar_for(alloc, f, argument)?;

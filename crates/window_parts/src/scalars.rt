@@ -9,6 +9,7 @@ ghost use Rattle.window_parts.specs.Over.{IsArgument, IsScalarOf};
 use func_table::Window;
 use plan_parts::kinds::number;
 use plan_parts::{Part, Unbuilt};
+use plan_work::laws::nodes_add_up;
 use std::alloc::Global;
 use xfrac::whole;
 
@@ -25,6 +26,7 @@ fn takes_scalar(f: Window) -> bool
 pub(crate) fn scalar_for(alloc: Global, f: Window, argument: Option<Part>) -> Result<Part, Unbuilt>
     ensures { IfOk result (λ part. (asked : Asked) (walk : Walk) (arguments : List Plan) → IsArgument asked walk arguments argument → IsScalarOf asked walk f arguments part) }
 {
+    nodes_add_up();
     match argument {
         None => {
             if takes_scalar(f) {

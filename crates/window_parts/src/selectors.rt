@@ -1,11 +1,12 @@
 //! The range selectors of plans.
 ghost use Rattle.promql_meaning.specs.Selecting.{Asked};
 ghost use Rattle.std.specs.Prelude.{◌≡◌, ◌++◌, IfOk, IfSome};
-ghost use Rattle.window_parts.specs.Over.{GivesRange};
+ghost use Rattle.window_parts.specs.Over.{IsRangeOf};
 
 use holders::Items;
 use label_set::Rule;
 use logical_plan::{Plan, PlanNode};
+use plan_work::laws::range_selectors_cost;
 use promql_ast::Moment;
 use promql_meaning::laws::more_rules_filter;
 use std::alloc::AllocError;
@@ -39,9 +40,10 @@ impl RangeSelector {
 /// The range selector whose windows a plan gives: that of a range, or of one under filters, whose rules it has too. Other plans have
 /// none. The only error is want of memory.
 pub(crate) fn range_selector(p: &Plan) -> Result<Option<RangeSelector>, AllocError>
-    ensures { IfOk result (λ o. IfSome o (λ s. (asked : Asked) → GivesRange asked p.now s)) }
+    ensures { IfOk result (λ o. IfSome o (λ s. (asked : Asked) → IsRangeOf asked p.now s)) }
 {
     more_rules_filter();
+    range_selectors_cost();
     match &p.node {
         PlanNode::Range {
             rules,

@@ -2,6 +2,8 @@ use Rattle.std.proofs.Common.{◌≡◌, subst, sym}
 use Rattle.logical_plan.specs.PlanMeaning.{plan_step}
 use Rattle.plan_tree.specs.Nodes.{shape_of}
 use Rattle.plan_tree.specs.Shapes.{rule}
+use Rattle.plan_tree.specs.Spending.{IsFresh}
+use Rattle.plan_work.specs.TreeBounds.{StaysWithin}
 use Rattle.plan_tree.specs.declared.node.Node.{Node}
 use Rattle.ticks.specs.Walks.{IsInstant}
 use Rattle.phys_plan.proofs.Built.{IsNew, gives_steps, new_ready}
@@ -18,6 +20,12 @@ returns-clause-ready c = λ asked p is.
       batch_is = c.new.ensures.batch;
     } in
     new_ready asked.samples asked.kept c.new.result part.tree walk c.args.batch new c.requires.times c.requires.batch is.sound
+
+pub returns-clause-fresh : goal.returns-clause-fresh
+returns-clause-fresh c = λ asked p is. subst IsFresh (sym c.new.ensures.node) is.sound.fresh
+
+pub returns-clause-within : goal.returns-clause-within
+returns-clause-within c = λ asked p is. subst (λ (n : Node). StaysWithin asked c.args.walk p (shape_of n)) (sym c.new.ensures.node) is.within
 
 pub returns-clause-gives : goal.returns-clause-gives
 returns-clause-gives c = λ asked p is stay t on.

@@ -2,6 +2,7 @@ use Rattle.std.proofs.Common.{◌∙◌, None, refl, subst, sym}
 use Rattle.op_window.specs.Sliding.{walked_of}
 use Rattle.plan_tree.specs.Nodes.{CanGo, shape_of}
 use Rattle.plan_tree.specs.Shapes.{SeriesOf}
+use Rattle.plan_tree.specs.Spending.{IsFresh}
 use Rattle.plan_tree.specs.declared.node.Node.{Node}
 use Rattle.promql_meaning.specs.Selecting.{asked_over}
 use Rattle.series_marks.specs.Reaches.{IsReached}
@@ -18,7 +19,7 @@ returns-clause-part g c = λ p inner arguments e i one.
     let same = c.in_ok-new.ensures.ok in
     let m = sym made.moment in
     let r = sym made.range in
-    series_part asked walk p inner c.args.f arguments e _ scalar one c.walk_moments_are_moments.ensures c.args.selector.now c.in_ok-series.series c.settled-moment.result
+    series_part asked walk p inner c.args.f arguments e _ scalar one c.walk_moments_are_moments.ensures c.trees_stay_within.ensures.window c.args.selector.now c.in_ok-series.series c.settled-moment.result
     (λ j. SeriesOf (made.series j) (made.f j) (made.moment j) (made.range j) (shape_of (same j))) refl refl (
       record {
         walked = made.walked asked.samples ∙ (λ j. walked_of (m j).closed (r j).0 (sym made.fresh j) asked.samples (sym made.series j));
@@ -27,5 +28,5 @@ returns-clause-part g c = λ p inner arguments e i one.
       },
       subst (λ (n : Node). CanGo asked.samples asked.kept None n) (sym same) one.sound.can,
     )
-    c.in_ok-series.ensures.selected c.in_ok-series.ensures.chosen (c.settled-moment.ensures.moment c.args.store.now c.args.patterns.now) c.settled-moment.ensures.closed
+    (subst IsFresh (sym same) one.sound.fresh) c.in_ok-series.ensures.selected c.in_ok-series.ensures.chosen (c.settled-moment.ensures.moment c.args.store.now c.args.patterns.now) c.settled-moment.ensures.closed
     (c.if-not-are_within.ensures.forward refl) c.walk.ensures.instants (c.if-not-are_within.ensures.times refl) i

@@ -3,6 +3,7 @@ use Rattle.logical_plan.specs.declared.nodes.PlanNode.TheVariants as node
 use Rattle.plan_parts.specs.Parts.{IsPart}
 use Rattle.plan_tree.specs.Nodes.{CanGo, shape_of}
 use Rattle.plan_tree.specs.Shapes.{PointsOf, rule}
+use Rattle.plan_tree.specs.Spending.{IsFresh}
 use Rattle.plan_tree.specs.declared.node.Node.{Node}
 use Rattle.ticks.specs.Walks.{LeadsToTimes, multiples-times}
 use Rattle.ticks.specs.declared.walk.Walk.{Walk}
@@ -27,10 +28,10 @@ returns c = λ asked p inner q moment range step arguments e i inside r argued.
     let same = c.in_ok-new-2.ensures.ok in
     let stands = made.stands (rule asked.samples asked.kept (shape_of c.in_ok-new.field-0.value)) in
     let walk_is = stands.walk ∙ (λ j. Multiples (c.walk-2.ensures.walk j) (made.moment j) (made.range j) (made.step j)) in
-    points_part asked walk p inner c.args.f arguments e _ scalar one c.walk_moments_are_moments.ensures c.multiples_are_all.ensures q moment own.range own.step own.moment rows
+    points_part asked walk p inner c.args.f arguments e _ scalar one c.walk_moments_are_moments.ensures c.multiples_are_all.ensures c.trees_stay_within.ensures.subquery q moment own.range own.step own.moment rows
     (λ j. PointsOf (made.f j) (walk_is j) (made.moment j) (made.range j) (made.step j) (shape_of (inner_same j)) (shape_of (same j))) refl refl (
       record { outer = c.walk-2.result.now; stands = stands; next = made.next },
       subst (λ (n : Node). CanGo asked.samples asked.kept None n) (sym inner_same) child.sound.can,
       subst (λ (n : Node). CanGo asked.samples asked.kept None n) (sym same) one.sound.can,
     )
-    child inside.timed inside.closed leads.2 c.walk-2.ensures.instants (i ∙ (λ j. node.Subquery q (sym inside.range_is j) (sym inside.step_is j) moment))
+    (refl, subst IsFresh (sym inner_same) child.sound.fresh, subst IsFresh (sym same) one.sound.fresh) child inside.timed inside.closed leads.2 c.walk-2.ensures.instants (i ∙ (λ j. node.Subquery q (sym inside.range_is j) (sym inside.step_is j) moment))

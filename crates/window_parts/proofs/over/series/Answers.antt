@@ -1,5 +1,5 @@
 use Rattle.promql_meaning.specs.Selecting.{Asked, asked_over}
-use Rattle.window_parts.specs.Over.{GivesRange, IsArgument}
+use Rattle.window_parts.specs.Over.{IsArgument, IsRangeOf}
 use Rattle.window_parts.specs.declared.selectors.RangeSelector.{RangeSelector}
 use Rattle.window_parts.proofs.Made.{ok_at, some_at}
 use Rattle.window_parts.proofs.over.series.Goals as goal
@@ -10,5 +10,5 @@ returns-clause-part g c = λ p arguments e argued.
     let walk = c.args.course.now.walk in
     let windows = c.args.windows.now in
     let given = ok_at (IsArgument asked walk arguments) c.args.argument c.in_ok-argument.argument c.in_ok-argument.was argued in
-    let gives = some_at (λ (s : RangeSelector). (asked : Asked) → GivesRange asked windows s) _ c.in-Some.selector c.in-Some.is c.in_ok-selector.ensures asked in
-    c.over_selector.ensures.part p windows arguments e gives (c.in_ok-scalar.ensures asked walk arguments given)
+    let range = some_at (λ (s : RangeSelector). (asked : Asked) → IsRangeOf asked windows s) _ c.in-Some.selector c.in-Some.is c.in_ok-selector.ensures asked in
+    c.over_selector.ensures.part p windows arguments e range (c.in_ok-scalar.ensures asked walk arguments given)

@@ -6,4 +6,4 @@ use Rattle.window_parts.proofs.scalars.scalar_for.Goals as goal
 pub returns-else-takes_scalar : goal.returns-else-takes_scalar
 returns-else-takes_scalar c = ok_then c.number.result c.number.ensures (λ part number asked walk arguments i.
     let none : takes_scalar c.args.f ≡ false = search rules in
-    unread asked walk c.args.f arguments part c.whole.result none number)
+    unread c.nodes_add_up.ensures.none asked walk c.args.f arguments part c.whole.result none number)

@@ -3,20 +3,39 @@ use Rattle.logical_plan.specs.Lowering.{planned}
 use Rattle.logical_plan.specs.PlanMeaning.{plan_meaning}
 use Rattle.logical_plan.specs.declared.nodes.Plan.{Plan}
 use Rattle.logical_plan.specs.declared.nodes.PlanNode.TheVariants as node
+use Rattle.plan_work.specs.PlanLaws.{CostsAtMost}
 use Rattle.promql_meaning.specs.Selecting.{Asked}
-use Rattle.window_parts.specs.Over.{GivesRange}
+use Rattle.window_parts.specs.Over.{IsRangeOf}
 use Rattle.window_parts.specs.declared.selectors.RangeSelector.{RangeSelector}
-use Rattle.window_parts.proofs.Giving.{filter_gives}
+use Rattle.window_parts.proofs.Giving.{filter_gives, range_gives}
 use Rattle.window_parts.proofs.Made.{some_at}
 use Rattle.window_parts.proofs.selectors.+range_selector.Goals as goal
 
+pub returns-in_ok-copy-in-Range : goal.returns-in_ok-copy-in-Range
+returns-in_ok-copy-in-Range t c = λ asked.
+    let p = c.args.p.now in
+    let rules = c.in-Range.rules in
+    let moment = c.in-Range.moment in
+    let range = c.in-Range.range in
+    let same = c.in_ok-copy-in-Range.ensures in
+    record {
+      gives = λ u. range_gives asked p rules moment range c.in-Range.is u ∙ (λ j. plan_meaning asked (planned p.at (node.Range (sym same j) moment range)) u);
+      within = subst (λ rs. CostsAtMost asked rs moment range p) (sym same) (c.range_selectors_cost.ensures.range asked p rules moment range c.in-Range.is);
+    }
+
 pub returns-in_ok-filtered-in-Some : goal.returns-in_ok-filtered-in-Some
-returns-in_ok-filtered-in-Some t c = λ asked u.
+returns-in_ok-filtered-in-Some t c = λ asked.
     let p = c.args.p.now in
     let base = c.in-Filter.base in
+    let more = c.in-Filter.rules in
     let selector = c.in-Some.selector in
     let made = c.in_ok-filtered-in-Some.ensures in
-    let below = some_at (λ (s : RangeSelector). (asked : Asked) → GivesRange asked c.get.result.now s) _ selector c.in-Some.is c.in_ok-selector-in-Filter.ensures asked in
-    let gives = subst (λ (q : Plan). GivesRange asked q selector) c.get.ensures below in
-    filter_gives asked c.more_rules_filter.ensures.windows p base selector.rules c.in-Filter.rules selector.moment selector.range c.in-Filter.is gives u
-    ∙ (λ j. plan_meaning asked (planned p.at (node.Range (sym made.rules j) (sym made.moment j) (sym made.range j))) u)
+    let found = some_at (λ (s : RangeSelector). (asked : Asked) → IsRangeOf asked c.get.result.now s) _ selector c.in-Some.is c.in_ok-selector-in-Filter.ensures asked in
+    let below = subst (λ (q : Plan). IsRangeOf asked q selector) c.get.ensures found in
+    record {
+      gives = λ u.
+          filter_gives asked c.more_rules_filter.ensures.windows p base selector.rules more selector.moment selector.range c.in-Filter.is below.gives u
+          ∙ (λ j. plan_meaning asked (planned p.at (node.Range (sym made.rules j) (sym made.moment j) (sym made.range j))) u);
+      within = coe 1 0 (j. CostsAtMost asked (made.rules j) (made.moment j) (made.range j) p)
+          (c.range_selectors_cost.ensures.filter asked p base selector.rules more selector.moment selector.range c.in-Filter.is below.within);
+    }
