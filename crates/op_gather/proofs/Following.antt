@@ -1,6 +1,6 @@
 -- Steps that follow the instants that are to come.
-use Rattle.std.proofs.Common.{◌≡◌, ◌∙◌, map, take, length, Bool, true, false, List, [], ◌∷◌, refl, ap, Some, None}
-use Rattle.std.specs.Prelude.{ℤ, Option, if◌then◌else◌}
+use Rattle.std.proofs.Common.{◌≡◌, map, take, length, true, false, List, [], ◌∷◌, refl, ap, Some, None}
+use Rattle.std.specs.Prelude.{ℤ, if◌then◌else◌}
 use Rattle.std.specs.Ordering.{int_cmp, int_eq, is_eq}
 use Rattle.std.specs.declared.cmp.Ordering.{Ordering}
 use Rattle.std.specs.declared.cmp.Ordering.TheVariants.{Less, Equal, Greater}

@@ -3,6 +3,7 @@ mod Following
 mod Grouping
 mod LoneWindows
 mod Merging
+mod NoEngine
 mod Refusing
 mod Replaced
 mod Rooms

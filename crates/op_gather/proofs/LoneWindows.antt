@@ -1,6 +1,6 @@
 -- Windows that share their labels with no other are windows still, in the order of their labels.
-use Rattle.std.proofs.Common.{◌≡◌, ◌∙◌, ℕ, zero, suc, ◌<◌, ◌+◌, Bool, true, false, cond, List, [], ◌∷◌, ◌++◌, length, map, take, drop, refl, sym, ap, subst, Some, None, Option, arith}
-use Rattle.std.specs.Prelude.{◌&&◌, ◌||◌, ◌==◌, filter, not, IfSome, int_lt, ◌<ℤ◌}
+use Rattle.std.proofs.Common.{◌≡◌, ◌∙◌, ℕ, zero, suc, ◌<◌, ◌+◌, Bool, true, false, cond, List, [], ◌∷◌, ◌++◌, length, map, take, drop, refl, ap, subst, Some, None, Option, arith}
+use Rattle.std.specs.Prelude.{◌||◌, ◌==◌, filter, not, IfSome, int_lt}
 use Rattle.std.specs.BTreeMap.{is_at}
 use Rattle.std.specs.List.{AllByRecursion, cons_option, filter_map, list_all, list_any}
 use Rattle.std.specs.List.Sorted.{IsStrictlySortedBy}
@@ -34,9 +34,8 @@ use Rattle.step_table.specs.declared.marks.Mark.TheVariants.{SameLabelset}
 use Rattle.step_table.specs.declared.marks.Marks.{Marks}
 use Rattle.step_table.specs.declared.windows.WindowRow.{WindowRow}
 use Rattle.ticks.specs.declared.moment.Ms.{Ms}
-use Rattle.remote_api.specs.Strays.{do_rise, has_kind, is_cell_of, is_distinct, is_empty, is_window, rise_from}
+use Rattle.remote_api.specs.Strays.{do_rise, has_kind, is_cell_of, is_distinct, is_empty, rise_from}
 use Rattle.remote_api.specs.declared.asks.Ask.{Ask}
-use Rattle.xfrac.specs.declared.value.XFrac.{XFrac}
 use Rattle.op_gather.specs.Cells.{AreWindowCells, IsWindowRow}
 use Rattle.op_gather.specs.Histories.{AreWell}
 use Rattle.op_gather.specs.Joins.{with_sets}

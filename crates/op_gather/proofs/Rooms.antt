@@ -1,12 +1,12 @@
 -- An engine whose next step isn't kept has room.
-use Rattle.std.proofs.Common.{◌≡◌, ◌∙◌, ℕ, zero, suc, ◌+◌, ◌<◌, ◌≤◌, Bool, true, false, List, [], ◌∷◌, ◌++◌, length, drop, slice_get, ◌-◌, refl, sym, ap, subst, arith, Some, None, length-drop}
-use Rattle.std.specs.Prelude.{Option, ◌&&◌, ◌||◌, not, nat_lt, is_some}
+use Rattle.std.proofs.Common.{◌≡◌, ◌∙◌, ℕ, ◌≤◌, Bool, true, false, List, [], ◌∷◌, length, drop, slice_get, ◌-◌, refl, sym, ap, arith, Some, None, length-drop}
+use Rattle.std.specs.Prelude.{Option, ◌&&◌, ◌||◌, is_some}
 use Rattle.std.specs.List.{AllByRecursion, AllZip, list_all, list_any}
 use Rattle.std.proofs.lemmas.Bool.{false≢true}
 use Rattle.step_table.specs.declared.cells.StepCells.{StepCells}
 use Rattle.ticks.specs.declared.moment.Ms.{Ms}
 use Rattle.op_gather.specs.declared.queue.Queue.{Queue}
-use Rattle.op_gather.specs.Histories.{Gathering, IsFilled, QueueStands, Stands, is_ready}
+use Rattle.op_gather.specs.Histories.{IsFilled, QueueStands}
 use Rattle.op_gather.specs.Laws.{RoomIsLeft}
 use Rattle.op_gather.specs.Queues.{first_step, has_room, head_of, steps_in}
 

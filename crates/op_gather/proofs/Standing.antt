@@ -1,8 +1,7 @@
 -- What each call makes of the history of a gather.
 use Rattle.std.proofs.Common.{◌≡◌, ◌∙◌, ℕ, zero, suc, ◌+◌, ◌<◌, ◌≤◌, Bool, true, false, List, [], ◌∷◌, ◌++◌, length, map, take, drop, slice_get, slice_set, refl, sym, ap, subst, arith, Some, None, replicate, append_assoc, append-nil, length-append}
-use Rattle.std.specs.Prelude.{Option, Ok, Err, Result, ◌&&◌, ◌||◌, not, nat_lt, is_some, IfSome, IfNone, ℤ}
-use Rattle.std.specs.List.{AllByRecursion, AllZip, filter_map, list_all, list_any, cons_option}
-use Rattle.std.proofs.lemmas.Grind.{common_steps}
+use Rattle.std.specs.Prelude.{Option, ◌&&◌, not, nat_lt, is_some}
+use Rattle.std.specs.List.{AllByRecursion, AllZip, filter_map, list_all, cons_option}
 use Rattle.std.proofs.lemmas.Bool.{false≢true, ltb-true}
 use Rattle.std.proofs.lemmas.List.{drop-drop, map-append}
 use Rattle.std.proofs.Math.Seq.{take-add}

@@ -1,5 +1,5 @@
 -- What is asked of cells of groups before they are merged. (This project's own.)
-use Rattle.std.specs.Prelude.{◌≡◌, ◌<◌, ◌≤◌, ◌*◌, ◌^◌, ◌&&◌, ℕ, Bool, true, List, length, Option, IfSome}
+use Rattle.std.specs.Prelude.{◌≡◌, ◌<◌, ◌≤◌, ◌*◌, ◌^◌, ℕ, true, List, length, Option, IfSome}
 use Rattle.std.specs.List.{AllByRecursion, list_all}
 use Rattle.func_table.specs.declared.table.Aggregate.{Aggregate}
 use Rattle.step_batch.specs.LentWindows.{IsWindow}

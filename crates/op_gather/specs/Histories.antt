@@ -1,5 +1,5 @@
 -- What the calls on a gather have come to: the steps that each engine has delivered, and how many were taken. (This project's own.)
-use Rattle.std.specs.Prelude.{◌≡◌, ◌<◌, ◌^◌, ℕ, ◌≤◌, ◌&&◌, Bool, true, false, List, [], ◌∷◌, map, take, drop, length, is_some, slice_get, Option, None, Some, Result, Ok, Err, IfSome, ⊤}
+use Rattle.std.specs.Prelude.{◌≡◌, ◌<◌, ◌^◌, ℕ, ◌≤◌, ◌&&◌, Bool, true, List, map, take, drop, length, is_some, slice_get, Option, None, Some, Result, Ok, Err, IfSome, ⊤}
 use Rattle.std.specs.List.{AllByRecursion, AllZip, filter_map, list_all}
 use Rattle.step_batch.specs.Lent.{Lent}
 use Rattle.step_batch.specs.LentWindows.{WindowsAt}

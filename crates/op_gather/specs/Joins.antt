@@ -1,5 +1,5 @@
 -- What the steps of all engines at one instant come to, whatever their marks are. (This project's own.)
-use Rattle.std.specs.Prelude.{◌≡◌, List, [], map}
+use Rattle.std.specs.Prelude.{◌≡◌, List, map}
 use Rattle.func_table.specs.declared.table.Aggregate.{Aggregate}
 use Rattle.step_batch.specs.LentWindows.{WindowsAt}
 use Rattle.step_cells.specs.Joined.{joined_partials, joined_rows, joined_windows}

@@ -1,4 +1,4 @@
-use Rattle.std.proofs.Common.{◌≡◌, ◌∙◌, ◌<◌, ◌^◌, ℕ, List, ap, length, map, subst, sym}
+use Rattle.std.proofs.Common.{◌≡◌, ◌∙◌, ◌<◌, ◌^◌, ℕ, List, ap, map, subst, sym}
 use Rattle.std.proofs.lemmas.Result.{IfOk-weaker}
 use Rattle.std.specs.List.{AllByRecursion}
 use Rattle.step_cells.specs.Joined.{all_cells, keyed_cells}
@@ -6,7 +6,7 @@ use Rattle.step_table.specs.Groups.{Names, gathered}
 use Rattle.step_table.specs.WellFormed.{IsTable}
 use Rattle.step_table.specs.declared.cells.Cell.{Cell}
 use Rattle.step_table.specs.declared.step.Step.{Step}
-use Rattle.op_gather.specs.Cells.{AreGroups, MayFinish}
+use Rattle.op_gather.specs.Cells.{MayFinish}
 use Rattle.op_gather.specs.Joins.{groups_joined as what_is_joined, with_sets}
 use Rattle.op_gather.proofs.Grouping.{groups_may, sets_groups}
 use Rattle.op_gather.proofs.Settling.{groups_joined, groups_table}

@@ -1,4 +1,4 @@
-use Rattle.std.proofs.Common.{◌≡◌, ◌∷◌, ◌+◌, ◌<◌, ◌^◌, List, arith, drop, subst, true}
+use Rattle.std.proofs.Common.{◌≡◌, ◌∷◌, ◌+◌, arith, drop, subst, true}
 use Rattle.std.proofs.lemmas.Grind.{common_steps}
 use Rattle.std.specs.List.{AllByRecursion}
 use Rattle.step_cells.specs.Joined.{merged_with, totals_in_cell}

@@ -1,6 +1,5 @@
 use Rattle.std.proofs.Common.{◌≡◌, ◌∙◌, ap, map, subst, sym}
 use Rattle.std.proofs.lemmas.Result.{IfOk-weaker}
-use Rattle.step_cells.specs.Joined.{joined_rows}
 use Rattle.step_table.specs.Outcomes.{settled}
 use Rattle.step_table.specs.WellFormed.{AreSets, IsTable}
 use Rattle.step_table.specs.declared.step.Step.{Step}

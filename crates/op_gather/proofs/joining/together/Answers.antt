@@ -1,4 +1,4 @@
-use Rattle.std.proofs.Common.{◌≡◌, ◌++◌, List, ap, map, subst, sym}
+use Rattle.std.proofs.Common.{◌++◌, List, ap, map, subst, sym}
 use Rattle.std.specs.Vec.Iter.{into_iter_items}
 use Rattle.promql_meaning.specs.Givens.{no_marks}
 use Rattle.step_cells.specs.Joined.{all_cells, marks_with}

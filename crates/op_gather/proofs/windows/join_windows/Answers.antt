@@ -1,9 +1,9 @@
-use Rattle.std.proofs.Common.{◌≡◌, ◌∙◌, List, map, sym, ap, subst}
+use Rattle.std.proofs.Common.{◌∙◌, List, map, sym, subst}
 use Rattle.std.proofs.lemmas.Result.{on_ok_weaker}
 use Rattle.std.specs.List.{AllByRecursion}
 use Rattle.std.specs.List.Sorted.{IsStrictlySortedBy}
 use Rattle.label_set.specs.Labels.{labels_cmp}
-use Rattle.step_batch.specs.LentWindows.{IsWindow, WindowsAt, names_of, with_more_marks}
+use Rattle.step_batch.specs.LentWindows.{IsWindow, names_of}
 use Rattle.step_cells.specs.Joined.{windows_in}
 use Rattle.step_table.specs.declared.windows.WindowRow.{WindowRow}
 use Rattle.op_gather.specs.Joins.{with_sets}

@@ -1,7 +1,6 @@
-use Rattle.std.proofs.Common.{◌≡◌, ◌∙◌, ◌<◌, ◌++◌, ◌+◌, ℕ, List, length, drop, slice_get, slice_set, refl, sym, ap, subst, Some, None, true}
+use Rattle.std.proofs.Common.{◌≡◌, ◌∙◌, ◌<◌, ◌++◌, ◌+◌, List, length, drop, slice_get, slice_set, sym, ap, subst, None, true}
 use Rattle.std.specs.Prelude.{Option, Err, Ok, IfSome}
-use Rattle.std.specs.List.{AllByRecursion, AllZip}
-use Rattle.step_table.specs.declared.cells.StepCells.{StepCells}
+use Rattle.std.specs.List.{AllZip}
 use Rattle.ticks.specs.Walks.{IsInstant}
 use Rattle.ticks.specs.declared.moment.Ms.{Ms}
 use Rattle.remote_api.specs.Strays.{stray_of}

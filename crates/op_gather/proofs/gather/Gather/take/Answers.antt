@@ -1,9 +1,9 @@
-use Rattle.std.proofs.Common.{◌≡◌, ◌∙◌, ◌<◌, ◌≤◌, ◌^◌, ◌+◌, ℕ, Bool, List, [], length, map, slice_get, refl, sym, ap, subst, arith, true, Some}
-use Rattle.std.specs.Prelude.{◌&&◌, is_some}
-use Rattle.std.specs.List.{AllByRecursion, AllZip, filter_map, list_all}
+use Rattle.std.proofs.Common.{◌≡◌, ◌∙◌, ◌<◌, ◌≤◌, ◌^◌, ◌+◌, List, length, map, sym, ap, subst, arith, true, Some}
+use Rattle.std.specs.Prelude.{is_some}
+use Rattle.std.specs.List.{AllZip, filter_map, list_all}
 use Rattle.step_table.specs.declared.cells.StepCells.{StepCells}
 use Rattle.ticks.specs.declared.moment.Ms.{Ms}
-use Rattle.op_gather.specs.Histories.{AreWell, Gathering, IsQueueOf, QueueStands, Stands, is_ready, steps_at}
+use Rattle.op_gather.specs.Histories.{AreWell, Gathering, QueueStands, Stands, is_ready, steps_at}
 use Rattle.op_gather.specs.Joined.{LendsJoined}
 use Rattle.op_gather.specs.Queues.{head_of, popped}
 use Rattle.op_gather.specs.declared.queue.Queue.{Queue}
