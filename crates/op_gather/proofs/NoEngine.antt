@@ -4,6 +4,7 @@ use Rattle.std.specs.Prelude.{Option, ◌&&◌, is_some}
 use Rattle.std.specs.List.{AllZip, list_all}
 use Rattle.step_batch.specs.Lent.{Lent}
 use Rattle.step_batch.specs.LentWindows.{WindowsAt}
+use Rattle.step_table.specs.Groups.{gathered}
 use Rattle.step_table.specs.declared.cells.PartKind.{PartKind}
 use Rattle.step_table.specs.declared.cells.PartKind.TheVariants as part
 use Rattle.ticks.specs.declared.moment.Ms.{Ms}
@@ -18,6 +19,7 @@ are_ready all taken t next [] e a = ap (λ (n : Option Ms). is_some n && true) e
 are_ready all taken t next (q ∷ qs) e a = absurd a
 
 lends_nothing : (kind : PartKind) (taken : ℕ) (t : Ms) (lent : Lent) (windows : WindowsAt) → LendsJoined kind t (steps_at taken []) lent windows → LendsNothing kind t lent windows
+unfolding gathered
 lends_nothing part.Rows taken t lent windows h = h
 lends_nothing part.Windows taken t lent windows h = h
 lends_nothing (part.Partial f by) taken t lent windows h = h
