@@ -1,9 +1,7 @@
-use crate::modifiers::grouping;
-use func_table::Aggregate;
 use op_aggregate::{Grouped, is_grouped};
 use std::alloc::Global;
 use std::test::Fail;
-use written_steps::{Case, Feed, are_lent, buffer_of, line_that_differs};
+use written_steps::{Case, Feed, aggregate, are_lent, buffer_of, grouping, line_that_differs};
 
 // Each line is an aggregation with its grouping, steps that are fed, and steps that are lent.
 const LINES: &str =
@@ -35,19 +33,6 @@ group without x > 10 a,x=1:big;b,x=2:big | 20 a,y=1:-inf | 30 -!O > 10 :1 | 20 ,
 stdvar by x > 10 a,x=1:1;b,x=1:3;a,x=2:7 | 20 a,x=1:1;b,x=1:2;c,x=1:6 | 30 a,x=1:inf;b,x=1:1;a,x=2:nan > 10 ,x=1:1;,x=2:0 | 20 ,x=1:14/3 | 30 ,x=1:nan;,x=2:nan
 stdvar by x > 10 a,x=1:big;b,x=1:0;a,x=2:1;b,x=2:3 | 20 - | 30 b,x=1:5 > 10 ,x=2:1!O | 20 - | 30 ,x=1:0
 stdvar without x > 10 a,x=1:1/2;a,x=2:3/2;b,y=1:-1 | 20 a,x=1:-inf | 30 a,x=2:1;b,x=1:2 > 10 :1/4;,y=1:0 | 20 :nan | 30 :1/4";
-
-fn aggregate(word: &str) -> Result<Aggregate, Fail> {
-    match word {
-        "sum" => Ok(Aggregate::Sum),
-        "avg" => Ok(Aggregate::Avg),
-        "min" => Ok(Aggregate::Min),
-        "max" => Ok(Aggregate::Max),
-        "count" => Ok(Aggregate::Count),
-        "group" => Ok(Aggregate::Group),
-        "stdvar" => Ok(Aggregate::Stdvar),
-        _ => Err("no such aggregation")?,
-    }
-}
 
 /// A kernel of an aggregation with its grouping.
 fn kernel(alloc: Global, rule: &str) -> Result<Grouped, Fail> {

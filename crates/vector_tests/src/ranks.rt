@@ -1,5 +1,3 @@
-use crate::modifiers::grouping;
-use func_table::Aggregate;
 use label_set::Text;
 use op_element::is_scalar;
 use op_rank::{Ranked, is_ranking};
@@ -8,7 +6,9 @@ use std::test::Fail;
 use step_batch::Batch;
 use step_table::Step;
 use ticks::Ms;
-use written_steps::{Case, Feed, are_lent, buffer_of, has_same_steps, line_that_differs};
+use written_steps::{
+    Case, Feed, aggregate, are_lent, buffer_of, grouping, has_same_steps, line_that_differs,
+};
 
 // Each line is an aggregation and its grouping, steps that are fed, steps of its parameter, and steps that are lent. A step that
 // is lent with a note of a quantile has it behind `~`.
@@ -37,15 +37,6 @@ quantile by > 10 a:1;b:2 | 20 a:1;b:2 | 30 a:1 > 10 :inf | 20 :-inf | 30 -!O > 1
 quantile by > 10 a:1 | 20 a:1;b:3 | 30 a:1 > 10 :nan | 20 :1/2 | 30 -!I > 10 :nan~nan | 20 :2 | 30 -!I
 quantile by x > 10 a,x=1:big;b,x=1:1;a,x=2:6;b,x=2:8 | 20 a,x=2:1 | 30 a,x=1:2!C > 10 :1/3 | 20 :1/3 | 30 :1/3 > 10 ,x=2:20/3!O | 20 ,x=2:1 | 30 ,x=1:2!C
 quantile by x > 10 a,x=1:3;b,x=1:1;c,x=1:2 | 20 c,x=1:1;b,x=2:2;a,x=1:4 | 30 a,x=2:9 > 10 :1 | 20 :1/2 | 30 :0 > 10 ,x=1:3 | 20 ,x=1:5/2;,x=2:2 | 30 ,x=2:9";
-
-fn aggregate(word: &str) -> Result<Aggregate, Fail> {
-    match word {
-        "topk" => Ok(Aggregate::TopK),
-        "bottomk" => Ok(Aggregate::BottomK),
-        "quantile" => Ok(Aggregate::Quantile),
-        _ => Err("no such aggregation")?,
-    }
-}
 
 /// A kernel of an aggregation with its grouping.
 fn kernel(alloc: Global, rule: &str) -> Result<Ranked, Fail> {

@@ -4,12 +4,14 @@
 
 mod batches;
 mod cases;
+mod groups;
 mod operators;
 mod words;
 mod written;
 
 pub use batches::{are_lent, blank_of, buffer_of, has_same_steps};
 pub use cases::{Case, Feed, line_that_differs, parted};
+pub use groups::{aggregate, grouping};
 pub use operators::operator;
 pub use words::{labels, names, value};
 pub use written::steps;
