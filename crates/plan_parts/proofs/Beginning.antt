@@ -1,5 +1,5 @@
 -- Where a walk begins.
-use Rattle.std.proofs.Common.{◌≡◌, ◌∙◌, List, [], ◌∷◌, Option, Some, None, refl, sym}
+use Rattle.std.proofs.Common.{◌≡◌, List, [], ◌∷◌, Option, Some, None, refl}
 use Rattle.std.specs.Prelude.{pos, slice_get, unwrap_or}
 use Rattle.plan_work.specs.PlanBounds.{first_of}
 use Rattle.plan_work.specs.TreeBounds.{BeginsAt}

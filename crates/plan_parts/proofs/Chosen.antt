@@ -1,5 +1,5 @@
 -- The rows of the series that a selector chooses.
-use Rattle.std.proofs.Common.{◌≡◌, ◌∙◌, ℕ, zero, suc, ◌<◌, ◌≤◌, ◌^◌, arith, length, get_or, Bool, true, false, cond, List, [], ◌∷◌, map, Option, Some, None, refl, sym, ap, ap₂, subst}
+use Rattle.std.proofs.Common.{◌≡◌, ◌∙◌, ℕ, zero, suc, ◌<◌, ◌≤◌, ◌^◌, arith, length, get_or, Bool, true, false, cond, List, [], ◌∷◌, map, Option, Some, None, refl, sym, ap, subst}
 use Rattle.std.specs.Prelude.{ℤ, pos, negsuc, neg_ℤ, ◌≤ℤ◌, ◌-ℤ◌, ◌&&◌, int_le, unsigned_abs, unwrap_or, Result, Ok, Err, slice_get, ⊤}
 use Rattle.std.specs.List.{AllByRecursion, cons_option, filter_map, last_or}
 use Rattle.std.specs.List.Sorted.{IsStrictlySortedBy}
@@ -15,15 +15,14 @@ use Rattle.label_set.specs.Labels.{labels_cmp}
 use Rattle.label_set.specs.declared.rules.Rule.{Rule}
 use Rattle.logical_plan.specs.Lowering.{planned}
 use Rattle.logical_plan.specs.PlanFolds.{of-Select}
-use Rattle.logical_plan.specs.PlanMeaning.{Meant, node_meant, plan_meaning, plan_meant}
-use Rattle.logical_plan.specs.PlanRules.{newest_of, selector_of, time_outcome}
+use Rattle.logical_plan.specs.PlanMeaning.{Meant, node_meant, plan_meant}
+use Rattle.logical_plan.specs.PlanRules.{newest_of, time_outcome}
 use Rattle.logical_plan.specs.declared.nodes.Plan.{Plan}
 use Rattle.logical_plan.specs.declared.nodes.PlanNode.{PlanNode}
 use Rattle.logical_plan.specs.declared.nodes.PlanNode.TheVariants as node
 use Rattle.logical_plan.specs.declared.nodes.PlanNode.TheOpen.{PlanNode-F}
 use Rattle.op_select.specs.Newest.{AreOnce, entry_told, selected, told}
 use Rattle.promql_ast.specs.declared.tree.Moment.{Moment}
-use Rattle.promql_meaning.specs.Elements.{seconds_of}
 use Rattle.promql_meaning.specs.Givens.{no_marks, unstamped}
 use Rattle.promql_meaning.specs.Selecting.{AllSeries, Asked, Samples, between, fresh, fresh_sample, lookback, newest, newest_row, newest_rows}
 use Rattle.promql_meaning.specs.WalkMoments.{IsMomentOf, WalkMomentIsMoment}
@@ -41,13 +40,9 @@ use Rattle.step_table.specs.Outcomes.{mark_of}
 use Rattle.step_table.specs.Outcomes as outcomes
 use Rattle.step_table.specs.Sets.{step_of_rows}
 use Rattle.step_table.specs.Unions.{with_fatal}
-use Rattle.step_table.specs.declared.marks.Mark.{Mark}
-use Rattle.step_table.specs.declared.marks.Marks.{Marks}
-use Rattle.step_table.specs.declared.outcomes.Outcome.{Outcome}
 use Rattle.step_table.specs.declared.step.Row.{Row}
-use Rattle.step_table.specs.declared.step.Step.{Step}
 use Rattle.ticks.specs.Edges.{is_from}
-use Rattle.ticks.specs.Walks.{HasTimes, IsTime, moment_at}
+use Rattle.ticks.specs.Walks.{HasTimes, moment_at}
 use Rattle.ticks.specs.declared.moment.Ms.{Ms}
 use Rattle.ticks.specs.declared.walk.WalkMoment.{WalkMoment}
 use Rattle.window_fn.specs.NumberLaws.{SecondsAreNumbers}

@@ -1,6 +1,6 @@
 -- What each kind of node gives, of what its children give.
-use Rattle.std.proofs.Common.{◌≡◌, ◌∙◌, ℕ, Bool, true, false, List, [], ◌∷◌, map, Option, Some, None, refl, sym, ap, ap₂}
-use Rattle.std.specs.Prelude.{ℤ, IsTrue, slice_get, unwrap_or}
+use Rattle.std.proofs.Common.{◌≡◌, ◌∙◌, ℕ, Bool, true, false, List, [], ◌∷◌, map, Option, Some, None, refl, ap, ap₂}
+use Rattle.std.specs.Prelude.{ℤ, slice_get, unwrap_or}
 use Rattle.std.specs.Option.{option_map}
 use Rattle.func_table.specs.declared.table.Aggregate.{Aggregate}
 use Rattle.func_table.specs.declared.table.Aggregate.TheVariants as aggregate
@@ -9,7 +9,6 @@ use Rattle.func_table.specs.declared.table.Element.TheVariants as element
 use Rattle.func_table.specs.declared.table.SetOp.{SetOp}
 use Rattle.label_set.specs.declared.rules.Grouping.{Grouping}
 use Rattle.label_set.specs.declared.rules.Pairing.{Pairing}
-use Rattle.label_set.specs.declared.rules.PatternId.{PatternId}
 use Rattle.label_set.specs.declared.rules.Relabel.{Relabel}
 use Rattle.label_set.specs.declared.rules.Relabel.TheVariants.{Replace, Join, Filter}
 use Rattle.label_set.specs.declared.rules.Rule.{Rule}
@@ -23,14 +22,14 @@ use Rattle.logical_plan.specs.declared.nodes.PlanNode.TheVariants as node
 use Rattle.op_aggregate.specs.Rules.{aggregated_step, is_grouped}
 use Rattle.op_element.specs.Rules.{element_step, reads_first, reads_second}
 use Rattle.op_element.specs.declared.formula.ElementRule.TheVariants as formula
-use Rattle.op_labels.specs.Rules.{relabelled_step, text_at}
+use Rattle.op_labels.specs.Rules.{relabelled_step}
 use Rattle.op_small.specs.Rules.{small}
 use Rattle.op_small.specs.declared.rule.SmallRule.TheVariants as rule
 use Rattle.promql_meaning.specs.Absences.{absence_under}
 use Rattle.promql_meaning.specs.Buckets.{bucket_quantiles}
 use Rattle.promql_meaning.specs.Elements.{operated_rows, time_step}
-use Rattle.promql_meaning.specs.Givens.{barren, scalar_step, step_of, with_scalar}
-use Rattle.promql_meaning.specs.Meaning.{aggregated_with, aggregation, applied, applied_to, as_scalar, negation, operation, zero_number}
+use Rattle.promql_meaning.specs.Givens.{scalar_step, step_of, with_scalar}
+use Rattle.promql_meaning.specs.Meaning.{aggregated_with, applied_to, as_scalar, operation}
 use Rattle.promql_meaning.specs.Relabels.{label_joined, label_replaced}
 use Rattle.promql_meaning.specs.Selecting.{Asked}
 use Rattle.promql_meaning.specs.declared.given.Given.{Given}

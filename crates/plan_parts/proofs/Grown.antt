@@ -1,5 +1,5 @@
 -- Parts over parts: what may be fed, and what is given.
-use Rattle.std.proofs.Common.{◌≡◌, ◌∙◌, Bool, true, false, refl, sym, subst, None}
+use Rattle.std.proofs.Common.{◌≡◌, Bool, true, false, refl, sym, subst, None}
 use Rattle.std.specs.Prelude.{ℤ, IfOk, IsTrue, Result, Ok, Err, not}
 use Rattle.func_table.specs.declared.table.Element.{Element}
 use Rattle.func_table.specs.declared.table.Element.TheVariants.{Neg}
@@ -18,7 +18,7 @@ use Rattle.plan_work.specs.PlanLaws.{AreBeside, IsOver, IsThree}
 use Rattle.plan_work.specs.TreeBounds.{StaysWithin}
 use Rattle.promql_meaning.specs.Givens.{barren, no_marks}
 use Rattle.promql_meaning.specs.Selecting.{AllSeries, Asked}
-use Rattle.step_kernels.specs.Binaries.{binary_step, takes_scalar}
+use Rattle.step_kernels.specs.Binaries.{binary_step}
 use Rattle.step_kernels.specs.Unaries.{reads_rows, unary_step}
 use Rattle.step_kernels.specs.declared.binary.BinaryRule.{BinaryRule}
 use Rattle.step_kernels.specs.declared.unary.UnaryRule.{UnaryRule}

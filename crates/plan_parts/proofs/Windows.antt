@@ -1,9 +1,9 @@
 -- Windows of instants that lie between two times.
 use Rattle.std.proofs.Common.{◌≡◌, Option, None, Some, arith, refl}
-use Rattle.std.specs.Prelude.{ℤ, pos, ◌-ℤ◌, ◌<ℤ◌, ◌≤ℤ◌}
+use Rattle.std.specs.Prelude.{ℤ, pos, ◌-ℤ◌, ◌<ℤ◌}
 use Rattle.std.proofs.lemmas.Int.{ints}
 use Rattle.ticks.specs.Edges.{from-edge}
-use Rattle.ticks.specs.Walks.{HasTimes, IsInWindow, IsInstant, IsTime, LeadsToTimes, moment_at, multiples-instants, multiples-times}
+use Rattle.ticks.specs.Walks.{IsInWindow, IsInstant, IsTime, LeadsToTimes, moment_at, multiples-instants, multiples-times}
 use Rattle.ticks.specs.declared.moment.Ms.{Ms}
 use Rattle.ticks.specs.declared.walk.Walk.{Walk}
 use Rattle.ticks.specs.declared.walk.Walk.TheVariants.{Multiples}

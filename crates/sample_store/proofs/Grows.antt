@@ -1,9 +1,8 @@
 -- A new series goes behind the lists of its pairs.
-use Rattle.std.proofs.Common.{◌≡◌, ◌≢◌, ◌∙◌, ℕ, zero, suc, ◌+◌, List, [], ◌∷◌, ◌++◌, length, ap, ap₂, sym, refl, subst, arith, Bool, true, false, cond, Some, None, append_assoc, append-nil}
-use Rattle.std.specs.Prelude.{Option, ◌||◌, ◌&&◌, bytes_eq, unwrap_or, if◌then◌else◌}
-use Rattle.std.specs.List.{AllByRecursion, list_any}
+use Rattle.std.proofs.Common.{◌≡◌, ◌≢◌, ◌∙◌, ℕ, suc, ◌+◌, List, [], ◌∷◌, ◌++◌, length, ap, ap₂, sym, refl, subst, arith, Bool, true, false, cond, Some, None, append_assoc, append-nil}
+use Rattle.std.specs.Prelude.{◌||◌, bytes_eq, unwrap_or, if◌then◌else◌}
+use Rattle.std.specs.List.{AllByRecursion}
 use Rattle.std.specs.List.Sorted.{IsStrictlySortedBy}
-use Rattle.std.specs.BTreeMap.{is_at}
 use Rattle.std.specs.Map.{keys_of, lookup}
 use Rattle.std.specs.Ordering.{is_eq}
 use Rattle.std.specs.declared.cmp.Ordering.{Ordering}
@@ -11,7 +10,7 @@ use Rattle.std.specs.declared.cmp.Ordering.TheVariants.{Less, Equal, Greater}
 use Rattle.std.proofs.lemmas.Map.Text.{is_eq-slice_cmp}
 use Rattle.std.proofs.lemmas.Slice.Eq.{bytes_eq-Decides}
 use Rattle.label_set.specs.LabelEquality.{labels_eq}
-use Rattle.label_set.specs.Labels.{IsLabelSet, byte_cmp, value_at, value_of}
+use Rattle.label_set.specs.Labels.{IsLabelSet, byte_cmp}
 use Rattle.sample_store.proofs.Places.{look_put, pair_itself, pair_same}
 use Rattle.sample_store.proofs.Stores.{put-new}
 use Rattle.sample_store.specs.Listing.{noted, noted_one}

@@ -1,11 +1,10 @@
 -- A selection that looks at the series with some numbers.
 use Rattle.std.proofs.Common.{◌≡◌, ◌∙◌, Bool, true, false, ℕ, zero, suc, ◌+◌, ◌<◌, ◌≤◌, List, [], ◌∷◌, ◌++◌, length, map, drop, Option, Some, None, slice_get, ap, sym, refl, subst, arith, if◌then◌else◌, Bor}
 use Rattle.std.specs.Prelude.{MatchOption}
-use Rattle.std.specs.Option.{option_map}
 use Rattle.std.specs.List.{AllByRecursion}
 use Rattle.label_set.specs.declared.rules.Rule.{Rule}
 use Rattle.match_rule.specs.Patterns.{labels_pass}
-use Rattle.sample_store.specs.Samples.{AllSeries, IsListed, IsShortest, Names, Pair, Samples, has_pair, labels_at, looked_at, numbers_with, passing_at}
+use Rattle.sample_store.specs.Samples.{AllSeries, IsListed, IsShortest, Names, Pair, has_pair, labels_at, looked_at, numbers_with, passing_at}
 use Rattle.sample_store.proofs.Selects.{named}
 
 -- the numbers of a pair are those of series that are there

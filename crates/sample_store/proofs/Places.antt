@@ -1,6 +1,6 @@
 -- A list that is found by its pair, and one that is written in its place.
-use Rattle.std.proofs.Common.{◌≡◌, ◌∙◌, ℕ, zero, suc, List, [], ◌∷◌, ◌++◌, length, ap, ap₂, sym, refl, subst, arith, Bool, true, false, cond, Some, None, slice_get, true≢false}
-use Rattle.std.specs.Prelude.{Option, Result, Ok, Err, OnOk, OnErr, ◌&&◌, bytes_eq, unwrap_or, if◌then◌else◌}
+use Rattle.std.proofs.Common.{◌≡◌, ◌∙◌, ℕ, zero, suc, List, [], ◌∷◌, ◌++◌, ap, ap₂, sym, refl, subst, Bool, true, false, cond, Some, slice_get, true≢false}
+use Rattle.std.specs.Prelude.{Result, Ok, Err, OnOk, OnErr, ◌&&◌, bytes_eq, unwrap_or, if◌then◌else◌}
 use Rattle.std.specs.Option.{option_map}
 use Rattle.std.specs.List.{AllByRecursion, IsDistinct}
 use Rattle.std.specs.Map.{keys_of, lookup, lookup_key}

@@ -1,6 +1,6 @@
 -- The series that pass are those of one list that pass.
-use Rattle.std.proofs.Common.{◌≡◌, ◌∙◌, ℕ, zero, suc, ◌+◌, ◌<◌, List, [], ◌∷◌, length, ap, ap₂, sym, refl, subst, arith, Bool, true, false, cond}
-use Rattle.std.specs.Prelude.{◌&&◌, bytes_eq, slice_index_or, Contains, if◌then◌else◌}
+use Rattle.std.proofs.Common.{◌≡◌, ◌∙◌, ℕ, zero, suc, ◌+◌, ◌<◌, List, [], ◌∷◌, length, ap, ap₂, sym, refl, subst, arith, Bool, true, false}
+use Rattle.std.specs.Prelude.{slice_index_or, Contains, if◌then◌else◌}
 use Rattle.std.specs.List.{list_all}
 use Rattle.label_set.specs.Labels.{value_of}
 use Rattle.label_set.specs.declared.rules.Rule.{Rule}

@@ -1,6 +1,5 @@
 use Rattle.std.proofs.Common.{◌∙◌, ◌-◌, arith, sym, ap}
 use Rattle.op_rank.specs.Contenders.{before}
-use Rattle.op_rank.specs.declared.best.Contender.{Contender}
 use Rattle.op_rank.proofs.BestKept.{not_true, same_there}
 use Rattle.op_rank.proofs.best.is_behind.Goals as goal
 

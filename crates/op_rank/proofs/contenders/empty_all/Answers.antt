@@ -1,4 +1,4 @@
-use Rattle.std.proofs.Common.{◌∙◌, ◌<◌, arith}
+use Rattle.std.proofs.Common.{◌∙◌, arith}
 use Rattle.std.proofs.lemmas.List.{length-set}
 use Rattle.op_rank.proofs.Choosing.{emptied_all, emptied_more}
 use Rattle.op_rank.proofs.contenders.empty_all.Goals as goal

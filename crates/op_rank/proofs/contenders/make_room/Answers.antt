@@ -1,4 +1,4 @@
-use Rattle.std.proofs.Common.{◌≡◌, ◌∙◌, ◌∷◌, ◌++◌, [], length, ap, sym, subst, arith}
+use Rattle.std.proofs.Common.{◌≡◌, ◌∷◌, [], length, ap, sym, subst, arith}
 use Rattle.std.specs.List.{AllByRecursion}
 use Rattle.std.proofs.lemmas.List.{length-append}
 use Rattle.op_rank.specs.declared.best.Best.{Best}

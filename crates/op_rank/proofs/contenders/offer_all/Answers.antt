@@ -1,11 +1,9 @@
-use Rattle.std.proofs.Common.{◌≡◌, ◌∙◌, ◌<◌, ◌++◌, ◌∷◌, [], ℕ, List, length, take, arith, refl, sym, ap, subst}
+use Rattle.std.proofs.Common.{◌∙◌, ◌<◌, ◌++◌, ◌∷◌, [], ℕ, List, length, arith, refl, sym, subst}
 use Rattle.std.proofs.lemmas.List.{length-set}
-use Rattle.std.specs.List.{All}
 use Rattle.step_batch.specs.declared.steps.Slot.{Slot}
 use Rattle.xfrac.specs.Laws.{IsNumber}
 use Rattle.op_rank.specs.Best.{Keeps}
-use Rattle.op_rank.specs.Contenders.{AreNumbers, before, contender_of, contenders_in, kept_in}
-use Rattle.op_rank.specs.declared.best.Contender.{Contender}
+use Rattle.op_rank.specs.Contenders.{AreNumbers, before, contenders_in, kept_in}
 use Rattle.op_rank.proofs.Choosing.{all_take_more, begun, offered, place_below, place_within, whole_front}
 use Rattle.op_rank.proofs.contenders.offer_all.Goals as goal
 

@@ -1,4 +1,4 @@
-use Rattle.std.proofs.Common.{◌∙◌, ◌<◌, ◌≤◌, length, arith, refl}
+use Rattle.std.proofs.Common.{◌∙◌, ◌<◌, length, arith, refl}
 use Rattle.std.proofs.lemmas.List.{length-set}
 use Rattle.op_rank.proofs.Choosing.{left_more, settled_all, settled_more}
 use Rattle.op_rank.proofs.contenders.settle_all.Goals as goal

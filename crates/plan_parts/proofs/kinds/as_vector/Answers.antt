@@ -1,6 +1,5 @@
-use Rattle.std.proofs.Common.{◌≡◌, ◌∙◌, ℕ, Bool, true, false, List, [], ◌∷◌, Option, refl, sym, ap, ap₂, subst, rules}
 use Rattle.ticks.specs.Walks.{IsInstant}
-use Rattle.plan_parts.proofs.Grown.{ok_then, binary_part, clamp_part, instants_part, keeps_one, not_true, number_part, onces_below, part_at, unary_part}
+use Rattle.plan_parts.proofs.Grown.{onces_below, part_at}
 use Rattle.plan_parts.proofs.Giving.{sort_gives, vector_gives}
 use Rattle.plan_parts.specs.Parts.{of_sort, of_vector}
 use Rattle.plan_tree.specs.Nodes.{shape_of}

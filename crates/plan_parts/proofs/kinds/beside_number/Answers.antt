@@ -1,10 +1,10 @@
-use Rattle.std.proofs.Common.{◌≡◌, ◌∙◌, false, true, None, ap, subst, sym}
-use Rattle.std.specs.Prelude.{IfOk, Ok, Result}
+use Rattle.std.proofs.Common.{◌≡◌, ◌∙◌, false, ap, subst, sym}
+use Rattle.std.specs.Prelude.{IfOk, Result}
 use Rattle.plan_tree.specs.Nodes.{shape_of}
-use Rattle.plan_tree.specs.Shapes.{BinaryOf, InstantsOf, Shape}
+use Rattle.plan_tree.specs.Shapes.{BinaryOf, Shape}
 use Rattle.plan_work.specs.TreeBounds.{StaysWithin}
 use Rattle.op_small.specs.declared.rule.SmallRule.TheVariants as small
-use Rattle.plan_parts.specs.Parts.{IsBinary, IsInstants, IsMade}
+use Rattle.plan_parts.specs.Parts.{IsBinary, IsInstants}
 use Rattle.plan_parts.specs.declared.parts.Part.{Part}
 use Rattle.plan_parts.specs.declared.unbuilt.Unbuilt.{Unbuilt}
 use Rattle.plan_parts.proofs.Grown.{ok_then, same_part}

@@ -1,6 +1,6 @@
-use Rattle.std.proofs.Common.{◌≡◌, ◌∙◌, ℕ, Bool, true, false, List, [], ◌∷◌, Option, refl, sym, ap, ap₂, subst, rules}
+use Rattle.std.proofs.Common.{◌∙◌, [], ◌∷◌, ap}
 use Rattle.ticks.specs.Walks.{IsInstant}
-use Rattle.plan_parts.proofs.Grown.{ok_then, binary_part, clamp_part, instants_part, keeps_one, not_true, number_part, onces_below, part_at, unary_part}
+use Rattle.plan_parts.proofs.Grown.{ok_then, clamp_part, part_at}
 use Rattle.plan_parts.proofs.Giving.{clamp_gives}
 use Rattle.plan_parts.specs.Parts.{of_element, of_element_argument}
 use Rattle.op_element.specs.declared.formula.ElementRule.TheVariants as formula

@@ -1,4 +1,4 @@
-use Rattle.std.proofs.Common.{◌≡◌, false, inl}
+use Rattle.std.proofs.Common.{false, inl}
 use Rattle.ticks.specs.Walks.{IsInstant}
 use Rattle.plan_parts.proofs.Grown.{ok_then, binary_part, part_at}
 use Rattle.plan_parts.proofs.Giving.{ratio_gives}

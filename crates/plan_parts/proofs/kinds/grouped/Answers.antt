@@ -1,6 +1,6 @@
-use Rattle.std.proofs.Common.{◌≡◌, ◌∙◌, ℕ, Bool, true, false, List, [], ◌∷◌, Option, refl, sym, ap, ap₂, subst, rules}
+use Rattle.std.proofs.Common.{◌∙◌, false, [], ◌∷◌, ap}
 use Rattle.ticks.specs.Walks.{IsInstant}
-use Rattle.plan_parts.proofs.Grown.{ok_then, binary_part, clamp_part, instants_part, keeps_one, not_true, number_part, onces_below, part_at, unary_part}
+use Rattle.plan_parts.proofs.Grown.{ok_then, number_part, part_at, unary_part}
 use Rattle.plan_parts.proofs.Giving.{counted_gives, grouped_gives}
 use Rattle.plan_parts.specs.Parts.{of_group}
 use Rattle.step_kernels.specs.declared.binary.BinaryRule.TheVariants as binary

@@ -1,6 +1,6 @@
-use Rattle.std.proofs.Common.{◌≡◌, ◌∙◌, ℕ, Bool, true, false, List, [], ◌∷◌, Option, refl, sym, ap, subst}
+use Rattle.std.proofs.Common.{refl}
 use Rattle.ticks.specs.Walks.{IsInstant}
-use Rattle.plan_parts.proofs.Grown.{ok_then, binary_part, clamp_part, instants_part, keeps_one, not_true, onces_below, unary_part}
+use Rattle.plan_parts.proofs.Grown.{ok_then, instants_part}
 use Rattle.plan_parts.proofs.Giving.{number_gives}
 use Rattle.op_small.specs.declared.rule.SmallRule.TheVariants as small
 use Rattle.plan_parts.proofs.kinds.number.Goals as goal

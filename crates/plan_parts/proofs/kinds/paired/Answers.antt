@@ -1,6 +1,6 @@
-use Rattle.std.proofs.Common.{◌≡◌, ◌∙◌, ℕ, Bool, true, false, List, [], ◌∷◌, Option, refl, sym, ap, ap₂, subst, rules, inl, inr}
+use Rattle.std.proofs.Common.{true, false, inl, inr}
 use Rattle.ticks.specs.Walks.{IsInstant}
-use Rattle.plan_parts.proofs.Grown.{ok_then, binary_part, clamp_part, instants_part, keeps_one, not_true, number_part, onces_below, part_at, unary_part}
+use Rattle.plan_parts.proofs.Grown.{ok_then, binary_part, part_at}
 use Rattle.plan_parts.proofs.Giving.{left_gives, right_gives, vectors_give}
 use Rattle.plan_parts.specs.Parts.{of_left, of_right}
 use Rattle.step_kernels.specs.declared.binary.BinaryRule.TheVariants as binary

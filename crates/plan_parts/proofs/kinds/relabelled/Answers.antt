@@ -1,6 +1,6 @@
-use Rattle.std.proofs.Common.{◌≡◌, ◌∙◌, ℕ, Bool, true, false, List, [], ◌∷◌, Option, refl, sym, ap, ap₂, subst, rules}
+use Rattle.std.proofs.Common.{false, subst}
 use Rattle.ticks.specs.Walks.{IsInstant}
-use Rattle.plan_parts.proofs.Grown.{ok_then, binary_part, clamp_part, instants_part, keeps_one, not_true, number_part, onces_below, part_at, unary_part}
+use Rattle.plan_parts.proofs.Grown.{ok_then, part_at, unary_part}
 use Rattle.plan_parts.proofs.Giving.{filter_gives, relabel_gives}
 use Rattle.plan_parts.specs.Parts.{IsUnary, of_filter, of_relabel}
 use Rattle.step_kernels.specs.declared.unary.UnaryRule.TheVariants as unary

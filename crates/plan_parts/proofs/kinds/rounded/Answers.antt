@@ -1,12 +1,11 @@
-use Rattle.std.proofs.Common.{◌≡◌, ◌∙◌, ℕ, Bool, true, false, List, [], ◌∷◌, Option, refl, sym, ap, ap₂, subst, rules}
+use Rattle.std.proofs.Common.{false, [], sym, subst}
 use Rattle.ticks.specs.Walks.{IsInstant}
-use Rattle.plan_parts.proofs.Grown.{ok_then, binary_part, clamp_part, instants_part, keeps_one, not_true, number_part, onces_below, part_at, unary_part}
+use Rattle.plan_parts.proofs.Grown.{ok_then, number_part}
 use Rattle.plan_parts.proofs.Giving.{round_gives}
 use Rattle.plan_parts.specs.Parts.{of_element}
 use Rattle.op_small.specs.declared.rule.SmallRule.TheVariants as small
 use Rattle.step_kernels.specs.declared.binary.BinaryRule.TheVariants as binary
 use Rattle.op_element.specs.declared.formula.ElementRule.TheVariants as formula
-use Rattle.func_table.specs.declared.table.Element.{Element}
 use Rattle.func_table.specs.declared.table.Element.TheVariants as element
 use Rattle.op_small.specs.Rules.{small as small_step}
 use Rattle.plan_parts.specs.Gives.{Gives}

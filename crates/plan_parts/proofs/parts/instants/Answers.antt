@@ -1,5 +1,4 @@
-use Rattle.std.proofs.Common.{◌≡◌, refl, subst, sym, ap}
-use Rattle.op_small.specs.declared.rule.SmallRule.{SmallRule}
+use Rattle.std.proofs.Common.{refl, subst, sym, ap}
 use Rattle.plan_tree.specs.Shapes.{InstantsOf, Shape}
 use Rattle.plan_work.specs.TreeBounds.{StaysWithin}
 use Rattle.plan_parts.proofs.parts.instants.Goals as goal

@@ -1,5 +1,5 @@
-use Rattle.std.proofs.Common.{◌≡◌, ◌∙◌, Bool, false, List, None, ℕ, refl, sym, ap, subst, rules}
-use Rattle.std.specs.Prelude.{ℤ, IsTrue}
+use Rattle.std.proofs.Common.{Bool, false, List, ℕ, refl, sym, subst, rules}
+use Rattle.std.specs.Prelude.{ℤ}
 use Rattle.op_select.specs.Newest.{AreNamed, AreOnce, selected}
 use Rattle.promql_meaning.specs.Selecting.{asked_over, lookback}
 use Rattle.series_marks.specs.Reaches.{AreThere, IsReached}

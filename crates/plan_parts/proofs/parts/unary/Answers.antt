@@ -1,11 +1,11 @@
-use Rattle.std.proofs.Common.{◌≡◌, None, refl, ap, ap₂, subst, sym, rules}
+use Rattle.std.proofs.Common.{None, refl, ap, ap₂, subst, sym, rules}
 use Rattle.std.specs.Prelude.{IsTrue}
 use Rattle.plan_tree.specs.Nodes.{CanGo, shape_of}
 use Rattle.plan_tree.specs.Shapes.{Shape, UnaryOf}
 use Rattle.plan_tree.specs.Spending.{IsFresh}
 use Rattle.plan_tree.specs.declared.node.Node.{Node}
 use Rattle.plan_work.specs.TreeBounds.{StaysWithin}
-use Rattle.step_kernels.specs.Unaries.{KeepsPatterns, is_unary, unary_rule}
+use Rattle.step_kernels.specs.Unaries.{KeepsPatterns, is_unary}
 use Rattle.plan_parts.proofs.parts.unary.Goals as goal
 
 pub returns : goal.returns

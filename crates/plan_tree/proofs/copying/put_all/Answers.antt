@@ -1,6 +1,6 @@
 use Rattle.std.proofs.Common.{◌∙◌, ◌+◌, ◌++◌, ◌∷◌, [], ap, sym, subst, take, drop, length, arith}
 use Rattle.std.specs.Prelude.{List}
-use Rattle.step_batch.specs.Lent.{IsFreeFrom, SlotsRise, no_marks, on_last, with_slot}
+use Rattle.step_batch.specs.Lent.{no_marks, on_last, with_slot}
 use Rattle.step_batch.specs.declared.steps.Slot.{Slot}
 use Rattle.plan_tree.proofs.Copies.{GoesOn, insert_last, last_changed, rise_here}
 use Rattle.plan_tree.proofs.copying.put_all.Goals as goal

@@ -1,4 +1,4 @@
-use Rattle.std.proofs.Common.{◌≡◌, ◌∙◌, ◌+◌, ◌++◌, ◌∷◌, [], ap, sym, take, map}
+use Rattle.std.proofs.Common.{◌∙◌, ◌+◌, ◌++◌, ◌∷◌, [], ap, sym, map}
 use Rattle.std.specs.Prelude.{List, pos}
 use Rattle.step_batch.specs.Lent.{stage_of}
 use Rattle.step_batch.specs.declared.steps.PlacedStep.{PlacedStep}

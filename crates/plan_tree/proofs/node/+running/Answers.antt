@@ -1,5 +1,5 @@
 use Rattle.std.proofs.Common.{◌≡◌, ◌∙◌, List, [], ◌∷◌, get_or, Option, Some, refl, sym, ap, subst, arith}
-use Rattle.std.specs.Prelude.{ℤ, pos, ◌<ℤ◌, ◌||◌, IsTrue, true}
+use Rattle.std.specs.Prelude.{ℤ, pos, ◌||◌}
 use Rattle.std.specs.List.{AllByRecursion}
 use Rattle.op_labels.specs.Rules.{Kept}
 use Rattle.op_window.specs.Rules.{takes_scalar as reads_scalar, windows_of_series}

@@ -1,4 +1,4 @@
-use Rattle.std.proofs.Common.{◌≡◌, take}
+use Rattle.std.proofs.Common.{◌≡◌}
 use Rattle.sample_store.specs.Listing.{swept}
 use Rattle.sample_store.proofs.postings.take_back.Given as goal
 

@@ -1,6 +1,6 @@
 use Rattle.std.proofs.Common.{rules, ◌≡◌, Bool, List, ℕ, true, false, map, sym, subst, ◌∙◌, refl}
 use Rattle.match_rule.specs.Patterns.{labels_pass}
-use Rattle.sample_store.specs.Samples.{labels_at, passing_at}
+use Rattle.sample_store.specs.Samples.{passing_at}
 use Rattle.sample_store.proofs.Selects.{named}
 use Rattle.sample_store.proofs.Listed.{all_looked_at, missed_at, passed_at}
 use Rattle.sample_store.proofs.Stores.{total_labels}

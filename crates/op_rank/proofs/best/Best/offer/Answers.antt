@@ -1,4 +1,4 @@
-use Rattle.std.proofs.Common.{◌≡◌, ◌∙◌, ◌≤◌, ◌-◌, ◌++◌, ◌∷◌, [], ℕ, List, Some, length, slice_get, sym, subst}
+use Rattle.std.proofs.Common.{◌≡◌, ◌∙◌, ◌≤◌, ◌-◌, ◌++◌, ◌∷◌, [], List, Some, length, slice_get, sym, subst}
 use Rattle.op_rank.specs.Best.{HoldsBest}
 use Rattle.op_rank.specs.Contenders.{before}
 use Rattle.op_rank.specs.declared.best.Contender.{Contender}

@@ -1,4 +1,4 @@
-use Rattle.std.proofs.Common.{◌≤◌, ℕ, arith, sym, subst}
+use Rattle.std.proofs.Common.{arith}
 use Rattle.op_rank.proofs.best.Best.settle.Goals as goal
 
 pub returns-then-are_few : goal.returns-then-are_few

@@ -1,8 +1,7 @@
-use Rattle.std.proofs.Common.{◌∙◌, ◌<◌, ◌≤◌, ℕ, List, false, length, sym, ap, subst}
+use Rattle.std.proofs.Common.{◌∙◌, ◌<◌, false, length, sym, ap, subst}
 use Rattle.std.specs.List.{AllByRecursion}
 use Rattle.std.proofs.lemmas.List.{length-replicate}
-use Rattle.op_rank.specs.Best.{AreBest}
-use Rattle.op_rank.specs.Contenders.{before, contenders_in, kept_in}
+use Rattle.op_rank.specs.Contenders.{contenders_in}
 use Rattle.op_rank.specs.declared.best.Best.{Best}
 use Rattle.op_rank.specs.declared.best.Contender.{Contender}
 use Rattle.op_rank.proofs.Choosing.{choice_is, marks_within, none_chosen, rising_ranks, within_more}

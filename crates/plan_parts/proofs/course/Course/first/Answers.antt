@@ -1,4 +1,4 @@
-use Rattle.std.proofs.Common.{◌≡◌, Option, ap, subst, arith}
+use Rattle.std.proofs.Common.{Option, ap, subst, arith}
 use Rattle.std.specs.Prelude.{pos, unwrap_or}
 use Rattle.std.proofs.lemmas.Int.{ints}
 use Rattle.plan_work.specs.TreeBounds.{BeginsAt}
