@@ -6,7 +6,6 @@ use Rattle.plan_parts.specs.Parts.{IsUnary, keeps_scalar, of_element}
 use Rattle.step_kernels.specs.declared.unary.UnaryRule.TheVariants as unary
 use Rattle.op_element.specs.declared.formula.ElementRule.TheVariants as formula
 use Rattle.func_table.specs.declared.table.Element.{Element}
-use Rattle.func_table.specs.declared.table.Element.TheVariants as element
 use Rattle.logical_plan.specs.declared.nodes.PlanNode.TheVariants as node
 use Rattle.plan_tree.specs.Nodes.{shape_of}
 use Rattle.op_element.specs.Rules.{reads_first}
