@@ -104,14 +104,14 @@ few count n h p l = let q : 2 ^ 65 ≤ 2 ^ count = pow-le-pow_right {n = 2} (ome
 by-count : (count : ℕ) (P : Type 0) → (count ≤ 64 → P) → (65 ≤ count → P) → P
 by-count count P f g = by_lt_z (pos count) (pos 65) (λ h. f (omega (arith, ints, h))) (λ h. g (omega (arith, ints, h)))
 
-few-32 : (count n : ℕ) → n ≤ 2000000 → 2 ^ count ≤ 2 * n + 1 → 33 ≤ count → ⊥
-few-32 count n h p l = let q : 2 ^ 33 ≤ 2 ^ count = pow-le-pow_right {n = 2} (omega arith) l in omega (arith, q, h, p)
+few-21 : (count n : ℕ) → n ≤ 2000000 → 2 ^ count ≤ 2 * n + 1 → 22 ≤ count → ⊥
+few-21 count n h p l = let q : 2 ^ 22 ≤ 2 ^ count = pow-le-pow_right {n = 2} (omega arith) l in omega (arith, q, h, p)
 
-by-count-32 : (count : ℕ) (P : Type 0) → (count ≤ 32 → P) → (33 ≤ count → P) → P
-by-count-32 count P f g = by_lt_z (pos count) (pos 33) (λ h. f (omega (arith, ints, h))) (λ h. g (omega (arith, ints, h)))
+by-count-21 : (count : ℕ) (P : Type 0) → (count ≤ 21 → P) → (22 ≤ count → P) → P
+by-count-21 count P f g = by_lt_z (pos count) (pos 22) (λ h. f (omega (arith, ints, h))) (λ h. g (omega (arith, ints, h)))
 
-pub at_most_32 : (n old probed count : ℕ) → probed ≡ old + count → 2 ^ count ≤ 2 * n + 1 → n ≤ 2000000 → probed ≤ old + 32
-at_most_32 n old probed count p b h = by-count-32 count (probed ≤ old + 32) (λ f. omega (arith, p, f)) (λ g. absurd (few-32 count n h b g))
+pub at_most_21 : (n old probed count : ℕ) → probed ≡ old + count → 2 ^ count ≤ 2 * n + 1 → n ≤ 2000000 → probed ≤ old + 21
+at_most_21 n old probed count p b h = by-count-21 count (probed ≤ old + 21) (λ f. omega (arith, p, f)) (λ g. absurd (few-21 count n h b g))
 
 -- what a search among n things has spent
 pub record IsSpent (n low high old probed : ℕ) : Type 0 where

@@ -1,6 +1,6 @@
 -- What a store holds: series in the order of their first samples, each with its samples in rising time (Prometheus, "Data
 -- model"). That an equal sample is taken twice and another one refused, and the limits, are this project's own.
-use Rattle.std.specs.Prelude.{Bool, true, false, ◌&&◌, ◌==◌, nat_le, is_none, if◌then◌else◌, ◌≡◌, ◌≢◌, ◌<◌, ◌≤◌, ◌+◌, ◌++◌, slice_get, slice_set, insert, ℕ, List, [], ◌∷◌, length, min, bytes_eq, Option, None, Some, int_lt, unwrap_or, filter, Result, Ok, Err, MatchOption, map, Contains, ◌↔◌}
+use Rattle.std.specs.Prelude.{Bool, true, false, ◌&&◌, ◌==◌, nat_le, is_none, if◌then◌else◌, ◌≡◌, ◌≢◌, ◌<◌, ◌≤◌, ◌+◌, ◌++◌, slice_get, slice_set, insert, ℕ, List, [], ◌∷◌, length, min, bytes_eq, Option, None, Some, int_lt, ◌≤ℤ◌, ◌⊎◌, unwrap_or, filter, Result, Ok, Err, MatchOption, map, Contains, ◌↔◌}
 use Rattle.std.specs.BTreeMap.{insert_entry, is_at}
 use Rattle.std.specs.List.{AllByRecursion, IsDistinct}
 pub use Rattle.indexmap.specs.IndexMap.{insert_entry as put_entry}
@@ -265,3 +265,7 @@ pub record Between : Type 0 where
 -- a sample is the last of some
 abbrev pub EndsWith : Samples → Ms × Held → Type 0
 EndsWith samples sample = (front : Samples) × (samples ≡ front ++ sample ∷ [])
+
+-- there is none, or the last one isn't later than a time
+abbrev pub EndsBy : Ms → Samples → Type 0
+EndsBy after samples = (samples ≡ []) ⊎ ((sample : Ms × Held) × EndsWith samples sample × (sample.0.0 ≤ℤ after.0))

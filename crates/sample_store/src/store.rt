@@ -148,7 +148,7 @@ impl Store {
     }
 
     /// A cursor before the samples of a series that are later than a time. It takes no memory, and looks at no more than
-    /// 64 times.
+    /// 42 times.
     #[tactic(auto, using(crate::proofs::Stores::few_there, crate::proofs::Stores::rising_there, crate::proofs::Stores::rising_later, crate::proofs::Stores::total_later, crate::proofs::Stores::total_rising, crate::proofs::Stores::total_whole))]
     pub fn seek<W: Ledger>(&self, s: u32, after: Ms, work: &mut Work<W>) -> Cursor<'_>
         requires { s < length self.now }
@@ -158,7 +158,7 @@ impl Store {
         ensures ahead { result.rest ≡ later_than after (samples_at self.now s) }
         ensures rising { IsRising result.rest }
         ensures sorted { IsRising (samples_at self.now s) }
-        ensures probed { work.new.probed ≤ work.old.probed + 64 }
+        ensures probed { work.new.probed ≤ work.old.probed + 42 }
         ensures fetched { work.new.fetched ≡ work.old.fetched }
         ensures tested { work.new.tested ≡ work.old.tested }
     {

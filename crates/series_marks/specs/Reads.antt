@@ -30,6 +30,10 @@ abbrev pub last_of : ℤ → Samples → Option Sample → Option Sample
 last_of m [] last = last
 last_of m (x ∷ xs) last = if int_lt m x.0.0 then last else last_of m xs (Some x)
 
+-- a moment, or an edge that is later
+abbrev pub later_of : Ms → Ms → Ms
+later_of edge m = if int_lt m.0 edge.0 then edge else m
+
 -- the samples up to a moment
 abbrev pub until : ℤ → Samples → Samples
 until m [] = []

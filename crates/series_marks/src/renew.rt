@@ -1,12 +1,14 @@
-ghost use Rattle.sample_store.specs.Samples.{samples_at};
-ghost use Rattle.series_marks.specs.Reads.{IsNoEarlier, Rises, edge_of, after, mark_at, mark_of, probes_of, read_at, read_of};
-ghost use Rattle.std.specs.Prelude.{◌≡◌, ◌+◌, ◌<◌, ◌≤◌, ◌≤ℤ◌, None, length, drop};
+ghost use Rattle.sample_store.specs.Samples.{EndsBy, EndsWith, samples_at};
+ghost use Rattle.series_marks.specs.Reads.{IsNoEarlier, Rises, edge_of, after, head_of, later_of, mark_at, mark_of, probes_of, read_at, read_of};
+ghost use Rattle.std.specs.Option.{option_to_list};
+ghost use Rattle.std.specs.Prelude.{◌≡◌, ◌+◌, ◌++◌, ◌<◌, ◌<ℤ◌, ◌≤◌, ◌≤ℤ◌, None, drop, if◌then◌else◌, length, MatchOption};
 
-use crate::advance::advance;
+use crate::advance::{advance, stands_at};
 use crate::mark::Mark;
-use sample_store::Store;
+use sample_store::{Cursor, Store};
 use std::sync::ledger::Ledger;
 use ticks::{Ms, Work};
+use xfrac::Held;
 
 /// How many samples of a series aren't later than a time, by one search. It takes no memory.
 pub fn place_behind<W: Ledger>(store: &Store, s: u32, edge: Ms, work: &mut Work<W>) -> u32
@@ -22,22 +24,63 @@ pub fn place_behind<W: Ledger>(store: &Store, s: u32, edge: Ms, work: &mut Work<
     cursor.place()
 }
 
-/// A series' first mark: it is sought once.
+/// A moment, or an edge that is later.
+fn later(edge: Ms, m: Ms) -> Ms
+    ensures { result ≡ later_of edge m }
+{
+    if m.0 < edge.0 { edge } else { m }
+}
+
+/// The newest sample before a cursor, where it is later than an edge.
+fn newest_behind<W: Ledger>(cursor: &Cursor<'_>, edge: Ms, work: &mut Work<W>) -> Option<(Ms, Held)>
+    ensures last { MatchOption result (EndsBy edge cursor.now.before) (λ x. EndsWith cursor.now.before x × edge.0 <ℤ x.0.0) }
+    ensures fetched { work.new.fetched ≡ work.old.fetched + length (option_to_list result) }
+    ensures probed { work.new.probed ≤ work.old.probed + 1 }
+    ensures tested { work.new.tested ≡ work.old.tested }
+{
+    match cursor.previous_after(edge, work) {
+        Some((time, held)) => Some((time, *held)),
+        None => None,
+    }
+}
+
+/// The next sample, but where one stands at the moment.
+fn next_unless<W: Ledger>(
+    cursor: &mut Cursor<'_>,
+    stands: bool,
+    work: &mut Work<W>,
+) -> Option<(Ms, Held)>
+    ensures ahead { result ≡ (if stands then None else head_of cursor.old.rest) }
+    ensures rest { option_to_list result ++ cursor.new.rest ≡ cursor.old.rest }
+    ensures whole { cursor.new.before ++ cursor.new.rest ≡ cursor.old.before ++ cursor.old.rest }
+    ensures fetched { work.new.fetched ≡ work.old.fetched + length (option_to_list result) }
+    ensures probed { work.new.probed ≡ work.old.probed }
+    ensures tested { work.new.tested ≡ work.old.tested }
+{
+    if stands {
+        return None;
+    }
+    match cursor.next(work) {
+        Some((time, held)) => Some((time, *held)),
+        None => None,
+    }
+}
+
+/// A series' first mark: the moment is sought once, and one sample is stepped back from there, so that none but the newest one and
+/// the next are fetched, however many lie behind the edge.
 fn begin<W: Ledger>(store: &Store, s: u32, edge: Ms, m: Ms, work: &mut Work<W>) -> Mark
     requires there { s < length store.now }
     requires rises { Rises None (samples_at store.now s) }
     ensures mark { result ≡ mark_at edge.0 m.0 (samples_at store.now s) }
-    ensures read { work.new.fetched ≡ work.old.fetched + read_at edge.0 m.0 (samples_at store.now s) }
+    ensures read { work.new.fetched ≤ work.old.fetched + read_at edge.0 m.0 (samples_at store.now s) }
     ensures probed { work.new.probed ≤ work.old.probed + 64 }
     ensures tested { work.new.tested ≡ work.old.tested }
 {
-    let place = place_behind(store, s, edge, work);
-    let mark = Mark {
-        place,
-        last: None,
-        ahead: None,
-    };
-    advance(store, s, mark, m, work)
+    let mut cursor = store.seek(s, later(edge, m), work);
+    let last = newest_behind(&cursor, edge, work);
+    let ahead = next_unless(&mut cursor, stands_at(&last, m), work);
+    let place = cursor.place();
+    Mark { place, last, ahead }
 }
 
 /// A series' mark at a moment that isn't earlier.
@@ -71,8 +114,8 @@ pub fn edge_since(reached: Option<(Ms, Ms)>, edge: Ms) -> Ms
     }
 }
 
-/// A series' mark at a moment, from the mark at an earlier one, or from none by one search. Each sample is fetched once. It takes
-/// no memory.
+/// A series' mark at a moment, from the mark at an earlier one, or from none by one search. No sample is fetched twice. It takes no
+/// memory.
 pub fn renewed<W: Ledger>(
     store: &Store,
     s: u32,
@@ -87,7 +130,7 @@ pub fn renewed<W: Ledger>(
     requires mark { mark ≡ mark_of reached (samples_at store.now s) }
     requires later { IsNoEarlier reached m }
     ensures mark { result ≡ mark_at (edge_of reached edge).0 m.0 (samples_at store.now s) }
-    ensures read { work.new.fetched + read_of reached (samples_at store.now s) ≡ work.old.fetched + read_at (edge_of reached edge).0 m.0 (samples_at store.now s) }
+    ensures read { work.new.fetched + read_of reached (samples_at store.now s) ≤ work.old.fetched + read_at (edge_of reached edge).0 m.0 (samples_at store.now s) }
     ensures probed { work.new.probed + probes_of reached ≤ work.old.probed + 64 }
     ensures tested { work.new.tested ≡ work.old.tested }
 {

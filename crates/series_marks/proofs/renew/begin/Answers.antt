@@ -1,33 +1,41 @@
-use Rattle.std.proofs.Common.{◌≡◌, ◌∙◌, ◌+◌, ◌≤◌, None, drop, length, sym, ap, subst}
-use Rattle.series_marks.specs.Reads.{after}
-use Rattle.sample_store.specs.Samples.{samples_at}
-use Rattle.sample_store.specs.Samples.{Samples}
+use Rattle.std.proofs.Common.{◌≡◌, ◌∙◌, ◌+◌, ◌++◌, ◌≤◌, None, drop, if◌then◌else◌, length, sym, ap, subst, arith}
+use Rattle.std.specs.Option.{option_to_list}
+use Rattle.sample_store.specs.Samples.{Samples, later_than, samples_at}
+use Rattle.ticks.specs.declared.moment.Ms.{Ms}
 use Rattle.series_marks.specs.declared.mark.Mark.{Mark}
-use Rattle.series_marks.specs.Reads.{Rises, coming, last_of, mark_at}
-use Rattle.series_marks.specs.Walked.{rises_after}
-use Rattle.series_marks.specs.Marked.{place_read, place_first, read_first, is_mark}
+use Rattle.series_marks.specs.Marked.{is_mark}
+use Rattle.series_marks.specs.Reads.{after, ahead_of, head_of, later_of, until}
+use Rattle.series_marks.proofs.Newest.{after_reach, newest_among, newest_is}
+use Rattle.series_marks.proofs.Stores.{after_edge, few_behind, rest_behind}
 use Rattle.series_marks.proofs.renew.begin.Goals as goal
-
-pub advance-requires-clause-rises : goal.advance-requires-clause-rises
-advance-requires-clause-rises g c =
-    let S = samples_at c.args.store.now c.args.s in
-    let at : after c.args.edge.0 S ≡ drop c.place_behind-place.result S = sym c.place_behind-place.ensures.later in
-    subst (λ (xs : Samples). Rises None xs) at (rises_after c.args.edge.0 S c.requires.rises)
 
 pub returns-clause-mark : goal.returns-clause-mark
 returns-clause-mark g c =
     let S = samples_at c.args.store.now c.args.s in
-    let e = c.args.edge.0 in
-    let at : drop c.place_behind-place.result S ≡ after e S = c.place_behind-place.ensures.later in
-    is_mark e c.args.m.0 S c.advance.result (c.advance.ensures.last ∙ ap (λ (xs : Samples). last_of c.args.m.0 xs None) at) (c.advance.ensures.coming ∙ ap (after c.args.m.0) at) c.advance.ensures.ahead c.advance.ensures.within
+    let e = c.args.edge in
+    let m = c.args.m in
+    let B = c.seek-cursor.result.before in
+    let R = c.seek-cursor.result.rest in
+    let last = c.newest_behind-last.result in
+    let ahead = c.next_unless-ahead.result in
+    let place = c.place-place.result in
+    let at : R ≡ after (later_of e m).0 S = c.seek-cursor.ensures.ahead ∙ ap (λ (t : Ms). later_than t S) c.later.ensures ∙ after_edge (later_of e m) S c.requires.rises in
+    let new = c.next_unless-ahead.new.cursor in
+    let whole : new.before ++ new.rest ≡ S = c.next_unless-ahead.ensures.whole ∙ c.seek-cursor.ensures.stands in
+    let behind : new.rest ≡ drop place S = rest_behind S place new.before new.rest whole (sym c.place-place.ensures) in
+    let rest : option_to_list ahead ++ drop place S ≡ R = ap (λ (t : Samples). option_to_list ahead ++ t) (sym behind) ∙ c.next_unless-ahead.ensures.rest in
+    is_mark e.0 m.0 S (record { place = place; last = last; ahead = ahead }) (newest_is e m S B R c.requires.rises c.seek-cursor.ensures.stands at last c.newest_behind-last.ensures.last) (rest ∙ at ∙ sym (after_reach e m S))
+    (c.next_unless-ahead.ensures.ahead ∙ ap (λ b. if b then None else head_of R) c.stands_at.ensures ∙ ap (ahead_of m.0 last) (sym rest)) (few_behind S place new.before new.rest whole c.place-place.ensures)
 
 pub returns-clause-read : goal.returns-clause-read
 returns-clause-read g c =
     let S = samples_at c.args.store.now c.args.s in
-    let e = c.args.edge.0 in
-    let at : after e S ≡ drop c.place_behind-place.result S = sym c.place_behind-place.ensures.later in
-    let within : c.place_behind-place.result ≤ length S = c.place_behind-place.ensures.within in
-    let first = place_first S (after e S) c.place_behind-place.result at within in
-    let v : c.advance.result.place ≡ (mark_at e c.args.m.0 S).place = ap (λ (k : Mark). k.place) (returns-clause-mark g c) in
-    let q : c.advance.result.place + length (after e S) ≡ length S + _ = ap (λ k. k + length (after e S)) v ∙ place_read e c.args.m.0 S in
-    read_first c.advance.new.work.fetched c.args.work.now.fetched c.place_behind-place.result c.advance.result.place (length (after e S)) (length S) _ (c.advance.ensures.read ∙ ap (λ k. k + c.advance.result.place) c.place_behind-place.ensures.fetched) first q
+    let T = after c.args.edge.0 S in
+    let is = returns-clause-mark g c in
+    let last : length (option_to_list c.newest_behind-last.result) ≤ length (until c.args.m.0 T) =
+    subst (λ (o : _). length (option_to_list o) ≤ length (until c.args.m.0 T)) (sym (ap (λ (k : Mark). k.last) is)) (newest_among c.args.m.0 T) in
+    let ahead = ap (λ (k : Mark). length (option_to_list k.ahead)) is in
+    let one = c.newest_behind-last.ensures.fetched in
+    let two = c.next_unless-ahead.ensures.fetched in
+    let none = c.seek-cursor.ensures.fetched in
+    omega (arith, last, ahead, one, two, none)
