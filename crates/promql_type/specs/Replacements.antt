@@ -23,9 +23,10 @@ pub record AreTaken (before : Kept) (wanted : List Replacement) (after : Kept) :
   pub readable : AllByRecursion (λ (r : Replacement). is_readable true r.text ≡ true) wanted
   pub few : length before ≤ 32 → length after ≤ 32
 
--- why one is refused, at its string: `regex` refuses a text that isn't plain, or it can be read and 32 others are kept
+-- why one is refused, at its string: `regex` refuses a text that isn't plain, or it can be read and 32 others are kept. One
+-- that is kept is never refused.
 abbrev pub HasCause : Kept → Replacement → QueryRefusal → Type 0
-HasCause kept r (BadPattern at) = (at ≡ r.place) × (is_plain r.text ≡ false) × IsRefused (regex_text true r.text)
+HasCause kept r (BadPattern at) = (at ≡ r.place) × (is_plain r.text ≡ false) × (is_kept (true, r.text) kept ≡ false) × IsRefused (regex_text true r.text)
 HasCause kept r (TooManyPatterns at) = (at ≡ r.place) × (is_readable true r.text ≡ true) × (is_kept (true, r.text) kept ≡ false) × (length kept ≡ 32)
 HasCause kept r other = ⊥
 
