@@ -113,12 +113,15 @@ rest_shorter : {A : Type 0} (xs : List A) (n : ℕ) → length xs ≤ suc n → 
 rest_shorter [] n l = omega arith
 rest_shorter (x ∷ xs) n l = omega arith
 
+pub mixed_past : {A : Type 0} (all before : List A) (n : ℕ) → length all ≤ n → length before ≤ length all → mixed n all before ≡ all
+mixed_past [] [] zero e l = refl
+mixed_past [] [] (suc n) e l = refl
+mixed_past [] (b ∷ before) n e l = absurd (omega arith)
+mixed_past (a ∷ all) before zero e l = absurd (omega arith)
+mixed_past {A} (a ∷ all) before (suc n) e l = mixed_more n a all before ∙ ap (λ (r : List A). a ∷ r) (mixed_past all (drop 1 before) n (omega arith) (rest_shorter before (length all) l))
+
 pub mixed_whole : {A : Type 0} (all before : List A) (n : ℕ) → n ≡ length all → length before ≤ length all → mixed n all before ≡ all
-mixed_whole [] [] zero e l = refl
-mixed_whole [] [] (suc n) e l = refl
-mixed_whole [] (b ∷ before) n e l = absurd (omega arith)
-mixed_whole (a ∷ all) before zero e l = absurd (omega arith)
-mixed_whole {A} (a ∷ all) before (suc n) e l = mixed_more n a all before ∙ ap (λ (r : List A). a ∷ r) (mixed_whole all (drop 1 before) n (omega arith) (rest_shorter before (length all) l))
+mixed_whole all before n e l = mixed_past all before n (omega (arith, e)) l
 
 -- what stands at a place that is there
 pub split_here : {A : Type 0} (xs : List A) (i : ℕ) (x : A) → slice_get xs i ≡ Some x → xs ≡ take i xs ++ x ∷ drop (i + 1) xs

@@ -1,3 +1,4 @@
 pub mod Feeding
 pub mod Keeping
+pub mod Passing
 pub mod Remaking

@@ -1,20 +1,22 @@
--- label_replace, label_join and a filter of rules, over steps. (Prometheus querying, "Functions" and "Time series selectors": the
+-- label_replace, label_join and a filter of rules, over steps, and such a filter over windows. (Prometheus querying, "Functions" and "Time series selectors": the
 -- rules are those of the meaning.)
-use Rattle.std.specs.Prelude.{◌≡◌, ℕ, Bool, List, [], map, slice_get, unwrap_or, Option, None, Some, Ok, Err, if◌then◌else◌, ⊤}
+use Rattle.std.specs.Prelude.{◌≡◌, ℕ, Bool, List, [], ◌∷◌, ◌++◌, map, slice_get, unwrap_or, Option, None, Some, Ok, Err, if◌then◌else◌, ⊤}
 use Rattle.std.specs.List.{filter_map}
 use Rattle.std.specs.Option.{option_map}
 use Rattle.label_set.specs.declared.rules.Relabel.{Relabel}
 use Rattle.label_set.specs.declared.rules.Relabel.TheVariants.{Replace, Join, Filter}
 use Rattle.label_set.specs.declared.rules.Rule.{Rule}
 use Rattle.match_rule.specs.Patterns.{HaveTheirPatterns, IsWholeId, labels_pass}
-use Rattle.promql_meaning.specs.Filters.{passing_rows}
+use Rattle.promql_meaning.specs.Filters.{passing_rows, passing_windows}
 use Rattle.promql_meaning.specs.Relabels.{joined_labels, label_joined, label_replaced, replaced_labels}
 use Rattle.step_batch.specs.Lent.{Lent}
+use Rattle.step_batch.specs.LentWindows.{WindowsAt}
 use Rattle.step_batch.specs.declared.steps.Slot.{Slot}
 use Rattle.step_put.specs.declared.placed.PlacedOutcome.{PlacedOutcome}
 use Rattle.step_table.specs.Groups.{Names}
 use Rattle.step_table.specs.Timed.{StepAt}
 use Rattle.step_table.specs.declared.step.Step.{Step}
+use Rattle.step_table.specs.declared.windows.WindowRow.{WindowRow}
 use Rattle.xfrac.specs.declared.value.NumFault.TheVariants.{Overflow}
 use Rattle.op_labels.specs.declared.change.Change.{Change}
 use Rattle.op_labels.specs.declared.change.Change.TheVariants as change
@@ -40,6 +42,14 @@ HasPatterns kept (Filter rules) = HaveTheirPatterns kept rules
 -- a step without the rows whose labels don't pass all rules
 abbrev pub filtered : Kept → List Rule → Step → Step
 filtered kept rules step = record { table = record { rows = passing_rows kept rules step.table.rows }; marks = step.marks }
+
+-- the windows of an instant without those whose labels don't pass all rules
+abbrev pub filtered_windows : Kept → List Rule → WindowsAt → WindowsAt
+filtered_windows kept rules windows = record { at = windows.at; rows = passing_windows kept rules windows.rows; marks = windows.marks }
+
+abbrev pub IsFilter : Relabel → Type 0
+IsFilter (Filter rules) = ⊤
+IsFilter rule = ⊥
 
 -- what a rule makes of a step
 abbrev pub relabelled_step : Kept → Relabel → Step → Step
@@ -94,6 +104,19 @@ slot_fated (Some fate) slot = fated fate slot
 abbrev pub slots_placed : List Fate → List Slot → List PlacedOutcome
 slots_placed fates slots = filter_map (λ (slot : Slot). slot_fated (slice_get fates slot.place) slot) slots
 
+-- ---- windows
+
+-- what is left of a window
+abbrev pub staying : Fate → WindowRow → List WindowRow
+staying Stays window = window ∷ []
+staying fate window = []
+
+-- what is left of windows, by the fates of their labels
+abbrev pub windows_staying : List Fate → List WindowRow → List WindowRow
+windows_staying [] windows = []
+windows_staying (fate ∷ fates) [] = []
+windows_staying (fate ∷ fates) (window ∷ windows) = staying fate window ++ windows_staying fates windows
+
 -- ---- a kernel
 
 -- a change of labels as the rules of steps take it, and what it is
@@ -107,13 +130,15 @@ relabel_of (change.Replace r) = Replace r.target r.template r.source r.pattern
 relabel_of (change.Join target separator sources) = Join target separator sources
 relabel_of (change.Filter rules) = Filter rules
 
--- a rule, the labels that were fed, beside each what was made of them and what becomes of their rows, and what is lent
+-- a rule, the labels that were fed, beside each what was made of them and what becomes of their rows, and the steps and the windows
+-- that are lent
 pub record Relabelling : Type 0 where
   pub rule : Relabel
   pub fed : List Names
   pub made : List Names
   pub fates : List Fate
   pub lent : Lent
+  pub windows : WindowsAt
 
 -- what is kept of the labels that were fed is what the rule makes of them with these patterns
 abbrev pub IsMadeBy : Kept → Relabelling → Type 0

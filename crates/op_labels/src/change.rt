@@ -1,6 +1,6 @@
 ghost use Rattle.op_labels.specs.Rules.{HasPatterns, change_of as change_of_rule, made_of as made_by, relabel_of, remade as remade_labels};
 ghost use Rattle.promql_meaning.specs.Relabels.{joined_labels};
-ghost use Rattle.std.specs.Prelude.{◌≡◌, IfOk};
+ghost use Rattle.std.specs.Prelude.{◌≡◌, ◌<◌, Some, length, slice_get, IfOk};
 
 use label_set::{Items, Labels, Relabel, Rule, Text};
 use match_rule::{Patterns, labels_pass};
@@ -29,6 +29,13 @@ pub(crate) enum Fate {
     Beyond,
     /// The labels don't pass a rule.
     Out,
+}
+
+pub(crate) fn fate_at(fates: &[Fate], place: usize) -> Fate
+    requires { place < length fates.now }
+    ensures { slice_get fates.now place ≡ Some result }
+{
+    fates[place]
 }
 
 pub(crate) fn change_of(rule: Relabel) -> Change

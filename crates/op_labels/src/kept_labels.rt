@@ -1,12 +1,14 @@
 //! Labels that were fed, and what was made of them.
 ghost use Rattle.op_labels.specs.Rules.{AreMade, HasPatterns, relabel_of};
 ghost use Rattle.std.specs.Prelude.{◌≡◌, ◌≤◌, ◌+◌, ◌++◌, ◌∷◌, [], Some, drop, length, slice_get, take, IfOk, IsTrue, OnOk};
+ghost use Rattle.step_batch.specs.LentWindows.{names_of};
 
 use crate::change::{Change, Fate, made_of};
 use label_set::Labels;
 use match_rule::Patterns;
 use std::alloc::{AllocError, Global};
 use std::mem;
+use step_batch::Windows;
 
 /// Labels that were fed, beside each the labels that were made of them, and what becomes of their rows.
 #[derive(Drop)]
@@ -50,6 +52,26 @@ impl KeptLabels {
         *self = renewed(alloc, change, patterns, kept, labels)?;
         Ok(())
     }
+
+    /// Takes the labels of windows that are fed, as `renew` does.
+    pub(crate) fn renew_by_windows(
+        &mut self,
+        alloc: Global,
+        change: &Change,
+        patterns: &mut Patterns<'_>,
+        windows: &Windows<'_>,
+    ) -> Result<(), AllocError>
+        requires patterns { HasPatterns patterns.old (relabel_of change.now) }
+        requires made { AreMade patterns.old (relabel_of change.now) self.old.fed.items self.old.made.items self.old.fates.items }
+        ensures fed { OnOk result (self.new.fed.items ≡ names_of windows.now.rows) }
+        ensures made { AreMade patterns.old (relabel_of change.now) self.new.fed.items self.new.made.items self.new.fates.items }
+        ensures same { patterns.new ≡ patterns.old }
+    {
+        let before = mem::replace(self, KeptLabels::new(alloc));
+        let kept = cut(before, windows.len());
+        *self = renewed_by_windows(alloc, change, patterns, kept, windows)?;
+        Ok(())
+    }
 }
 
 /// At most the first so many.
@@ -86,14 +108,55 @@ fn renewed(
 {
     let mut kept = before;
     for i in 0..labels.len() {
-        let names = &labels[i];
-        if has(&kept, i, names) {
-            continue;
-        }
-        let made = made_of(alloc, change, patterns, names)?;
-        kept = kept_at(kept, i, names.copy()?, made)?;
+        kept = renewed_at(alloc, change, patterns, kept, i, &labels[i])?;
     }
     Ok(kept)
+}
+
+/// Takes the labels of windows that are fed in the place of those that are kept, where they differ.
+fn renewed_by_windows(
+    alloc: Global,
+    change: &Change,
+    patterns: &mut Patterns<'_>,
+    before: KeptLabels,
+    windows: &Windows<'_>,
+) -> Result<KeptLabels, AllocError>
+    requires patterns { HasPatterns patterns.old (relabel_of change.now) }
+    requires made { AreMade patterns.old (relabel_of change.now) before.fed.items before.made.items before.fates.items }
+    requires within { length before.fed.items ≤ length (names_of windows.now.rows) }
+    ensures fed { IfOk result (λ k. k.fed.items ≡ names_of windows.now.rows) }
+    ensures made { IfOk result (λ k. AreMade patterns.old (relabel_of change.now) k.fed.items k.made.items k.fates.items) }
+    ensures same { patterns.new ≡ patterns.old }
+{
+    let mut kept = before;
+    for i in 0..windows.len() {
+        kept = renewed_at(alloc, change, patterns, kept, i, windows.labels(i))?;
+    }
+    Ok(kept)
+}
+
+/// Takes labels at a place of the feed. The change makes those anew that differ from the labels kept there.
+fn renewed_at(
+    alloc: Global,
+    change: &Change,
+    patterns: &mut Patterns<'_>,
+    kept: KeptLabels,
+    i: usize,
+    labels: &Labels,
+) -> Result<KeptLabels, AllocError>
+    requires patterns { HasPatterns patterns.old (relabel_of change.now) }
+    requires made { AreMade patterns.old (relabel_of change.now) kept.fed.items kept.made.items kept.fates.items }
+    requires next { i ≤ length kept.fed.items }
+    ensures fed { IfOk result (λ k. k.fed.items ≡ take i kept.fed.items ++ labels.now ∷ drop (i + 1) kept.fed.items) }
+    ensures made { IfOk result (λ k. AreMade patterns.old (relabel_of change.now) k.fed.items k.made.items k.fates.items) }
+    ensures same { patterns.new ≡ patterns.old }
+{
+    if has(&kept, i, labels) {
+        return Ok(kept);
+    }
+    let made = made_of(alloc, change, patterns, labels)?;
+    let next = kept_at(kept, i, labels.copy()?, made)?;
+    Ok(next)
 }
 
 /// Whether these labels are kept at a place.

@@ -1,24 +1,27 @@
-ghost use Rattle.op_labels.specs.Rules.{AreMade, HasPatterns, IsMadeBy, fated, relabelled_at, relabellings, slots_placed};
+ghost use Rattle.label_set.specs.declared.rules.Relabel.TheVariants as relabel;
+ghost use Rattle.op_labels.specs.Rules.{AreMade, HasPatterns, IsFilter, IsMadeBy, fated, filtered_windows, relabelled_at, relabellings, slots_placed};
 ghost use Rattle.std.specs.Option.{option_map, option_to_list};
 ghost use Rattle.std.specs.Prelude.{◌≡◌, ◌<◌, ◌<ℤ◌, ◌++◌, ◌∷◌, [], Some, length, slice_get, IfOk, OnOk};
 ghost use Rattle.step_batch.specs.Lent.{IsLater, SlotsRise, stages};
 ghost use Rattle.step_put.specs.declared.labels_left.Left.TheVariants as kind;
 
-use crate::change::{Change, Fate, change_of};
+use crate::change::{Change, Fate, change_of, fate_at};
 use crate::kept_labels::KeptLabels;
+use crate::passing_windows::pass_all;
 use label_set::Relabel;
 use match_rule::Patterns;
 use std::alloc::{AllocError, Global};
 use std::marker::Model;
 use step_batch::laws::lent_steps_are_tables;
-use step_batch::{Batch, Slot};
+use step_batch::{Batch, Slot, WindowBuffer, Windows};
 use step_put::{Left, OutcomeBuffer, PlacedOutcome};
 use step_table::order_laws::rows_ignore_order;
+use ticks::Ms;
 use xfrac::{NumFault, XFrac};
 
-/// A kernel of label_replace, of label_join, or of the rows whose labels pass all rules. New labels are made and patterns
-/// asked once for each labels that are fed, and what was made is kept over feeds while the labels at that place stay equal.
-/// `placed` is what was made of the rows of the last step, whose memory is kept.
+/// A kernel of label_replace, of label_join, or of the rows or the windows whose labels pass all rules. New labels are made and
+/// patterns asked once for each labels that are fed, and what was made is kept over feeds while the labels at that place stay
+/// equal. `placed` is what was made of the rows of the last step, whose memory is kept.
 #[derive(Drop)]
 pub struct Relabelled {
     alloc: Global,
@@ -26,6 +29,7 @@ pub struct Relabelled {
     kept: KeptLabels,
     placed: Vec<PlacedOutcome>,
     rows: OutcomeBuffer,
+    windows: WindowBuffer,
 }
 
 impl Model for Relabelled {
@@ -35,7 +39,7 @@ impl Model for Relabelled {
 
     ghost Value = { Relabelling };
 
-    ghost view = { λ k. record { rule = relabel_of k.change; fed = k.kept.fed.items; made = k.kept.made.items; fates = k.kept.fates.items; lent = k.rows.lent } };
+    ghost view = { λ k. record { rule = relabel_of k.change; fed = k.kept.fed.items; made = k.kept.made.items; fates = k.kept.fates.items; lent = k.rows.lent; windows = k.windows } };
 
     ghost invariant = { λ k. k.rows.left ≡ kind.All };
 }
@@ -46,6 +50,7 @@ impl Relabelled {
         ensures rule { IfOk result (λ k. k.rule ≡ rule) }
         ensures made { IfOk result (λ k. (patterns : _) → IsMadeBy patterns k) }
         ensures lent { IfOk result (λ k. stages k.lent ≡ []) }
+        ensures windows { IfOk result (λ k. k.windows.rows ≡ []) }
     {
         Ok(Relabelled {
             alloc,
@@ -53,6 +58,7 @@ impl Relabelled {
             kept: KeptLabels::new(alloc),
             placed: Vec::new(alloc),
             rows: OutcomeBuffer::new(alloc, Left::All),
+            windows: WindowBuffer::new(alloc, Ms(0)),
         })
     }
 
@@ -82,6 +88,35 @@ impl Relabelled {
         ensures { result ≡ self.now.lent }
     {
         self.rows.lend()
+    }
+
+    /// Takes the windows of an instant in the place of those that were fed before; the steps that it lends stay. The patterns are
+    /// those of `feed`. Windows that pass are copied, since they are lent when what was fed is gone. The only error is want of
+    /// memory; then a next feed may follow all the same.
+    pub fn feed_windows(
+        &mut self,
+        windows: &Windows<'_>,
+        patterns: &mut Patterns<'_>,
+    ) -> Result<(), AllocError>
+        requires filter { IsFilter self.old.rule }
+        requires patterns { HasPatterns patterns.old self.old.rule }
+        requires made { IsMadeBy patterns.old self.old }
+        ensures rule { self.new.rule ≡ self.old.rule }
+        ensures made { IsMadeBy patterns.old self.new }
+        ensures same { patterns.new ≡ patterns.old }
+        ensures lent { self.new.lent ≡ self.old.lent }
+        ensures windows { OnOk result ((rules : _) → self.old.rule ≡ relabel.Filter rules → self.new.windows ≡ filtered_windows patterns.old rules windows.now) }
+    {
+        self.kept
+            .renew_by_windows(self.alloc, &self.change, patterns, windows)?;
+        pass_all(&mut self.windows, self.kept.fates.as_slice(), windows)
+    }
+
+    /// Lends the windows that were fed last and whose labels pass; none before the first ones. It takes no memory.
+    pub fn lend_windows(&self) -> Windows<'_>
+        ensures { result ≡ self.now.windows }
+    {
+        self.windows.lend()
     }
 }
 
@@ -147,13 +182,6 @@ fn fill(placed: &mut Vec<PlacedOutcome>, fates: &[Fate], slots: &[Slot]) -> Resu
         place(placed, fate, slot)?;
     }
     Ok(())
-}
-
-fn fate_at(fates: &[Fate], place: usize) -> Fate
-    requires { place < length fates.now }
-    ensures { slice_get fates.now place ≡ Some result }
-{
-    fates[place]
 }
 
 /// Takes what becomes of a row.
