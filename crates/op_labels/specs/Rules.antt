@@ -1,5 +1,5 @@
--- label_replace, label_join and a filter of rules, over steps, and such a filter over windows. (Prometheus querying, "Functions" and "Time series selectors": the
--- rules are those of the meaning.)
+-- label_replace, label_join and a filter of rules, over steps, and such a filter over windows. (Prometheus querying, "Functions" and
+-- "Time series selectors": the rules are those of the meaning.)
 use Rattle.std.specs.Prelude.{◌≡◌, ℕ, Bool, List, [], ◌∷◌, ◌++◌, map, slice_get, unwrap_or, Option, None, Some, Ok, Err, if◌then◌else◌, ⊤}
 use Rattle.std.specs.List.{filter_map}
 use Rattle.std.specs.Option.{option_map}
