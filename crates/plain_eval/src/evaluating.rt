@@ -71,6 +71,27 @@ pub fn at<W: Ledger>(
     given.into_step(alloc)
 }
 
+/// What an expression gives at an instant, in milliseconds, over the samples of a store: `at` tells its step, this call its windows
+/// too. `span` has the start and the end that `@ start()` and `@ end()` stand for. Samples are read by counted calls alone. The
+/// patterns stay as they are. The only error is want of memory. (Prometheus querying.)
+pub fn given<W: Ledger>(
+    alloc: Global,
+    e: &Expr,
+    s: &Store,
+    p: &mut Patterns,
+    t: Ms,
+    span: &Grid,
+    work: &mut Work<W>,
+) -> Result<Given, AllocError>
+    // what it needs at the instant is met, it is well typed, and the patterns of its label_replace calls are kept
+    requires ready { IsReady (asked_over s.now p.old span.now) e.now t.0 }
+    ensures meaning { IfOk result (λ given. given ≡ meaning (asked_over s.now p.old span.now) e.now t.0) }
+    ensures same { p.new ≡ p.old }
+{
+    let query = Query { store: s, span };
+    value_at(alloc, &query, e, p, t, work)
+}
+
 /// What a part of a typed tree gives at an instant.
 #[cycle(evaluation)]
 fn value_at<W: Ledger>(

@@ -12,7 +12,7 @@ mod operators;
 mod results;
 mod selecting;
 
-pub use evaluating::at;
+pub use evaluating::{at, given};
 pub use laws::{checked_patterns_are_kept, kept_patterns_stay};
 pub use results::{is_scalar, order_asked, range};
 pub use std::alloc::AllocError as Memory;
