@@ -82,12 +82,22 @@ fn cell_rows(alloc: Global, kind: &PartKind, at: Ms, rows: &[Row]) -> Result<Ite
 }
 
 /// The cells of a written step.
-pub fn cells(alloc: Global, kind: &PartKind, at: Ms, step: &Step) -> Result<StepCells, Fail> {
+fn cells(alloc: Global, kind: &PartKind, at: Ms, step: &Step) -> Result<StepCells, Fail> {
     Ok(StepCells {
         at,
         rows: cell_rows(alloc, kind, at, step.table.rows.as_slice())?,
         marks: step.marks.copy()?,
     })
+}
+
+/// The cells of written steps, in their order.
+pub fn all_cells(alloc: Global, kind: &PartKind, text: &str) -> Result<Items<StepCells>, Fail> {
+    let steps = steps(alloc, text)?;
+    let mut all = Items::new(alloc);
+    for (at, step) in steps.as_slice() {
+        all.push(cells(alloc, kind, *at, step)?)?;
+    }
+    Ok(all)
 }
 
 /// The steps that an engine has still to deliver, the next one last, in frames of up to so many; and whether its end was delivered.
@@ -101,10 +111,7 @@ pub struct Source {
 impl Source {
     /// The written steps of a kind.
     pub fn read(alloc: Global, kind: &PartKind, text: &str, size: u32) -> Result<Source, Fail> {
-        let mut left = Vec::new(alloc);
-        for (at, step) in steps(alloc, text)?.into_vec() {
-            left.push(cells(alloc, kind, at, &step)?)?;
-        }
+        let mut left = all_cells(alloc, kind, text)?.into_vec();
         left.reverse();
         Ok(Source {
             left,

@@ -4,7 +4,8 @@ use crate::gathers::{gather_of, has_room, take_ready};
 use op_gather::Gather;
 use std::alloc::Global;
 use std::test::Fail;
-use step_table::PartKind;
+use step_table::{PartKind, Step};
+use ticks::Ms;
 use written_steps::{line_that_differs, steps};
 
 // Each line is a kind of cells, the steps of three engines, and the steps that are joined.
@@ -68,47 +69,43 @@ fn pick(alloc: Global, gather: &mut Gather, sources: &mut [Source], c: char) -> 
     }
 }
 
-fn sources(
-    alloc: Global,
-    kind: &PartKind,
-    texts: &[&str],
-    sizes: &str,
-) -> Result<Vec<Source>, Fail> {
+fn sources(alloc: Global, kind: &PartKind, texts: &str, sizes: &str) -> Result<Vec<Source>, Fail> {
     let mut all = Vec::new(alloc);
-    let mut digits = sizes.chars();
-    for text in texts {
-        let digit = digits.next().ok_or("no size")?;
+    for (text, digit) in texts.split(" > ").zip(sizes.chars()) {
         let size = digit.to_digit(10).ok_or("no size")?;
         all.push(Source::read(alloc, kind, text, size)?)?;
     }
     Ok(all)
 }
 
-/// Whether the steps of a line are joined in an order as they are wanted, each as soon as it is ready.
-fn holds(alloc: Global, line: &str, order: &str) -> Result<bool, Fail> {
-    let mut words = line.split(" > ");
-    let kind = kind(alloc, words.next().ok_or("no kind")?)?;
-    let texts = [
-        words.next().ok_or("no engine")?,
-        words.next().ok_or("no engine")?,
-        words.next().ok_or("no engine")?,
-    ];
-    let wanted = steps(alloc, words.next().ok_or("nothing wanted")?)?;
-    let (sizes, picks) = order.split_once(' ').ok_or("no picks")?;
-    let mut sources = sources(alloc, &kind, &texts, sizes)?;
-    let mut gather = gather_of(alloc, 3, &kind)?;
+/// Whether the steps of sources are joined as they are wanted, each as soon as it is ready.
+fn are_joined(
+    alloc: Global,
+    kind: &PartKind,
+    sources: &mut [Source],
+    picks: &str,
+    wanted: &[(Ms, Step)],
+) -> Result<bool, Fail> {
+    let mut gather = gather_of(alloc, 3, kind)?;
     let mut taken = 0;
     for _ in 0..20 {
-        for c in picks.chars() {
-            pick(alloc, &mut gather, &mut sources, c)?;
-            taken = take_ready(&mut gather, &kind, wanted.as_slice(), taken)?;
-        }
-        for c in "012".chars() {
-            pick(alloc, &mut gather, &mut sources, c)?;
-            taken = take_ready(&mut gather, &kind, wanted.as_slice(), taken)?;
+        for c in picks.chars().chain("012".chars()) {
+            pick(alloc, &mut gather, sources, c)?;
+            taken = take_ready(&mut gather, kind, wanted, taken)?;
         }
     }
-    Ok(taken == wanted.as_slice().len() && gather.engines() == 3 && !gather.ready())
+    Ok(taken == wanted.len() && gather.engines() == 3 && !gather.ready())
+}
+
+/// Whether a line holds in an order.
+fn holds(alloc: Global, line: &str, order: &str) -> Result<bool, Fail> {
+    let (word, rest) = line.split_once(" > ").ok_or("no kind")?;
+    let (texts, wanted) = rest.rsplit_once(" > ").ok_or("nothing wanted")?;
+    let (sizes, picks) = order.split_once(' ').ok_or("no picks")?;
+    let kind = kind(alloc, word)?;
+    let wanted = steps(alloc, wanted)?;
+    let mut sources = sources(alloc, &kind, texts, sizes)?;
+    are_joined(alloc, &kind, &mut sources, picks, wanted.as_slice())
 }
 
 /// The first line that doesn't hold in an order.

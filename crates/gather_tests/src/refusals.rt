@@ -1,5 +1,5 @@
 //! What is refused of one engine's deliveries, each at its edge, and what is taken beside it.
-use crate::delivered::{cells, kind};
+use crate::delivered::{all_cells, kind};
 use crate::gathers::{gather_of, has_room, take_next};
 use op_gather::{Gather, GatherRefusal};
 use remote_api::Frame;
@@ -54,66 +54,96 @@ windows > windows 10 a:1 > taken
 windows > rows 10 a:1 > wrong 10
 windows > windows 10 a:1 | 20 a:1;b:1;a:1 > wrong 20";
 
-fn time(text: &mut String, alloc: Global, word: &str, at: Option<Ms>) -> Result<(), Fail> {
-    match at {
-        Some(at) => {
-            let at = at.0;
-            text.push_str(format!(in alloc; "{word} {at}")?.as_str())?;
-        }
-        None => text.push_str(format!(in alloc; "{word} none")?.as_str())?,
+/// A written instant, or `none`.
+fn time(word: &str) -> Result<Option<Ms>, Fail> {
+    if word == "none" {
+        return Ok(None);
     }
-    Ok(())
+    let at: i64 = word.parse()?;
+    Ok(Some(Ms(at)))
 }
 
-/// What came of a delivery, as a line writes it.
-fn written(alloc: Global, answer: Result<(), GatherRefusal>) -> Result<String, Fail> {
-    let mut text = String::new(alloc);
-    match answer {
-        Ok(()) => text.push_str("taken")?,
-        Err(GatherRefusal::OutOfStep { expected, got }) => {
-            time(&mut text, alloc, "expected", expected)?;
-            time(&mut text, alloc, " got", got)?;
-        }
-        Err(GatherRefusal::WrongCell { at }) => time(&mut text, alloc, "wrong", Some(at))?,
-        Err(GatherRefusal::Memory) => text.push_str("memory")?,
+fn out_of_step(times: &str) -> Result<GatherRefusal, Fail> {
+    let (expected, got) = times.split_once(" got ").ok_or("no such answer")?;
+    let (expected, got) = (time(expected)?, time(got)?);
+    Ok(GatherRefusal::OutOfStep { expected, got })
+}
+
+/// Whether an answer is the one that a line writes.
+fn is_written(answer: Result<(), GatherRefusal>, text: &str) -> Result<bool, Fail> {
+    match text.split_once(' ') {
+        Some(("expected", times)) => Ok(answer == Err(out_of_step(times)?)),
+        Some(("wrong", at)) => Ok(
+            answer
+                == Err(GatherRefusal::WrongCell {
+                    at: Ms(at.parse()?),
+                }),
+        ),
+        _ => Ok(text == "taken" && answer.is_ok()),
     }
-    Ok(text)
 }
 
 fn frame(alloc: Global, text: &str) -> Result<Frame, Fail> {
-    let mut frame = Frame::new(alloc);
     if text == "empty" {
-        return Ok(frame);
+        return Ok(Frame::new(alloc));
     }
     let (word, rest) = text.split_once(' ').ok_or("no kind")?;
-    let kind = kind(alloc, word)?;
-    for (at, step) in steps(alloc, rest)?.into_vec() {
-        frame.steps.push(cells(alloc, &kind, at, &step)?)?;
-    }
-    Ok(frame)
+    let steps = all_cells(alloc, &kind(alloc, word)?, rest)?;
+    Ok(Frame { steps })
 }
 
-fn deliver(alloc: Global, gather: &mut Gather, text: &str) -> Result<String, Fail> {
+/// What comes of a delivery of the first engine, which has room.
+fn delivered(
+    alloc: Global,
+    gather: &mut Gather,
+    text: &str,
+) -> Result<Result<(), GatherRefusal>, Fail> {
     if !has_room(gather, 0) {
         return Err("no room")?;
     }
     if text == "end" {
-        return written(alloc, gather.finish(0));
+        return Ok(gather.finish(0));
     }
-    written(alloc, gather.feed(0, frame(alloc, text)?))
+    Ok(gather.feed(0, frame(alloc, text)?))
 }
 
-/// Whether the last delivery of a line is answered as it says, and a refusal leaves the gather spent.
-fn holds(alloc: Global, line: &str) -> Result<bool, Fail> {
-    let (front, wanted) = line.rsplit_once(" > ").ok_or("no answer")?;
-    let mut words = front.split(" > ");
-    let kind = kind(alloc, words.next().ok_or("no kind")?)?;
-    let mut gather = gather_of(alloc, 3, &kind)?;
-    let mut answer = String::new(alloc);
-    for text in words {
-        answer = deliver(alloc, &mut gather, text)?;
+/// Whether a delivery is taken, or else what a word says holds.
+fn is_so(alloc: Global, gather: &mut Gather, word: &str) -> Result<bool, Fail> {
+    match word {
+        "take" => take_next(gather),
+        "room" => Ok(has_room(gather, 0)),
+        "full" => Ok(!has_room(gather, 0)),
+        "room beside" => Ok(has_room(gather, 1)),
+        "ready" => Ok(gather.ready()),
+        "waiting" => Ok(!gather.ready()),
+        _ => Ok(delivered(alloc, gather, word)?.is_ok()),
     }
-    Ok(answer.as_str() == wanted && gather.is_spent() == (wanted != "taken"))
+}
+
+fn are_so(alloc: Global, gather: &mut Gather, words: &str) -> Result<bool, Fail> {
+    for word in words.split(" > ") {
+        if !is_so(alloc, gather, word)? {
+            return Ok(false);
+        }
+    }
+    Ok(true)
+}
+
+/// Whether the last delivery is answered as it says behind what holds before it, and a refusal leaves the gather spent.
+fn is_answered(alloc: Global, gather: &mut Gather, words: &str) -> Result<bool, Fail> {
+    let (text, wanted) = words.rsplit_once(" > ").ok_or("no answer")?;
+    let (front, last) = text.rsplit_once(" > ").unwrap_or(("room", text));
+    if !are_so(alloc, gather, front)? {
+        return Ok(false);
+    }
+    let answer = delivered(alloc, gather, last)?;
+    Ok(is_written(answer, wanted)? && gather.is_spent() == answer.is_err())
+}
+
+fn holds(alloc: Global, line: &str) -> Result<bool, Fail> {
+    let (word, words) = line.split_once(" > ").ok_or("no kind")?;
+    let mut gather = gather_of(alloc, 3, &kind(alloc, word)?)?;
+    is_answered(alloc, &mut gather, words)
 }
 
 #[test]
@@ -124,34 +154,23 @@ fn each_refusal_comes_at_its_edge(rt: HostRuntime) -> Result<(), Fail> {
     Ok(())
 }
 
-#[test]
-fn four_frames_of_an_engine_are_kept(rt: HostRuntime) -> Result<(), Fail> {
-    let alloc = rt.alloc();
-    let mut gather = gather_of(alloc, 3, &kind(alloc, "rows")?)?;
-    for text in ["rows 10 a:1", "rows 20 a:1", "rows 30 a:1", "rows 40 a:1"] {
-        assert_eq!(rt; deliver(alloc, &mut gather, text)?.as_str(), "taken");
-    }
-    assert!(rt; !has_room(&gather, 0));
-    assert!(rt; has_room(&gather, 1));
-    assert!(rt; !gather.ready());
-    Ok(())
+// Each line is how many engines are asked for rows, and then deliveries of the first one, which are taken, and what holds behind
+// them: whether it has room or is full, and whether a step is ready, which `take` takes.
+const ROOMS: &str =
+    "3 > rows 10 a:1 > rows 20 a:1 > rows 30 a:1 > rows 40 a:1 > full > room beside > waiting
+1 > rows 10 - | 20 - > rows 30 - > rows 40 - > rows 50 - > full > take > full > take > room > end > full > ready";
+
+fn keeps(alloc: Global, line: &str) -> Result<bool, Fail> {
+    let (engines, words) = line.split_once(" > ").ok_or("no engines")?;
+    let mut gather = gather_of(alloc, engines.parse()?, &kind(alloc, "rows")?)?;
+    are_so(alloc, &mut gather, words)
 }
 
 #[test]
-fn a_frame_is_kept_until_its_last_step_is_taken(rt: HostRuntime) -> Result<(), Fail> {
+fn four_frames_are_kept_each_until_its_last_step_is_taken(rt: HostRuntime) -> Result<(), Fail> {
     let alloc = rt.alloc();
-    let mut gather = gather_of(alloc, 1, &kind(alloc, "rows")?)?;
-    for text in ["rows 10 - | 20 -", "rows 30 -", "rows 40 -", "rows 50 -"] {
-        assert_eq!(rt; deliver(alloc, &mut gather, text)?.as_str(), "taken");
-    }
-    assert!(rt; !has_room(&gather, 0));
-    take_next(&mut gather)?;
-    assert!(rt; !has_room(&gather, 0));
-    take_next(&mut gather)?;
-    assert!(rt; has_room(&gather, 0));
-    assert_eq!(rt; deliver(alloc, &mut gather, "end")?.as_str(), "taken");
-    assert!(rt; !has_room(&gather, 0));
-    assert!(rt; gather.ready());
+    let line = line_that_differs(ROOMS, |line| keeps(alloc, line))?;
+    assert_eq!(rt; line, "none");
     Ok(())
 }
 
@@ -163,18 +182,18 @@ sum 30 a:3 > wrong 30
 empty > expected 30 got none
 end > expected 30 got none";
 
+/// Whether the step at 10 is lent.
+fn is_lent(alloc: Global, gather: &Gather) -> Result<bool, Fail> {
+    Ok(are_lent(&gather.lend(), steps(alloc, "10 a:1")?.as_slice()))
+}
+
 /// Whether a refusal leaves the gather spent, with the step that was lent and what was kept, and nothing of the refused frame.
 fn is_left(alloc: Global, line: &str) -> Result<bool, Fail> {
-    let (text, refusal) = line.split_once(" > ").ok_or("no answer")?;
-    let rows = kind(alloc, "rows")?;
-    let mut gather = gather_of(alloc, 1, &rows)?;
-    deliver(alloc, &mut gather, "rows 10 a:1 | 20 a:2")?;
-    take_next(&mut gather)?;
-    if deliver(alloc, &mut gather, text)?.as_str() != refusal {
-        return Ok(false);
-    }
-    let is_same = are_lent(&gather.lend(), steps(alloc, "10 a:1")?.as_slice());
-    Ok(is_same && gather.is_spent() && gather.ready() && gather.engines() == 1)
+    let mut gather = gather_of(alloc, 1, &kind(alloc, "rows")?)?;
+    let is_kept = are_so(alloc, &mut gather, "rows 10 a:1 | 20 a:2 > take")?;
+    let is_refused = is_answered(alloc, &mut gather, line)?;
+    let is_left = gather.is_spent() && gather.ready() && gather.engines() == 1;
+    Ok(is_kept && is_refused && is_left && is_lent(alloc, &gather)?)
 }
 
 #[test]

@@ -1,14 +1,13 @@
-ghost use Rattle.std.specs.Prelude.{◌≡◌, length, IsTrue};
-
-use crate::batches::{are_lent, buffer_of, front, steps};
 use func_table::{CalendarPart, Element};
 use op_element::{ElementRows, ElementRule, is_scalar};
 use std::alloc::Global;
 use std::test::Fail;
-use step_batch::StepBuffer;
+use step_batch::{Batch, StepBuffer};
 use step_table::Step;
 use ticks::Ms;
-use xfrac::{ArithOp, CompareOp, PairOp};
+use written_steps::{
+    Case, Feed, are_lent, blank_of, buffer_of, has_same_steps, line_that_differs, operator,
+};
 
 // Each line is a rule, steps that are fed, steps of its first and of its second scalar, `same` where it takes none, and steps that
 // are lent. An operator stands behind `v` where the scalar is on its right, and behind `s` where it is on its left.
@@ -68,41 +67,6 @@ fn function(word: &str) -> Option<Element> {
     }
 }
 
-fn arithmetic(word: &str) -> Option<ArithOp> {
-    match word {
-        "+" => Some(ArithOp::Add),
-        "-" => Some(ArithOp::Sub),
-        "*" => Some(ArithOp::Mul),
-        "/" => Some(ArithOp::Div),
-        "%" => Some(ArithOp::Rem),
-        "^" => Some(ArithOp::Pow),
-        _ => None,
-    }
-}
-
-fn comparison(word: &str) -> Option<CompareOp> {
-    match word {
-        "==" => Some(CompareOp::Eq),
-        "!=" => Some(CompareOp::Ne),
-        "<" => Some(CompareOp::Lt),
-        "<=" => Some(CompareOp::Le),
-        ">" => Some(CompareOp::Gt),
-        ">=" => Some(CompareOp::Ge),
-        _ => None,
-    }
-}
-
-fn operator(word: &str) -> Result<PairOp, Fail> {
-    if let Some(op) = arithmetic(word) {
-        return Ok(PairOp::Arith(op));
-    }
-    if let Some(op) = comparison(word) {
-        return Ok(PairOp::Filter(op));
-    }
-    let flag = word.strip_suffix("bool").ok_or("no such rule")?;
-    Ok(PairOp::Flag(comparison(flag).ok_or("no such comparison")?))
-}
-
 fn rule(word: &str) -> Result<ElementRule, Fail> {
     if let Some(f) = function(word) {
         return Ok(ElementRule::Apply(f));
@@ -112,130 +76,61 @@ fn rule(word: &str) -> Result<ElementRule, Fail> {
     Ok(ElementRule::WithScalar { op, scalar_left })
 }
 
-/// Whether two buffers have as many steps.
-fn has_same_steps(a: &StepBuffer, b: &StepBuffer) -> bool
-    ensures { IsTrue result → length b.now.steps ≡ length a.now.steps }
-{
-    a.lend().len() == b.lend().len()
-}
-
 /// Feeds steps with their scalars, and answers whether what is lent are the wanted ones.
-fn is_made(
+fn is_lent(
     kernel: &mut ElementRows,
-    rows: &StepBuffer,
-    first: &StepBuffer,
-    second: &StepBuffer,
+    rows: &Batch<'_>,
+    first: &Batch<'_>,
+    second: &Batch<'_>,
     wanted: &[(Ms, Step)],
 ) -> Result<bool, Fail> {
     if !has_same_steps(rows, first) || !has_same_steps(rows, second) {
         return Err("steps without scalars")?;
     }
-    if !is_scalar(&first.lend()) || !is_scalar(&second.lend()) {
+    if !is_scalar(first) || !is_scalar(second) {
         return Err("scalars of several rows")?;
     }
-    kernel.feed(&rows.lend(), &first.lend(), &second.lend())?;
+    kernel.feed(rows, first, second)?;
     Ok(are_lent(&kernel.lend(), wanted))
-}
-
-/// Steps without rows at the instants of others.
-fn blank(alloc: Global, steps: &[(Ms, Step)]) -> Result<StepBuffer, Fail> {
-    let mut buffer = StepBuffer::new(alloc);
-    for (at, _) in steps {
-        if !buffer.is_later(*at) {
-            return Err("instants that do not rise")?;
-        }
-        buffer.begin(*at)?;
-    }
-    Ok(buffer)
 }
 
 /// The steps of a scalar beside those of rows; where none is taken they have no rows.
 fn scalar(alloc: Global, steps: &[(Ms, Step)], rows: &[(Ms, Step)]) -> Result<StepBuffer, Fail> {
     if steps.is_empty() {
-        blank(alloc, rows)
+        blank_of(alloc, rows)
     } else {
         buffer_of(alloc, steps)
     }
 }
 
-/// Feeds steps, and answers whether what is lent are the wanted ones.
-fn is_fed(
-    alloc: Global,
-    kernel: &mut ElementRows,
-    rows: &[(Ms, Step)],
-    first: &[(Ms, Step)],
-    second: &[(Ms, Step)],
-    wanted: &[(Ms, Step)],
-) -> Result<bool, Fail> {
-    let first = scalar(alloc, first, rows)?;
-    let second = scalar(alloc, second, rows)?;
-    is_made(kernel, &buffer_of(alloc, rows)?, &first, &second, wanted)
-}
-
-/// Feeds so many steps at once, three times.
-fn are_fed(
-    alloc: Global,
-    kernel: &mut ElementRows,
-    size: usize,
-    rows: &[(Ms, Step)],
-    first: &[(Ms, Step)],
-    second: &[(Ms, Step)],
-    wanted: &[(Ms, Step)],
-) -> Result<bool, Fail> {
-    let (mut rows, mut first, mut second, mut wanted) = (rows, first, second, wanted);
-    for _ in 0..3 {
-        let (r, more_rows) = front(rows, size);
-        let (f, more_first) = front(first, size);
-        let (s, more_second) = front(second, size);
-        let (w, more_wanted) = front(wanted, size);
-        if !is_fed(alloc, kernel, r, f, s, w)? {
-            return Ok(false);
-        }
-        rows = more_rows;
-        first = more_first;
-        second = more_second;
-        wanted = more_wanted;
-    }
-    Ok(rows.is_empty() && wanted.is_empty())
+fn is_made(alloc: Global, kernel: &mut ElementRows, feed: &Feed<'_>) -> Result<bool, Fail> {
+    let rows = buffer_of(alloc, feed.rows)?;
+    let first = scalar(alloc, feed.first, feed.rows)?;
+    let second = scalar(alloc, feed.second, feed.rows)?;
+    let (first, second) = (first.lend(), second.lend());
+    is_lent(kernel, &rows.lend(), &first, &second, feed.wanted)
 }
 
 fn holds(alloc: Global, size: usize, line: &str) -> Result<bool, Fail> {
-    let mut words = line.split(" > ");
-    let word = words.next().ok_or("no rule")?;
-    let rows = steps(alloc, words.next().ok_or("no steps")?)?;
-    let first = steps(alloc, words.next().ok_or("no first scalar")?)?;
-    let second = steps(alloc, words.next().ok_or("no second scalar")?)?;
-    let wanted = steps(alloc, words.next().ok_or("no lent steps")?)?;
+    let (word, text) = line.split_once(" > ").ok_or("no rule")?;
+    let case = Case::read(alloc, text)?;
     let mut kernel = ElementRows::new(alloc, rule(word)?)?;
-    are_fed(
-        alloc,
-        &mut kernel,
-        size,
-        rows.as_slice(),
-        first.as_slice(),
-        second.as_slice(),
-        wanted.as_slice(),
-    )
+    case.holds(size, |feed| is_made(alloc, &mut kernel, feed))
 }
 
 /// The first line that doesn't hold in batches of so many steps.
-fn line_that_differs(alloc: Global, size: usize) -> Result<&'static str, Fail> {
-    for line in LINES.split('\n') {
-        if !holds(alloc, size, line)? {
-            return Ok(line);
-        }
-    }
-    Ok("none")
+fn differing(alloc: Global, size: usize) -> Result<&'static str, Fail> {
+    line_that_differs(LINES, |line| holds(alloc, size, line))
 }
 
 #[test]
 fn element_kernels_make_steps_in_turn(rt: HostRuntime) -> Result<(), Fail> {
-    assert_eq!(rt; line_that_differs(rt.alloc(), 1)?, "none");
+    assert_eq!(rt; differing(rt.alloc(), 1)?, "none");
     Ok(())
 }
 
 #[test]
 fn element_kernels_make_three_steps_at_once(rt: HostRuntime) -> Result<(), Fail> {
-    assert_eq!(rt; line_that_differs(rt.alloc(), 3)?, "none");
+    assert_eq!(rt; differing(rt.alloc(), 3)?, "none");
     Ok(())
 }

@@ -2,12 +2,8 @@
 #![tactic(auto)]
 
 #[cfg(test)]
-mod batches;
-#[cfg(test)]
 mod conditions;
 #[cfg(test)]
 mod elements;
 #[cfg(test)]
 mod small;
-#[cfg(test)]
-mod written;

@@ -1,15 +1,14 @@
 ghost use Rattle.std.specs.Prelude.{IsTrue};
 ghost use Rattle.step_batch.specs.LentWindows.{TimesRise};
 
-use crate::batches::{are_lent, buffer_of, front, steps};
 use crate::conditions::rise;
-use crate::written::{labels, value};
 use label_set::Items;
 use op_small::{Small, SmallRule};
 use std::alloc::Global;
 use std::test::Fail;
 use step_table::Step;
 use ticks::Ms;
+use written_steps::{are_lent, buffer_of, labels, line_that_differs, parted, steps, value};
 
 // Each line is a rule, steps that are fed, and steps that are lent. A row is its metric's name and its labels, and a value behind
 // a colon; `-` is no row. A mark is the letter of its kind and its labels, behind `!`.
@@ -88,8 +87,8 @@ fn are_fed(
 ) -> Result<bool, Fail> {
     let (mut fed, mut wanted) = (fed, wanted);
     for _ in 0..3 {
-        let (some, more_fed) = front(fed, size);
-        let (made, more_wanted) = front(wanted, size);
+        let (some, more_fed) = parted(fed, size);
+        let (made, more_wanted) = parted(wanted, size);
         if !is_fed(alloc, kernel, some, made)? {
             return Ok(false);
         }
@@ -109,23 +108,18 @@ fn holds(alloc: Global, size: usize, line: &str) -> Result<bool, Fail> {
 }
 
 /// The first line that doesn't hold in batches of so many steps.
-fn line_that_differs(alloc: Global, size: usize) -> Result<&'static str, Fail> {
-    for line in LINES.split('\n') {
-        if !holds(alloc, size, line)? {
-            return Ok(line);
-        }
-    }
-    Ok("none")
+fn differing(alloc: Global, size: usize) -> Result<&'static str, Fail> {
+    line_that_differs(LINES, |line| holds(alloc, size, line))
 }
 
 #[test]
 fn small_kernels_make_steps_in_turn(rt: HostRuntime) -> Result<(), Fail> {
-    assert_eq!(rt; line_that_differs(rt.alloc(), 1)?, "none");
+    assert_eq!(rt; differing(rt.alloc(), 1)?, "none");
     Ok(())
 }
 
 #[test]
 fn small_kernels_make_three_steps_at_once(rt: HostRuntime) -> Result<(), Fail> {
-    assert_eq!(rt; line_that_differs(rt.alloc(), 3)?, "none");
+    assert_eq!(rt; differing(rt.alloc(), 3)?, "none");
     Ok(())
 }

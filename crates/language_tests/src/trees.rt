@@ -43,17 +43,13 @@ fn unknown(alloc: Global) -> Result<QueryRefusal, Fail> {
     Ok(QueryRefusal::UnknownFunction(4, Text::of(alloc, "foo")?))
 }
 
-fn is_refusal_copied(alloc: Global) -> Result<bool, Fail> {
+fn is_told(alloc: Global) -> Result<bool, Fail> {
     let refusal = unknown(alloc)?;
-    Ok(refusal.copy()? == refusal)
+    Ok(refusal.place() == 4 && refusal.number() == 12 && refusal.copy()? == refusal)
 }
 
 #[test]
 fn refusals_have_places(rt: HostRuntime) -> Result<(), Fail> {
-    let alloc = rt.alloc();
-    assert_eq!(rt; unknown(alloc)?.place(), 4);
-    assert_eq!(rt; unknown(alloc)?.number(), 12);
-    assert!(rt; is_refusal_copied(alloc)?);
-    assert_eq!(rt; QueryRefusal::TooManyPoints(9).number(), 27);
+    assert!(rt; is_told(rt.alloc())? && QueryRefusal::TooManyPoints(9).number() == 27);
     Ok(())
 }

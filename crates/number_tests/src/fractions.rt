@@ -27,6 +27,11 @@ pub fn field(row: &str, place: usize) -> Result<&str, Fail> {
     Ok(row.split(' ').nth(place).ok_or("a row without a field")?)
 }
 
+/// The number in a field of a row.
+pub fn number(row: &str, place: usize) -> Result<XFrac, Fail> {
+    read(field(row, place)?)
+}
+
 /// Fails, with the row, at the first row that doesn't hold, or where there are more or fewer rows than `count`.
 pub fn rows_hold<F: Fn(&str) -> Result<bool, Fail>>(
     rows: &str,

@@ -1,7 +1,7 @@
 //! Rows whose answers were worked out by exact arithmetic elsewhere.
 ghost use Rattle.std.specs.Prelude.{◌≡◌};
 
-use crate::fractions::{field, read, rows_hold};
+use crate::fractions::{field, number, read, rows_hold};
 use func_table::{Element, Found, Func, find};
 use std::test::Fail;
 use value_fn::element;
@@ -162,9 +162,7 @@ fn answer(text: &str) -> Result<Result<Option<XFrac>, NumFault>, Fail> {
 
 fn call_holds(row: &str) -> Result<bool, Fail> {
     let f = function(field(row, 0)?)?;
-    let v = read(field(row, 1)?)?;
-    let first = read(field(row, 2)?)?;
-    let second = read(field(row, 3)?)?;
+    let (v, first, second) = (number(row, 1)?, number(row, 2)?, number(row, 3)?);
     Ok(element(f, &v, &first, &second) == answer(field(row, 4)?)?)
 }
 

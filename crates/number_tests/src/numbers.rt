@@ -1,35 +1,13 @@
 //! Rows whose answers were worked out by hand or by exact arithmetic elsewhere.
 ghost use Rattle.std.specs.Prelude.{◌≡◌};
 
-use crate::fractions::{field, read, rows_hold};
+use crate::fractions::{field, number, read, rows_hold};
 use std::cmp::Ordering;
 use std::test::Fail;
 use xfrac::{
     ArithOp, CompareOp, Held, LIMIT, NumFault, SumAcc, XFrac, abs, arith, ceil, cmp_total, compare,
     floor, near, neg, of, parts, whole, whole_count,
 };
-
-const TOP: i128 = 1_000_000_000_000_000_000_000_000_000_000;
-
-const BELOW_TOP: i128 = 999_999_999_999_999_999_999_999_999_999;
-
-const ABOVE_TOP: i128 = 1_000_000_000_000_000_000_000_000_000_001;
-
-const HALF: i128 = 500_000_000_000_000_000_000_000_000_000;
-
-/// The fraction n/d; over 0 an infinity, or NaN.
-fn value(pair: (i128, i128)) -> XFrac {
-    let (n, d) = pair;
-    if d > 0 {
-        of(n, d).unwrap_or(XFrac::NaN)
-    } else if n > 0 {
-        XFrac::PosInf
-    } else if n < 0 {
-        XFrac::NegInf
-    } else {
-        XFrac::NaN
-    }
-}
 
 /// An operation a line: the operator, its operands and its answer.
 const OPERATIONS: &str = "+ 1/2 1/3 5/6
@@ -141,8 +119,7 @@ fn answer(text: &str) -> Result<Result<XFrac, NumFault>, Fail> {
 
 fn operation_holds(row: &str) -> Result<bool, Fail> {
     let op = operator(field(row, 0)?);
-    let a = read(field(row, 1)?)?;
-    let b = read(field(row, 2)?)?;
+    let (a, b) = (number(row, 1)?, number(row, 2)?);
     Ok(arith(op, &a, &b) == answer(field(row, 3)?)?)
 }
 
@@ -151,27 +128,58 @@ fn operators(_rt: HostRuntime) -> Result<(), Fail> {
     rows_hold(OPERATIONS, 87, operation_holds)
 }
 
+/// A numerator, a denominator and the fraction that they form, in its lowest terms.
+const FORMED: &str = "1000000000000000000000000000000 1 1000000000000000000000000000000/1
+1000000000000000000000000000001 1 overflow
+-1000000000000000000000000000001 1 overflow
+1 1000000000000000000000000000000 1/1000000000000000000000000000000
+1 1000000000000000000000000000001 overflow
+-170141183460469231731687303715884105728 170141183460469231731687303715884105727 overflow
+2000000000000000000000000000000 4000000000000000000000000000000 1/2
+0 170141183460469231731687303715884105727 0/1
+-6 4 -3/2";
+
+/// A count a line, and the number that it is.
+const COUNTS: &str = "0 0/1
+1000000000000000000000000000000 1000000000000000000000000000000/1
+79228162514264337593543950336 79228162514264337593543950336/1";
+
+fn has_parts(value: &XFrac, text: &str) -> Result<bool, Fail> {
+    let (n, d) = text.split_once('/').ok_or("no fraction")?;
+    let (n, d): (i128, i128) = (n.parse()?, d.parse()?);
+    match value {
+        XFrac::Fin(f) => Ok(parts(f) == (n, d)),
+        _ => Ok(false),
+    }
+}
+
+fn forming_holds(row: &str) -> Result<bool, Fail> {
+    let n: i128 = field(row, 0)?.parse()?;
+    let d: i128 = field(row, 1)?.parse()?;
+    if d <= 0 {
+        return Err("no denominator")?;
+    }
+    match of(n, d) {
+        Ok(value) => has_parts(&value, field(row, 2)?),
+        Err(fault) => Ok(answer(field(row, 2)?)? == Err(fault)),
+    }
+}
+
+fn count_holds(row: &str) -> Result<bool, Fail> {
+    let count: u128 = field(row, 0)?.parse()?;
+    if count > LIMIT {
+        return Err("a count outside the limits")?;
+    }
+    has_parts(&whole_count(count), field(row, 1)?)
+}
+
 #[test]
 fn forming(rt: HostRuntime) -> Result<(), Fail> {
-    assert_eq!(rt; LIMIT, 1_000_000_000_000_000_000_000_000_000_000);
-    assert_eq!(rt; of(TOP, 1)?, value((TOP, 1)));
-    assert_eq!(rt; of(ABOVE_TOP, 1), Err(NumFault::Overflow));
-    assert_eq!(rt; of(-ABOVE_TOP, 1), Err(NumFault::Overflow));
-    assert_eq!(rt; of(1, TOP)?, value((1, TOP)));
-    assert_eq!(rt; of(1, ABOVE_TOP), Err(NumFault::Overflow));
-    assert_eq!(rt; of(i128::MIN, i128::MAX), Err(NumFault::Overflow));
-    assert_eq!(rt; of(2 * TOP, 4 * TOP)?, value((1, 2)));
-    assert_eq!(rt; of(0, i128::MAX)?, whole(0));
-    assert_eq!(rt; whole_count(0), whole(0));
-    assert_eq!(rt; whole_count(LIMIT), value((TOP, 1)));
-    let most = 79_228_162_514_264_337_593_543_950_336;
-    assert_eq!(rt; whole_count(most), of(most as i128, 1)?);
-    match of(-6, 4)? {
-        XFrac::Fin(f) => assert_eq!(rt; parts(&f), (-3, 2)),
-        other => assert_eq!(rt; other, XFrac::NaN, "a fraction"),
-    }
-    assert_ne!(rt; Held::Value(whole(0)), Held::Stale);
-    Ok(())
+    let is_limit = LIMIT == 1_000_000_000_000_000_000_000_000_000_000;
+    let zero = whole(0);
+    assert!(rt; is_limit && whole_count(0) == zero && Held::Value(zero) != Held::Stale);
+    rows_hold(COUNTS, 3, count_holds)?;
+    rows_hold(FORMED, 9, forming_holds)
 }
 
 /// A number a line, and what neg, abs, floor and ceil give.
@@ -225,15 +233,14 @@ const RISING: &str = "-inf
 inf";
 
 fn rounding_holds(row: &str) -> Result<bool, Fail> {
-    let a = read(field(row, 0)?)?;
-    let negated = neg(&a) == read(field(row, 1)?)? && abs(&a) == read(field(row, 2)?)?;
-    let rounded = floor(&a) == read(field(row, 3)?)? && ceil(&a) == read(field(row, 4)?)?;
+    let a = number(row, 0)?;
+    let negated = neg(&a) == number(row, 1)? && abs(&a) == number(row, 2)?;
+    let rounded = floor(&a) == number(row, 3)? && ceil(&a) == number(row, 4)?;
     Ok(negated && rounded)
 }
 
 fn nearness_holds(row: &str) -> Result<bool, Fail> {
-    let a = read(field(row, 0)?)?;
-    let b = read(field(row, 1)?)?;
+    let (a, b) = (number(row, 0)?, number(row, 1)?);
     let is_near = field(row, 2)? == "near";
     Ok(near(&a, &b) == is_near && near(&b, &a) == is_near)
 }
@@ -285,52 +292,76 @@ fn order(rt: HostRuntime) -> Result<(), Fail> {
     Ok(())
 }
 
+/// Numbers that are added to a sum in turn, and then its value, how many they are, and their mean. Behind `+` stand the numbers of a
+/// sum that is merged, and behind `!` what is refused, which leaves the sum as it was.
+const SUMS: &str = "+ => 0/1 0 none
+1/2 1/3 => 5/6 2 5/12
+1/2 1/3 -5/6 + => 0/1 3 0/1
+500000000000000000000000000000/1 -500000000000000000000000000000/1 !1/1 !+1/2,1/3,-5/6 => 0/1 2 0/1
+500000000000000000000000000000/1 -500000000000000000000000000000/1 -inf !1/2 => -inf 3 -inf
+500000000000000000000000000000/1 -500000000000000000000000000000/1 -inf inf => nan 4 nan
+1/1000000000000000000000000000000 !1/999999999999999999999999999999 0/1 => 1/1000000000000000000000000000000 2 overflow";
+
+/// Adds a number to a sum of few, and answers whether it's taken.
+fn is_added(sum: &mut SumAcc, word: &str) -> Result<bool, Fail> {
+    let number = read(word)?;
+    Ok(sum.count() < 10 && sum.add(&number).is_ok())
+}
+
+fn sum_of(words: &str) -> Result<SumAcc, Fail> {
+    let mut sum = SumAcc::new();
+    for word in words.split(',') {
+        if word != "" && !is_added(&mut sum, word)? {
+            return Err("no sum")?;
+        }
+    }
+    Ok(sum)
+}
+
+fn is_taken(sum: &mut SumAcc, word: &str) -> Result<bool, Fail> {
+    let Some(words) = word.strip_prefix('+') else {
+        return is_added(sum, word);
+    };
+    let other = sum_of(words)?;
+    Ok(sum.count() < 10 && other.count() < 10 && sum.merge(&other).is_ok())
+}
+
+/// Whether a word is taken, or refused as it says.
+fn is_put(sum: &mut SumAcc, word: &str) -> Result<bool, Fail> {
+    let before = *sum;
+    match word.strip_prefix('!') {
+        None => is_taken(sum, word),
+        Some(refused) => Ok(!is_taken(sum, refused)? && *sum == before),
+    }
+}
+
+fn has_mean(sum: &SumAcc, wanted: &str) -> Result<bool, Fail> {
+    if sum.count() == 0 {
+        return Ok(wanted == "none");
+    }
+    match sum.mean() {
+        Ok(mean) => Ok(answer(wanted)? == Ok(mean)),
+        Err(_) => Ok(wanted == "overflow"),
+    }
+}
+
+fn sum_holds(row: &str) -> Result<bool, Fail> {
+    let (words, wanted) = row.split_once(" => ").ok_or("no sum")?;
+    let mut sum = SumAcc::new();
+    for word in words.split(' ') {
+        if !is_put(&mut sum, word)? {
+            return Ok(false);
+        }
+    }
+    let (value, count) = (number(wanted, 0)?, field(wanted, 1)?.parse::<u128>()?);
+    Ok(sum.value() == value && sum.count() == count && has_mean(&sum, field(wanted, 2)?)?)
+}
+
 #[test]
 fn sums(rt: HostRuntime) -> Result<(), Fail> {
-    let mut sum = SumAcc::new();
-    assert_eq!(rt; sum.value(), whole(0));
-    sum.add(&value((1, 2)))?;
-    sum.add(&value((1, 3)))?;
-    assert_eq!(rt; sum.mean()?, value((5, 12)));
-    sum.add(&value((-5, 6)))?;
-    assert_eq!(rt; (sum.value(), sum.count()), (whole(0), 3));
+    let sum = sum_of("1/2,1/3,-5/6")?;
     let told = format!(in rt.alloc(); "{sum:?}")?;
     let totals = "SumAcc { multiple: 6, above: 5, below: 5, ";
     assert!(rt; told.starts_with(totals), "multiple 6 and magnitude 10");
-
-    let mut large = SumAcc::new();
-    large.add(&value((HALF, 1)))?;
-    large.add(&value((-HALF, 1)))?;
-    assert_eq!(rt; large.value(), whole(0));
-    let before = large;
-    assert!(rt; large.add(&whole(1)).is_err(), "by magnitude");
-    assert!(rt; large.merge(&sum).is_err(), "by magnitude");
-    assert_eq!(rt; large, before);
-    let mut infinite = before;
-    infinite.add(&XFrac::NegInf)?;
-    assert_eq!(rt; infinite.value(), XFrac::NegInf);
-    let mut refused = infinite;
-    assert!(rt;
-        refused.add(&value((1, 2))).is_err(),
-        "whatever infinities are there"
-    );
-    infinite.add(&XFrac::PosInf)?;
-    assert_eq!(rt;
-        (infinite.value(), infinite.mean()?),
-        (XFrac::NaN, XFrac::NaN)
-    );
-
-    let mut fine = SumAcc::new();
-    fine.add(&value((1, TOP)))?;
-    let mut refused = fine;
-    assert!(rt;
-        refused.add(&value((1, BELOW_TOP))).is_err(),
-        "by the common denominator"
-    );
-    assert_eq!(rt; refused, fine);
-    fine.add(&whole(0))?;
-    assert!(rt; fine.mean().is_err(), "half of 1/10^30");
-    sum.merge(&SumAcc::new())?;
-    assert_eq!(rt; sum.count(), 3);
-    Ok(())
+    rows_hold(SUMS, 7, sum_holds)
 }

@@ -4,7 +4,7 @@ ghost use Rattle.std.specs.List.{All};
 ghost use Rattle.ticks.specs.Walks.{IsTime};
 ghost use Rattle.window_fn.specs.Windows.{IsFrame, IsInFrame};
 
-use crate::fractions::{field, read, rows_hold};
+use crate::fractions::{field, number, read, rows_hold};
 use func_table::{Found, Func, Window, find};
 use std::alloc::Global;
 use std::test::Fail;
@@ -341,7 +341,7 @@ fn call_holds(alloc: Global, row: &str) -> Result<bool, Fail> {
     let (call, wanted) = row.split_once(" => ").ok_or("no answer")?;
     let f = function(field(call, 0)?)?;
     let frame = frame_of(call)?;
-    let arg = read(field(call, 4)?)?;
+    let arg = number(call, 4)?;
     let times = times_of(alloc, call)?;
     let values = values_of(alloc, call)?;
     let found = answered(alloc, f, times.as_slice(), values.as_slice(), &frame, &arg)?;

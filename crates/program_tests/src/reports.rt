@@ -1,11 +1,11 @@
 ghost use Rattle.std.specs.Prelude.{◌≡◌, None, Some};
 
+use crate::rows::rows_hold;
 use edge_io::{Fetch, Fetched, Library, MemLibrary, MemSink, Sink, SinkFail};
 use holders::{Items, Text};
 use promql_tool::{Status, choices_leave_reports, run_tool};
 use std::alloc::{AllocError, Global};
 use std::marker::Brand;
-use std::process::Abort;
 use std::sync::ledger::{Blank, Ledger};
 use std::test::Fail;
 use ticks::Work;
@@ -455,25 +455,14 @@ fn status_of(report: &[u8]) -> u32 {
 }
 
 /// Whether a row's script has its report.
-fn row_reports_so(alloc: Global, told: &str, script: &str) -> Result<bool, AllocError> {
+fn row_reports_so(alloc: Global, row: &str) -> Result<bool, Fail> {
+    let (told, script) = row.split_once('|').ok_or("no script")?;
     let mut text = Vec::new(alloc);
     push_script(&mut text, script)?;
     let mut report = Vec::new(alloc);
     push_lines(&mut report, told, b';')?;
     report.push(b'\n')?;
-    reports_so(alloc, &text, status_of(&report), &report)
-}
-
-/// Runs each row of a table, and answers how many there are.
-fn run_rows(rt: &impl Abort, alloc: Global, table: &str) -> Result<u32, Fail> {
-    let mut rows = 0u32;
-    for row in table.lines() {
-        if let Some((told, script)) = row.split_once('|') {
-            assert!(rt; row_reports_so(alloc, told, script)?, "{row:?}");
-            rows = rows.saturating_add(1);
-        }
-    }
-    Ok(rows)
+    Ok(reports_so(alloc, &text, status_of(&report), &report)?)
 }
 
 fn number_in(field: Option<&str>) -> u32 {
@@ -482,7 +471,7 @@ fn number_in(field: Option<&str>) -> u32 {
 
 /// Whether the words of a row come to what stands before them, however few bytes the sink takes at once, and whether each
 /// write that fails in turn leaves the lines before it.
-fn row_runs_so(alloc: Global, row: &str) -> Result<bool, AllocError> {
+fn row_runs_so(alloc: Global, row: &str) -> Result<bool, Fail> {
     let mut fields = row.rsplitn(5, '|');
     let write = number_in(fields.next());
     let fetch = number_in(fields.next());
@@ -521,21 +510,12 @@ fn is_cut_so(alloc: Global, run: Run<'_>, printed: &[u8]) -> Result<bool, AllocE
 
 #[test]
 fn reports(rt: HostRuntime) -> Result<(), Fail> {
-    assert_eq!(rt; run_rows(&rt, rt.alloc(), REPORTS)?, 64);
-    assert_eq!(rt; run_rows(&rt, rt.alloc(), LONG)?, 5);
-    Ok(())
+    rows_hold(rt.alloc(), REPORTS, 64, row_reports_so)?;
+    rows_hold(rt.alloc(), LONG, 5, row_reports_so)
 }
 
 #[test]
 fn words_are_run(rt: HostRuntime) -> Result<(), Fail> {
     choices_leave_reports();
-    let mut rows = 0u32;
-    for row in RUNS.lines() {
-        if !row.is_empty() {
-            assert!(rt; row_runs_so(rt.alloc(), row)?, "{row:?}");
-            rows = rows.saturating_add(1);
-        }
-    }
-    assert_eq!(rt; rows, 120);
-    Ok(())
+    rows_hold(rt.alloc(), RUNS, 120, row_runs_so)
 }

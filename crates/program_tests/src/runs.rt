@@ -2,6 +2,7 @@
 ghost use Rattle.script_check.specs.Verdicts.{KeepsPatterns};
 ghost use Rattle.std.specs.Prelude.{◌≡◌, ◌<◌, ◌^◌, [], length, IfOk};
 
+use crate::rows::rows_hold;
 use edge_io::MemSink;
 use frac_text::write_number;
 use holders::{Items, Text};
@@ -12,7 +13,6 @@ use script_check::{append_outcome, scripts_keep_their_patterns};
 use script_read::{ReadFault, Script};
 use std::alloc::{AllocError, Global};
 use std::marker::Brand;
-use std::process::Abort;
 use std::sync::ledger::{Blank, Ledger};
 use std::test::Fail;
 use test_runner::{
@@ -294,26 +294,10 @@ fn row_answers_so(alloc: Global, row: &str) -> Result<bool, Fail> {
 fn scripts_are_run(rt: HostRuntime) -> Result<(), Fail> {
     loads_put_their_samples();
     each_evaluation_has_one_verdict();
-    let mut rows = 0u32;
-    for row in RUNS.lines() {
-        if !row.is_empty() {
-            assert!(rt; row_runs_so(rt.alloc(), row)?, "{row:?}");
-            rows = rows.saturating_add(1);
-        }
-    }
-    assert_eq!(rt; rows, 15);
-    Ok(())
+    rows_hold(rt.alloc(), RUNS, 15, row_runs_so)
 }
 
 #[test]
 fn queries_are_answered(rt: HostRuntime) -> Result<(), Fail> {
-    let mut rows = 0u32;
-    for row in ANSWERS.lines() {
-        if !row.is_empty() {
-            assert!(rt; row_answers_so(rt.alloc(), row)?, "{row:?}");
-            rows = rows.saturating_add(1);
-        }
-    }
-    assert_eq!(rt; rows, 8);
-    Ok(())
+    rows_hold(rt.alloc(), ANSWERS, 8, row_answers_so)
 }

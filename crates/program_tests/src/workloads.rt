@@ -71,18 +71,17 @@ fn ends_so(alloc: Global, series: u32, length: usize, end: &str) -> Result<bool,
     Ok(text.len() == length && text.ends_with(end.as_bytes()))
 }
 
+fn are_small(alloc: Global) -> Result<bool, AllocError> {
+    let one = ends_so(alloc, 1, ONE.len(), ONE)?;
+    let four = ends_so(alloc, 4, FOUR.len(), FOUR)?;
+    let five = ends_so(alloc, 5, FIVE.len(), FIVE)?;
+    Ok(one && four && five)
+}
+
 #[test]
 fn texts(rt: HostRuntime) -> Result<(), Fail> {
     let alloc = rt.alloc();
-    let rows = [
-        (1, ONE.len(), ONE),
-        (4, FOUR.len(), FOUR),
-        (5, FIVE.len(), FIVE),
-        (100, 3617, END_OF_HUNDRED),
-    ];
-    for (series, length, end) in rows {
-        assert!(rt; ends_so(alloc, series, length, end)?, "{series}");
-    }
+    assert!(rt; are_small(alloc)? && ends_so(alloc, 100, 3617, END_OF_HUNDRED)?);
     Ok(())
 }
 

@@ -202,38 +202,46 @@ fn scripts_say(rt: HostRuntime) -> Result<(), Fail> {
     rows_hold(rt.alloc(), SAID, 44, is_said)
 }
 
-/// What a text of so many equal bytes behind a front says.
-fn told_of_many(alloc: Global, front: &str, byte: u8, count: usize) -> Result<Vec<u8>, AllocError> {
+fn says(alloc: Global, bytes: &[u8], wanted: &str) -> Result<bool, AllocError> {
+    Ok(told(alloc, bytes)?.as_slice() == wanted.as_bytes())
+}
+
+/// A text of so many bytes, equal ones behind a front.
+fn many(alloc: Global, front: &str, byte: u8, count: usize) -> Result<Vec<u8>, AllocError> {
     let mut bytes = Vec::new(alloc);
     push(&mut bytes, front)?;
     bytes.resize(count, byte)?;
-    told(alloc, bytes.as_slice())
+    Ok(bytes)
+}
+
+fn is_blank_taken(alloc: Global) -> Result<bool, AllocError> {
+    says(alloc, &many(alloc, "", b' ', 4_194_304)?, "")
+}
+
+fn is_more_refused(alloc: Global, front: &str, byte: u8) -> Result<bool, AllocError> {
+    says(alloc, &many(alloc, front, byte, 4_194_305)?, "TooLarge")
 }
 
 #[test]
 fn takes_4194304_bytes(rt: HostRuntime) -> Result<(), Fail> {
-    let blank = told_of_many(rt.alloc(), "", b' ', 4_194_304)?;
-    assert_eq!(rt; blank.as_slice(), b"".as_slice());
-    let large = told_of_many(rt.alloc(), "", b' ', 4_194_305)?;
-    assert_eq!(rt; large.as_slice(), b"TooLarge".as_slice());
-    let broken = told_of_many(rt.alloc(), "\n\n", 0xff, 4_194_305)?;
-    assert_eq!(rt; broken.as_slice(), b"TooLarge".as_slice());
+    let alloc = rt.alloc();
+    let are_refused = is_more_refused(alloc, "", b' ')? && is_more_refused(alloc, "\n\n", 0xff)?;
+    assert!(rt; is_blank_taken(alloc)? && are_refused);
     Ok(())
 }
 
 #[test]
 fn tells_what_is_no_text(rt: HostRuntime) -> Result<(), Fail> {
-    let third = told(rt.alloc(), b"clear\n\nx\xff".as_slice())?;
-    assert_eq!(rt; third.as_slice(), b"NotUtf8(3)".as_slice());
-    let cut = told(rt.alloc(), b"x\n\xc3".as_slice())?;
-    assert_eq!(rt; cut.as_slice(), b"NotUtf8(2)".as_slice());
-    let split = told(rt.alloc(), b"\xc3\n\xa9".as_slice())?;
-    assert_eq!(rt; split.as_slice(), b"NotUtf8(1)".as_slice());
+    let alloc = rt.alloc();
+    let third = says(alloc, b"clear\n\nx\xff", "NotUtf8(3)")?;
+    let cut = says(alloc, b"x\n\xc3", "NotUtf8(2)")?;
+    let split = says(alloc, b"\xc3\n\xa9", "NotUtf8(1)")?;
+    assert!(rt; third && cut && split);
     Ok(())
 }
 
-/// What an evaluation with so many distinct patterns says, the first one once more behind them, and then another.
-fn told_of_patterns(alloc: Global, count: u32) -> Result<Vec<u8>, AllocError> {
+/// Whether an evaluation with so many distinct patterns, the first one once more behind them, and then another, is refused so.
+fn says_of_patterns(alloc: Global, count: u32, wanted: &str) -> Result<bool, AllocError> {
     let mut text = Vec::new(alloc);
     push(&mut text, "eval instant at 0 x\n")?;
     for k in 0..count {
@@ -241,15 +249,14 @@ fn told_of_patterns(alloc: Global, count: u32) -> Result<Vec<u8>, AllocError> {
         push(&mut text, line.as_str())?;
     }
     push(&mut text, "expect fail regex: p0\nexpect fail regex: q\n")?;
-    told(alloc, text.as_slice())
+    says(alloc, text.as_slice(), wanted)
 }
 
 #[test]
 fn keeps_32_patterns(rt: HostRuntime) -> Result<(), Fail> {
-    let full = told_of_patterns(rt.alloc(), 32)?;
-    assert_eq!(rt; full.as_slice(), b"BadPattern(35)".as_slice());
-    let over = told_of_patterns(rt.alloc(), 33)?;
-    assert_eq!(rt; over.as_slice(), b"BadPattern(34)".as_slice());
+    let alloc = rt.alloc();
+    let is_full = says_of_patterns(alloc, 32, "BadPattern(35)")?;
+    assert!(rt; is_full && says_of_patterns(alloc, 33, "BadPattern(34)")?);
     Ok(())
 }
 

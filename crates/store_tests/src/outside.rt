@@ -168,14 +168,18 @@ fn files_are_fetched(rt: HostRuntime) -> Result<(), Fail> {
     Ok(())
 }
 
+/// Whether a sink whose second write fails takes the others.
+fn takes_the_others(alloc: Global) -> Result<bool, AllocError> {
+    let mut sink = MemSink::of(alloc, numbers(alloc, &[2])?);
+    let (first, second) = (sink.write(b"one "), sink.write(b"two "));
+    let (third, empty) = (write_all(&mut sink, b"three"), sink.write(b""));
+    let are_answered = first == Ok(4) && second == Err(SinkFail::Failed) && third.is_ok();
+    Ok(are_answered && empty == Ok(0) && sink.written() == b"one three".as_slice())
+}
+
 #[test]
 fn memory_is_written(rt: HostRuntime) -> Result<(), Fail> {
-    let mut sink = MemSink::of(rt.alloc(), numbers(rt.alloc(), &[2])?);
-    assert_eq!(rt; sink.write(b"one "), Ok(4));
-    assert_eq!(rt; sink.write(b"two "), Err(SinkFail::Failed));
-    assert_eq!(rt; write_all(&mut sink, b"three"), Ok(()));
-    assert_eq!(rt; sink.write(b""), Ok(0));
-    assert_eq!(rt; sink.written(), b"one three".as_slice());
+    assert!(rt; takes_the_others(rt.alloc())?);
     Ok(())
 }
 

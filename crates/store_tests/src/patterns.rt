@@ -1,6 +1,7 @@
 ghost use Rattle.match_rule.specs.Patterns.{HasItsPattern, IsWholeId};
 ghost use Rattle.std.specs.Prelude.{◌≡◌, IfOk};
 
+use crate::rows::{field, rows_hold};
 use label_set::{Items, Labels, PatternId, Rule, RuleKind, Text};
 use match_rule::*;
 use std::alloc::Global;
@@ -66,49 +67,49 @@ fn answers(alloc: Global, pattern: &str, value: &str) -> Result<String, PatternR
     Ok(format!(in alloc; "{whole} {found} {spans}")?)
 }
 
-#[test]
-fn patterns_pass_values(rt: HostRuntime) -> Result<(), Fail> {
-    for row in ROWS.split(';') {
-        let mut fields = row.splitn(3, ' ');
-        if let (Some(pattern), Some(value), Some(wanted)) = (
-            fields.next(),
-            fields.next(),
-            fields.next(),
-        ) {
-            let got = answers(rt.alloc(), unquoted(pattern), unquoted(value))?;
-            assert_eq!(rt; got.as_str(), wanted, "{row}");
-        }
-    }
-    Ok(())
+fn value_passes(alloc: Global, row: &str) -> Result<bool, Fail> {
+    let mut fields = row.splitn(3, ' ');
+    let pattern = unquoted(fields.next().unwrap_or(""));
+    let value = unquoted(fields.next().unwrap_or(""));
+    Ok(answers(alloc, pattern, value)?.as_str() == fields.next().unwrap_or(""))
 }
 
-/// Keeps the patterns `a0`, `a1` and so on, and answers the refusal of the first that is refused.
-fn keep_many(patterns: &mut Patterns, alloc: Global, count: u32) -> Result<(), PatternRefusal> {
-    for i in 0..count {
-        patterns.whole(format!(in alloc; "a{i}")?.as_str())?;
+#[test]
+fn patterns_pass_values(rt: HostRuntime) -> Result<(), Fail> {
+    rows_hold(rt.alloc(), ROWS, ';', value_passes)
+}
+
+// Calls one after another on one set of patterns, and their answers: the pattern's number, or why it's refused.
+const KEPT: &str =
+    "whole ( bad;search ( bad;whole [a bad;search [a bad;whole * bad;search * bad;whole a{2,1} bad;search a{2,1} bad;whole (?P<n> bad;search (?P<n> bad;whole a.b 0;search a.b 1;whole a.b 0;whole a0 2;whole a1 3;whole a2 4;whole a3 5;whole a4 6;whole a5 7;whole a6 8;whole a7 9;whole a8 10;whole a9 11;whole a10 12;whole a11 13;whole a12 14;whole a13 15;whole a14 16;whole a15 17;whole a16 18;whole a17 19;whole a18 20;whole a19 21;whole a20 22;whole a21 23;whole a22 24;whole a23 25;whole a24 26;whole a25 27;whole a26 28;whole a27 29;whole a28 30;whole a29 31;whole a29 31;search a29 full;whole x.y full;whole ( bad";
+
+fn kept(patterns: &mut Patterns, call: &str) -> Result<PatternId, PatternRefusal> {
+    let text = field(call, ' ', 1);
+    match field(call, ' ', 0) {
+        "whole" => patterns.whole(text),
+        _ => patterns.search(text),
     }
-    Ok(())
+}
+
+/// Whether a call on patterns is answered as it says.
+fn is_kept(patterns: &mut Patterns, call: &str) -> Result<bool, Fail> {
+    let answer = kept(patterns, call);
+    match field(call, ' ', 2) {
+        "bad" => Ok(answer == Err(PatternRefusal::BadPattern)),
+        "full" => Ok(answer == Err(PatternRefusal::TooManyPatterns)),
+        id => Ok(answer == Ok(PatternId(id.parse()?))),
+    }
 }
 
 #[test]
 fn there_are_32_patterns(rt: HostRuntime) -> Result<(), Fail> {
     let mut room = PatternRoom::new(rt.alloc())?;
     let mut patterns = Patterns::new(rt.alloc(), &mut room);
-    for text in "( [a * a{2,1} (?P<n>".split(' ') {
-        assert_eq!(rt; patterns.whole(text), Err(PatternRefusal::BadPattern));
-        assert_eq!(rt; patterns.search(text), Err(PatternRefusal::BadPattern));
+    for call in KEPT.split(';') {
+        if !is_kept(&mut patterns, call)? {
+            return Err(Fail::new(call));
+        }
     }
-    assert_eq!(rt; patterns.whole("a.b"), Ok(PatternId(0)));
-    assert_eq!(rt; patterns.search("a.b"), Ok(PatternId(1)));
-    assert_eq!(rt; patterns.whole("a.b"), Ok(PatternId(0)));
-    assert_eq!(rt; keep_many(&mut patterns, rt.alloc(), 30), Ok(()));
-    assert_eq!(rt; patterns.whole("a29"), Ok(PatternId(31)));
-    assert_eq!(rt;
-        patterns.search("a29"),
-        Err(PatternRefusal::TooManyPatterns)
-    );
-    assert_eq!(rt; patterns.whole("x.y"), Err(PatternRefusal::TooManyPatterns));
-    assert_eq!(rt; patterns.whole("("), Err(PatternRefusal::BadPattern));
     Ok(())
 }
 
@@ -153,39 +154,54 @@ fn pattern_passes(
     Ok((matching, unmatching))
 }
 
+// Each row is the value of `env`, a pattern, and whether the pattern's rule passes.
+const PATTERN_RULES: &str = "prod p.* yes;prod dev| no;prod prod|dev yes;'' dev| yes;'' .+ no";
+
+fn env(alloc: Global, value: &str) -> Result<Labels, Fail> {
+    let mut labels = Labels::empty(alloc);
+    labels.put("env", value)?;
+    Ok(labels)
+}
+
+fn pattern_holds(alloc: Global, row: &str) -> Result<bool, Fail> {
+    let labels = env(alloc, unquoted(field(row, ' ', 0)))?;
+    let got = pattern_passes(alloc, field(row, ' ', 1), &labels)?;
+    let on = field(row, ' ', 2) == "yes";
+    Ok(got == ((on, on), (!on, !on)))
+}
+
 #[test]
 fn labels_pass_rules(rt: HostRuntime) -> Result<(), Fail> {
-    let alloc = rt.alloc();
-    for row in "prod p.* yes;prod dev| no;prod prod|dev yes;'' dev| yes;'' .+ no".split(';') {
-        let mut fields = row.splitn(3, ' ');
-        let mut labels = Labels::empty(alloc);
-        labels.put("env", unquoted(fields.next().unwrap_or("")))?;
-        let got = pattern_passes(alloc, fields.next().unwrap_or(""), &labels)?;
-        let on = fields.next() == Some("yes");
-        assert_eq!(rt; got, ((on, on), (!on, !on)), "{row}");
-    }
-    Ok(())
+    rows_hold(rt.alloc(), PATTERN_RULES, ';', pattern_holds)
+}
+
+/// Whether the text of an equality passes where `env` is `prod`, and the rule against it.
+fn equality_passes(alloc: Global, text: &str) -> Result<((bool, bool), (bool, bool)), Fail> {
+    let labels = env(alloc, "prod")?;
+    let mut room = PatternRoom::new(alloc)?;
+    let mut patterns = Patterns::new(alloc, &mut room);
+    let equal = RuleKind::Eq(Text::of(alloc, text)?);
+    let matching = pass_both_ways(alloc, equal, &mut patterns, &labels)?;
+    let unequal = RuleKind::Ne(Text::of(alloc, text)?);
+    let unmatching = pass_both_ways(alloc, unequal, &mut patterns, &labels)?;
+    Ok((matching, unmatching))
+}
+
+fn equality_holds(alloc: Global, row: &str) -> Result<bool, Fail> {
+    let got = equality_passes(alloc, unquoted(field(row, ' ', 0)))?;
+    let on = field(row, ' ', 1) == "yes";
+    Ok(got == ((on, on), (!on, !on)))
 }
 
 #[test]
 fn equality_takes_the_whole_text(rt: HostRuntime) -> Result<(), Fail> {
-    let alloc = rt.alloc();
-    let mut room = PatternRoom::new(alloc)?;
-    let mut patterns = Patterns::new(alloc, &mut room);
-    let mut labels = Labels::empty(alloc);
-    labels.put("env", "prod")?;
-    for (text, on) in [("prod", true), ("", false)] {
-        let equal = RuleKind::Eq(Text::of(alloc, text)?);
-        assert_eq!(rt;
-            pass_both_ways(alloc, equal, &mut patterns, &labels)?,
-            (on, on)
-        );
-        let unequal = RuleKind::Ne(Text::of(alloc, text)?);
-        assert_eq!(rt;
-            pass_both_ways(alloc, unequal, &mut patterns, &labels)?,
-            (!on, !on)
-        );
-    }
+    rows_hold(rt.alloc(), "prod yes;'' no", ';', equality_holds)
+}
+
+#[test]
+fn a_pattern_keeps_its_text(rt: HostRuntime) -> Result<(), Fail> {
+    let mut room = PatternRoom::new(rt.alloc())?;
+    let mut patterns = Patterns::new(rt.alloc(), &mut room);
     let id = patterns.search("(?i)up|x")?;
     assert_eq!(rt; patterns.text(id), "(?i)up|x");
     Ok(())
