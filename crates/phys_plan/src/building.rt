@@ -6,6 +6,7 @@ ghost use Rattle.plan_tree.specs.Chains.{IsReady};
 ghost use Rattle.plan_tree.specs.Nodes.{shape_of};
 ghost use Rattle.plan_tree.specs.Shapes.{rule};
 ghost use Rattle.plan_tree.specs.Spending.{IsFresh};
+ghost use Rattle.plan_work.specs.Looks.{LooksAt, plan_looks};
 ghost use Rattle.plan_work.specs.TreeBounds.{StaysWithin};
 ghost use Rattle.promql_meaning.specs.Selecting.{Asked, asked_over};
 ghost use Rattle.std.specs.Prelude.{◌≡◌, ◌<◌, ℤ, None, IfOk};
@@ -23,9 +24,9 @@ use std::sync::ledger::Ledger;
 use ticks::{Grid, Walk, Work};
 
 /// The tree of kernels of a plan that is asked at the instants of a walk over a store, at most `batch` of them at once; `span`
-/// has the start and the end that `@ start()` and `@ end()` stand for. It reads no sample. It is `Invalid` where the plan isn't
-/// typed, where its patterns aren't kept, where it leads beyond the times, or where the walk is neither a grid nor one instant;
-/// else the only error is want of memory. (The kernels are those of thanos-io/promql-engine.)
+/// has the start and the end that `@ start()` and `@ end()` stand for. It is `Invalid` where the plan isn't typed, where its
+/// patterns aren't kept, where it leads beyond the times, or where the walk is neither a grid nor one instant; else the only error
+/// is want of memory. (The kernels are those of thanos-io/promql-engine.)
 pub fn build<W: Ledger>(
     alloc: Global,
     p: &Plan,
@@ -48,6 +49,8 @@ pub fn build<W: Ledger>(
         → (t : ℤ) → IsInstant walk.now t → rule store.now patterns.old (shape_of tree.node) t ≡ plan_step (asked_over store.now patterns.old span.now) p.now t) }
     // over the whole walk it may spend at most what the plan costs at the walk's instants, which is worked out by hand over its selectors
     ensures within { IfOk result (λ tree. StaysWithin (asked_over store.now patterns.old span.now) walk.now p.now (shape_of tree.node)) }
+    // on every answer at most the series were tested that the plan's selectors look at, and no sample was read
+    ensures tested { LooksAt work.old work.new (plan_looks store.now p.now) }
     ensures same { patterns.new ≡ patterns.old }
 {
     let Some(course) = Course::of(walk)? else {

@@ -1,6 +1,7 @@
 //! The tree of a plan, node by node.
 ghost use Rattle.logical_plan.specs.declared.nodes.PlanNode.TheVariants as node;
 ghost use Rattle.plan_parts.specs.Parts.{IsPartOf};
+ghost use Rattle.plan_work.specs.Looks.{LooksAt, arguments_look, plan_looks};
 ghost use Rattle.promql_meaning.specs.Selecting.{asked_over};
 ghost use Rattle.std.specs.Prelude.{◌≡◌};
 ghost use Rattle.window_parts.specs.Over.{IsArgumentOf};
@@ -14,6 +15,7 @@ use plan_parts::kinds::{
     grouped, number, paired, quantiles, ranked, relabelled, stamped, time,
 };
 use plan_parts::{Course, Part, Unbuilt, repeated, select};
+use plan_work::laws::{nodes_look, selectors_look, windows_look};
 use std::sync::ledger::Ledger;
 use ticks::Work;
 use window_parts::{inside, points, series};
@@ -28,8 +30,10 @@ pub(crate) fn grown<W: Ledger>(
     work: &mut Work<W>,
 ) -> Result<Part, Unbuilt>
     ensures part { IsPartOf (asked_over site.now.store.now patterns.old site.now.span.now) course.now.walk p.now result }
+    ensures tested { LooksAt work.old work.new (plan_looks site.now.store.now p.now) }
     ensures same { patterns.new ≡ patterns.old }
 {
+    selectors_look();
     match &p.node {
         PlanNode::Number(value) => number(site.alloc, *value),
         PlanNode::Time => time(site.alloc),
@@ -65,8 +69,10 @@ fn over_one<W: Ledger>(
     work: &mut Work<W>,
 ) -> Result<Part, Unbuilt>
     ensures part { IsPartOf (asked_over site.now.store.now patterns.old site.now.span.now) course.now.walk p.now result }
+    ensures tested { LooksAt work.old work.new (plan_looks site.now.store.now p.now) }
     ensures same { patterns.new ≡ patterns.old }
 {
+    nodes_look();
     match &p.node {
         PlanNode::Stamp(inner) => {
             let rows = grown(site, course, inner.get(), patterns, work);
@@ -101,8 +107,10 @@ fn retyped<W: Ledger>(
     work: &mut Work<W>,
 ) -> Result<Part, Unbuilt>
     ensures part { IsPartOf (asked_over site.now.store.now patterns.old site.now.span.now) course.now.walk p.now result }
+    ensures tested { LooksAt work.old work.new (plan_looks site.now.store.now p.now) }
     ensures same { patterns.new ≡ patterns.old }
 {
+    nodes_look();
     match &p.node {
         PlanNode::ScalarOf(inner) => {
             let rows = grown(site, course, inner.get(), patterns, work);
@@ -130,8 +138,10 @@ fn over_two<W: Ledger>(
     work: &mut Work<W>,
 ) -> Result<Part, Unbuilt>
     ensures part { IsPartOf (asked_over site.now.store.now patterns.old site.now.span.now) course.now.walk p.now result }
+    ensures tested { LooksAt work.old work.new (plan_looks site.now.store.now p.now) }
     ensures same { patterns.new ≡ patterns.old }
 {
+    nodes_look();
     match &p.node {
         PlanNode::Buckets(quantile, inner) => {
             let rows = grown(site, course, inner.get(), patterns, work);
@@ -169,8 +179,10 @@ fn element<W: Ledger>(
     work: &mut Work<W>,
 ) -> Result<Part, Unbuilt>
     ensures part { IsPartOf (asked_over site.now.store.now patterns.old site.now.span.now) course.now.walk p.now result }
+    ensures tested { LooksAt work.old work.new (plan_looks site.now.store.now p.now) }
     ensures same { patterns.new ≡ patterns.old }
 {
+    nodes_look();
     let PlanNode::Element(f, inner, arguments) = &p.node else {
         return Err(Unbuilt::Invalid);
     };
@@ -195,8 +207,10 @@ fn beside_one<W: Ledger>(
     work: &mut Work<W>,
 ) -> Result<Part, Unbuilt>
     ensures part { IsPartOf (asked_over site.now.store.now patterns.old site.now.span.now) course.now.walk p.now result }
+    ensures tested { LooksAt work.old work.new (plan_looks site.now.store.now p.now) }
     ensures same { patterns.new ≡ patterns.old }
 {
+    nodes_look();
     let PlanNode::Element(f, inner, arguments) = &p.node else {
         return Err(Unbuilt::Invalid);
     };
@@ -218,8 +232,10 @@ fn beside_two<W: Ledger>(
     work: &mut Work<W>,
 ) -> Result<Part, Unbuilt>
     ensures part { IsPartOf (asked_over site.now.store.now patterns.old site.now.span.now) course.now.walk p.now result }
+    ensures tested { LooksAt work.old work.new (plan_looks site.now.store.now p.now) }
     ensures same { patterns.new ≡ patterns.old }
 {
+    nodes_look();
     let PlanNode::Element(f, inner, arguments) = &p.node else {
         return Err(Unbuilt::Invalid);
     };
@@ -242,6 +258,7 @@ fn window<W: Ledger>(
     work: &mut Work<W>,
 ) -> Result<Part, Unbuilt>
     ensures part { IsPartOf (asked_over site.now.store.now patterns.old site.now.span.now) course.now.walk p.now result }
+    ensures tested { LooksAt work.old work.new (plan_looks site.now.store.now p.now) }
     ensures same { patterns.new ≡ patterns.old }
 {
     let PlanNode::Window(_, windows, _) = &p.node else {
@@ -263,8 +280,10 @@ fn over_series<W: Ledger>(
     work: &mut Work<W>,
 ) -> Result<Part, Unbuilt>
     ensures part { IsPartOf (asked_over site.now.store.now patterns.old site.now.span.now) course.now.walk p.now result }
+    ensures tested { LooksAt work.old work.new (plan_looks site.now.store.now p.now) }
     ensures same { patterns.new ≡ patterns.old }
 {
+    windows_look();
     let PlanNode::Window(f, windows, _) = &p.node else {
         return Err(Unbuilt::Invalid);
     };
@@ -292,8 +311,10 @@ fn over_points<W: Ledger>(
     work: &mut Work<W>,
 ) -> Result<Part, Unbuilt>
     ensures part { IsPartOf (asked_over site.now.store.now patterns.old site.now.span.now) course.now.walk p.now result }
+    ensures tested { LooksAt work.old work.new (plan_looks site.now.store.now p.now) }
     ensures same { patterns.new ≡ patterns.old }
 {
+    windows_look();
     let PlanNode::Window(f, windows, _) = &p.node else {
         return Err(Unbuilt::Invalid);
     };
@@ -322,6 +343,7 @@ fn only_argument<W: Ledger>(
     work: &mut Work<W>,
 ) -> Result<Option<Part>, Unbuilt>
     ensures part { (f inner arguments : _) → p.now.node ≡ node.Window f inner arguments → IsArgumentOf (asked_over site.now.store.now patterns.old site.now.span.now) course.now.walk arguments result }
+    ensures tested { (f inner arguments : _) → p.now.node ≡ node.Window f inner arguments → LooksAt work.old work.new (arguments_look site.now.store.now arguments) }
     ensures same { patterns.new ≡ patterns.old }
 {
     let PlanNode::Window(_, _, arguments) = &p.node else {
@@ -344,8 +366,10 @@ fn group<W: Ledger>(
     work: &mut Work<W>,
 ) -> Result<Part, Unbuilt>
     ensures part { IsPartOf (asked_over site.now.store.now patterns.old site.now.span.now) course.now.walk p.now result }
+    ensures tested { LooksAt work.old work.new (plan_looks site.now.store.now p.now) }
     ensures same { patterns.new ≡ patterns.old }
 {
+    nodes_look();
     let PlanNode::Group(f, by, arguments, label) = &p.node else {
         return Err(Unbuilt::Invalid);
     };
@@ -375,8 +399,10 @@ fn once<W: Ledger>(
     work: &mut Work<W>,
 ) -> Result<Part, Unbuilt>
     ensures part { IsPartOf (asked_over site.now.store.now patterns.old site.now.span.now) course.now.walk p.now result }
+    ensures tested { LooksAt work.old work.new (plan_looks site.now.store.now p.now) }
     ensures same { patterns.new ≡ patterns.old }
 {
+    nodes_look();
     let PlanNode::Once(inner) = &p.node else {
         return Err(Unbuilt::Invalid);
     };

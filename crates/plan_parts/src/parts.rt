@@ -2,9 +2,11 @@
 ghost use Rattle.logical_plan.specs.declared.nodes.Plan.{Plan};
 ghost use Rattle.logical_plan.specs.declared.nodes.PlanNode.TheVariants as node;
 ghost use Rattle.plan_parts.specs.Parts.{IsBinary, IsClamp, IsInstants, IsPart, IsPartOf, IsUnary};
+ghost use Rattle.plan_work.specs.Looks.{LooksAt};
 ghost use Rattle.plan_work.specs.TreeBounds.{BeginsAt};
 ghost use Rattle.promql_meaning.specs.Selecting.{Asked, asked_over, lookback};
 ghost use Rattle.promql_meaning.specs.WalkMoments.{IsMomentOf};
+ghost use Rattle.sample_store.specs.Samples.{looked_at};
 ghost use Rattle.std.specs.Prelude.{◌≡◌, ℤ, IfOk, IsTrue};
 ghost use Rattle.ticks.specs.Walks.{HasTimes, IsInstant, moment_at};
 ghost use Rattle.ticks.specs.declared.walk.Walk.{Walk};
@@ -181,9 +183,9 @@ fn is_within(course: &Course, moment: &WalkMoment) -> bool
     }
 }
 
-/// The newest rows of the series that pass rules, at the instants of a course. Each series that is looked at is counted as
-/// tested, and no sample is read. It is `Invalid` where a pattern isn't kept or a window leads beyond the times; else the only
-/// error is want of memory.
+/// The newest rows of the series that pass rules, at the instants of a course. On every answer at most the series that the
+/// rules look at were counted as tested, each once, and no sample was read. It is `Invalid` where a pattern isn't kept or a
+/// window leads beyond the times; else the only error is want of memory.
 pub fn select<W: Ledger>(
     alloc: Global,
     store: &Store,
@@ -196,6 +198,7 @@ pub fn select<W: Ledger>(
     work: &mut Work<W>,
 ) -> Result<Part, Unbuilt>
     ensures part { IfOk result (λ part. (p : Plan) → p.node ≡ node.Select rules.now moment.now stamped → IsPart (asked_over store.now patterns.old span.now) course.now.walk p part) }
+    ensures tested { LooksAt work.old work.new (looked_at rules.now store.now) }
     ensures same { patterns.new ≡ patterns.old }
 {
     lent_steps_are_tables();

@@ -2,6 +2,8 @@ pub mod Fewer
 pub mod Idle
 pub mod InnerTimes
 pub mod Leaves
+pub mod Looked
+pub mod Measured
 pub mod Nodes
 pub mod Spans
 pub mod Stays

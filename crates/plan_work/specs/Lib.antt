@@ -1,3 +1,5 @@
+pub mod Looks
+pub mod Measures
 pub mod PlanBounds
 pub mod PlanLaws
 pub mod TreeBounds

@@ -1,20 +1,19 @@
 -- The bound of what a plan costs at some instants: a sum over the selectors of the plan, which a reader can work out by hand. (This
 -- project's own.)
-use Rattle.std.specs.Prelude.{◌*◌, ◌-ℤ◌, ◌&&◌, ℕ, ℤ, pos, Bool, List, [], ◌∷◌, filter, int_le, length, map, sum_by}
+use Rattle.std.specs.Prelude.{◌*◌, ◌-ℤ◌, ◌&&◌, ℕ, ℤ, pos, Bool, List, [], ◌∷◌, filter, int_le, length, sum_by}
 use Rattle.std.specs.List.{list_any}
 use Rattle.label_set.specs.declared.rules.Rule.{Rule}
 use Rattle.logical_plan.specs.declared.nodes.Plan.{Plan}
-use Rattle.logical_plan.specs.declared.nodes.PlanNode.TheOpen.{PlanNode-F}
-use Rattle.logical_plan.specs.declared.nodes.PlanNode.TheFolds.{fold-Plan}
 use Rattle.plan_tree.specs.Spending.{Cost, both, nothing}
 use Rattle.promql_ast.specs.declared.tree.Moment.{Moment}
-use Rattle.promql_meaning.specs.Selecting.{Asked, Samples, lookback, moment_of, passing}
+use Rattle.promql_meaning.specs.Selecting.{Asked, Samples, moment_of, passing}
 use Rattle.promql_meaning.specs.Subqueries.{as_times, first_multiple, instants_up_to}
 use Rattle.series_marks.specs.Reaches.{last_instant, window_edge}
 use Rattle.series_marks.specs.Reads.{span_bound}
 use Rattle.step_table.specs.Groups.{Names}
 use Rattle.ticks.specs.Edges.{is_from}
 use Rattle.ticks.specs.declared.moment.Ms.{Ms}
+use Rattle.plan_work.specs.Measures.{Measure, arguments_measure, plan_measure}
 
 -- what a part of a plan costs at most at some instants
 abbrev pub Bounding : Type 0
@@ -52,38 +51,21 @@ first_of (t ∷ at) = t
 abbrev pub first_alone : List Ms → List Ms
 first_alone at = first_of at ∷ []
 
--- all of some parts at the same instants
-abbrev pub all_of : List Bounding → Bounding
-all_of [] at = nothing
-all_of (part ∷ parts) at = both (part at) (all_of parts at)
+-- costs at some instants: those of parts add up, a subquery's inner expression is asked at the inner instants, and a part that is computed
+-- once at the first one
+abbrev pub costs : Asked → Measure Bounding
+costs asked = record {
+  none = λ at. nothing;
+  beside = λ left right at. both (left at) (right at);
+  selector = λ back rules moment. selector_bound back asked rules moment;
+  inside = λ moment range step inner at. inner (inner_times asked moment range step at);
+  once = λ inner at. inner (first_alone at);
+}
 
--- of a node, by the bounds of its children
-abbrev pub node_bound : Asked → PlanNode-F Bounding Bounding → Bounding
-node_bound asked (PlanNode-F.Number value) = λ at. nothing
-node_bound asked PlanNode-F.Time = λ at. nothing
-node_bound asked (PlanNode-F.Select rules moment stamped) = selector_bound lookback asked rules moment
-node_bound asked (PlanNode-F.Range rules moment range) = selector_bound range.0 asked rules moment
-node_bound asked (PlanNode-F.Subquery inner range step moment) = λ at. inner (inner_times asked moment range step at)
-node_bound asked (PlanNode-F.Element f inner arguments) = all_of (inner ∷ arguments)
-node_bound asked (PlanNode-F.Stamp inner) = inner
-node_bound asked (PlanNode-F.Window f inner arguments) = all_of (inner ∷ arguments)
-node_bound asked (PlanNode-F.Absent labels inner) = inner
-node_bound asked (PlanNode-F.Buckets quantile inner) = λ at. both (quantile at) (inner at)
-node_bound asked (PlanNode-F.Relabel rule inner) = inner
-node_bound asked (PlanNode-F.Sort down inner) = inner
-node_bound asked (PlanNode-F.ScalarOf inner) = inner
-node_bound asked (PlanNode-F.VectorOf inner) = inner
-node_bound asked (PlanNode-F.Group f by arguments label) = all_of arguments
-node_bound asked (PlanNode-F.Pair op left right pairing) = λ at. both (left at) (right at)
-node_bound asked (PlanNode-F.Set op left right pairing) = λ at. both (left at) (right at)
-node_bound asked (PlanNode-F.Filter base rules) = base
-node_bound asked (PlanNode-F.Ratio sum count) = λ at. both (sum at) (count at)
-node_bound asked (PlanNode-F.Once inner) = λ at. inner (first_alone at)
-
--- what a plan costs at most at some instants: a part that is computed once costs what it does at the first one
+-- what a plan costs at most at some instants
 abbrev pub plan_bound : Asked → Plan → Bounding
-plan_bound asked p = fold-Plan Bounding Bounding (node_bound asked) (λ p. p.node) p
+plan_bound asked p = plan_measure (costs asked) p
 
 -- all arguments of a function
 abbrev pub arguments_bound : Asked → List Plan → Bounding
-arguments_bound asked arguments = all_of (map (plan_bound asked) arguments)
+arguments_bound asked arguments = arguments_measure (costs asked) arguments

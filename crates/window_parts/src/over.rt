@@ -2,8 +2,10 @@
 ghost use Rattle.logical_plan.specs.declared.nodes.Plan.{Plan};
 ghost use Rattle.logical_plan.specs.declared.nodes.PlanNode.TheVariants as node;
 ghost use Rattle.plan_parts.specs.Parts.{IsPartOf};
+ghost use Rattle.plan_work.specs.Looks.{LooksAt, plan_looks};
 ghost use Rattle.promql_ast.specs.declared.tree.Moment.{Moment};
 ghost use Rattle.promql_meaning.specs.Selecting.{Asked, asked_over};
+ghost use Rattle.sample_store.specs.Samples.{looked_at};
 ghost use Rattle.std.specs.Prelude.{◌≡◌, ◌<ℤ◌, ℤ, pos, List, IfOk, IsTrue};
 ghost use Rattle.ticks.specs.Walks.{HasTimes, IsInstant, moment_at};
 ghost use Rattle.ticks.specs.declared.moment.Ms.{Ms};
@@ -51,6 +53,7 @@ fn over_selector<W: Ledger>(
     work: &mut Work<W>,
 ) -> Result<Part, Unbuilt>
     ensures part { (p inner : Plan) (arguments : List Plan) → p.node ≡ node.Window f inner arguments → IsRangeOf (asked_over store.now patterns.old span.now) inner selector.now → IsScalarOf (asked_over store.now patterns.old span.now) course.now.walk f arguments scalar → IsPartOf (asked_over store.now patterns.old span.now) course.now.walk p result }
+    ensures tested { LooksAt work.old work.new (looked_at selector.now.rules store.now) }
     ensures same { patterns.new ≡ patterns.old }
 {
     walk_moments_are_moments();
@@ -76,10 +79,10 @@ fn over_selector<W: Ledger>(
 }
 
 /// A function of windows of the store, at the instants of a course: of those of a range, or of those that pass the filters over one.
-/// `argument` is what became of the function's other argument, if it has one. Each series that is looked at is counted as tested, and
-/// no sample is read. It hands on why the argument wasn't built, and is `Invalid` where the windows are another plan's, where the
-/// function takes another number of arguments or one that isn't a scalar, where a pattern isn't kept, a window leads beyond the times,
-/// or the range isn't positive; else the only error is want of memory.
+/// `argument` is what became of the function's other argument, if it has one. On every answer at most the series that the windows
+/// look at were counted as tested, each once, and no sample was read. It hands on why the argument wasn't built, and is `Invalid`
+/// where the windows are another plan's, where the function takes another number of arguments or one that isn't a scalar, where a
+/// pattern isn't kept, a window leads beyond the times, or the range isn't positive; else the only error is want of memory.
 pub fn series<W: Ledger>(
     alloc: Global,
     store: &Store,
@@ -92,6 +95,7 @@ pub fn series<W: Ledger>(
     work: &mut Work<W>,
 ) -> Result<Part, Unbuilt>
     ensures part { (p : Plan) (arguments : List Plan) → p.node ≡ node.Window f windows.now arguments → IsArgumentOf (asked_over store.now patterns.old span.now) course.now.walk arguments argument → IsPartOf (asked_over store.now patterns.old span.now) course.now.walk p result }
+    ensures tested { LooksAt work.old work.new (plan_looks store.now windows.now) }
     ensures same { patterns.new ≡ patterns.old }
 {
     let argument = argument?;

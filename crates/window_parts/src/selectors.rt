@@ -6,7 +6,7 @@ ghost use Rattle.window_parts.specs.Over.{IsRangeOf};
 use holders::Items;
 use label_set::Rule;
 use logical_plan::{Plan, PlanNode};
-use plan_work::laws::range_selectors_cost;
+use plan_work::laws::{range_selectors_cost, range_selectors_look};
 use promql_ast::Moment;
 use promql_meaning::laws::more_rules_filter;
 use std::alloc::AllocError;
@@ -44,6 +44,7 @@ pub(crate) fn range_selector(p: &Plan) -> Result<Option<RangeSelector>, AllocErr
 {
     more_rules_filter();
     range_selectors_cost();
+    range_selectors_look();
     match &p.node {
         PlanNode::Range {
             rules,

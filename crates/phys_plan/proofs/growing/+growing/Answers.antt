@@ -1,11 +1,12 @@
-use Rattle.std.proofs.Common.{◌∙◌, Bool, List, ap, refl, subst, sym, ℕ}
+use Rattle.std.proofs.Common.{◌∙◌, Bool, List, ap, arith, refl, subst, sym, ℕ}
 use Rattle.label_set.specs.declared.rules.Relabel.TheVariants.{Filter}
 use Rattle.label_set.specs.declared.rules.Rule.{Rule}
 use Rattle.logical_plan.specs.declared.nodes.Plan.{Plan}
 use Rattle.logical_plan.specs.declared.nodes.PlanNode.TheVariants as node
 use Rattle.promql_meaning.specs.Selecting.{asked_over}
 use Rattle.plan_parts.specs.Parts.{IsPartOf}
-use Rattle.phys_plan.proofs.Arms.{argument_of, child_of, ok_then}
+use Rattle.plan_work.specs.Looks.{arguments_look, plan_looks}
+use Rattle.phys_plan.proofs.Arms.{argument_of, both_looked, child_of, ok_then}
 use Rattle.phys_plan.proofs.growing.+growing.Goals as goal
 
 pub grown-returns-in-Number-clause-part : goal.grown-returns-in-Number-clause-part
@@ -66,3 +67,29 @@ over_points-returns-clause-part g t c =
     let same = ap (λ (kept : List (Bool × List ℕ)). asked_over store kept span) c.grown-rows.ensures.same in
     let beside = argument_of asked (asked_over store c.grown-rows.new.patterns span) walk arguments c.only_argument-beside.result same (c.only_argument-beside.ensures.part f windows arguments c.in-Window.is) in
     c.points.ensures asked c.args.p.now windows inner c.in-Subquery.moment c.in-Subquery.range c.in-Subquery.step arguments c.in-Window.is is (c.in_ok-below.ensures.inside store c.args.patterns.now) rows beside
+
+pub over_series-returns-clause-tested : goal.over_series-returns-clause-tested
+over_series-returns-clause-tested g t c =
+    let store = c.args.site.now.store.now in
+    let p = c.args.p.now in
+    let f = c.in-Window.f in
+    let windows = c.get.result.now in
+    let arguments = c.in-Window.field-2 in
+    let beside = c.only_argument-beside.ensures.tested f c.in-Window.windows arguments c.in-Window.is in
+    let is = c.in-Window.is ∙ ap (λ (windows : Plan). node.Window f windows arguments) (sym c.get.ensures) in
+    both_looked c.args.work.now c.only_argument-beside.new.work c.series.new.work (arguments_look store arguments) (plan_looks store windows) (plan_looks store p) beside c.series.ensures.tested
+    (c.windows_look.ensures.window store p windows f arguments is)
+
+pub over_points-returns-clause-tested : goal.over_points-returns-clause-tested
+over_points-returns-clause-tested g t c =
+    let store = c.args.site.now.store.now in
+    let p = c.args.p.now in
+    let f = c.in-Window.f in
+    let windows = c.in-Window.windows in
+    let arguments = c.in-Window.field-2 in
+    let inner = c.get-2.result.now in
+    let beside = c.only_argument-beside.ensures.tested f windows arguments c.in-Window.is in
+    let is = sym (ap (λ (q : Plan). q.node) c.get.ensures) ∙ c.in-Subquery.is in
+    let inside = c.windows_look.ensures.subquery store windows c.in-Subquery.inner c.in-Subquery.moment c.in-Subquery.range c.in-Subquery.step is ∙ ap (plan_looks store) (sym c.get-2.ensures) in
+    let whole = c.windows_look.ensures.window store p windows f arguments c.in-Window.is in
+    both_looked c.args.work.now c.grown-rows.new.work c.only_argument-beside.new.work (plan_looks store inner) (arguments_look store arguments) (plan_looks store p) c.grown-rows.ensures.tested beside (omega (arith, inside, whole))

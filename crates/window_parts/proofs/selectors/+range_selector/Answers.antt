@@ -3,6 +3,7 @@ use Rattle.logical_plan.specs.Lowering.{planned}
 use Rattle.logical_plan.specs.PlanMeaning.{plan_meaning}
 use Rattle.logical_plan.specs.declared.nodes.Plan.{Plan}
 use Rattle.logical_plan.specs.declared.nodes.PlanNode.TheVariants as node
+use Rattle.plan_work.specs.Looks.{LookAtNoMore}
 use Rattle.plan_work.specs.PlanLaws.{CostsAtMost}
 use Rattle.promql_meaning.specs.Selecting.{Asked}
 use Rattle.window_parts.specs.Over.{IsRangeOf}
@@ -21,6 +22,7 @@ returns-in_ok-copy-in-Range t c = λ asked.
     record {
       gives = λ u. range_gives asked p rules moment range c.in-Range.is u ∙ (λ j. plan_meaning asked (planned p.at (node.Range (sym same j) moment range)) u);
       within = subst (λ rs. CostsAtMost asked rs moment range p) (sym same) (c.range_selectors_cost.ensures.range asked p rules moment range c.in-Range.is);
+      looks = subst (λ rs. LookAtNoMore asked.samples rs p) (sym same) (c.range_selectors_look.ensures.range asked.samples p rules moment range c.in-Range.is);
     }
 
 pub returns-in_ok-filtered-in-Some : goal.returns-in_ok-filtered-in-Some
@@ -38,4 +40,5 @@ returns-in_ok-filtered-in-Some t c = λ asked.
           ∙ (λ j. plan_meaning asked (planned p.at (node.Range (sym made.rules j) (sym made.moment j) (sym made.range j))) u);
       within = coe 1 0 (j. CostsAtMost asked (made.rules j) (made.moment j) (made.range j) p)
           (c.range_selectors_cost.ensures.filter asked p base selector.rules more selector.moment selector.range c.in-Filter.is below.within);
+      looks = subst (λ rs. LookAtNoMore asked.samples rs p) (sym made.rules) (c.range_selectors_look.ensures.filter asked.samples p base selector.rules more c.in-Filter.is below.looks);
     }
