@@ -4,6 +4,8 @@
 #[cfg(test)]
 mod delivered;
 #[cfg(test)]
+mod filters;
+#[cfg(test)]
 mod gathers;
 #[cfg(test)]
 mod no_engine;
