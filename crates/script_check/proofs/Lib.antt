@@ -3,6 +3,7 @@ pub mod BareLines
 pub mod Holding
 pub mod Kept
 pub mod LineByLine
+pub mod Matches
 pub mod Pairs
 pub mod Sorted
 pub mod Uneven

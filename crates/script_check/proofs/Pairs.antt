@@ -33,13 +33,13 @@ module _ {X : Type 0} (P : X → Type 0) where
   by_places (x ∷ xs) h = (h zero x refl, by_places xs (λ place y e. h (suc place) y e))
 
 -- the labels of each series are there
-there_itself : (all : List ResultSeries) (place : ℕ) (s : ResultSeries) → slice_get all place ≡ Some s → IsThere all s
+pub there_itself : (all : List ResultSeries) (place : ℕ) (s : ResultSeries) → slice_get all place ≡ Some s → IsThere all s
 there_itself [] place s e = absurd (cc)
 there_itself (first ∷ all) zero s e = let same : first ≡ s = cc in found_here first all s.labels (subst (λ (t : ResultSeries). is_eq (labels_cmp first.labels t.labels) ≡ true) same (ties_with_itself first.labels))
 there_itself (first ∷ all) (suc place) s e = still_there first all s.labels (there_itself all place s e)
 
 -- the series that is found under labels has these labels, and what all have
-found_has : (P : ResultSeries → Type 0) (all : List ResultSeries) (labels : LabelList) (s : ResultSeries) → AllByRecursion P all → series_under labels all ≡ Some s → (s.labels ≡ labels) × P s
+pub found_has : (P : ResultSeries → Type 0) (all : List ResultSeries) (labels : LabelList) (s : ResultSeries) → AllByRecursion P all → series_under labels all ≡ Some s → (s.labels ≡ labels) × P s
 found_has P [] labels s a e = absurd (cc)
 found_has P (first ∷ all) labels s a e =
     elim (is_eq (labels_cmp first.labels labels)) as (λ b. is_eq (labels_cmp first.labels labels) ≡ b → cond b (Some first) (series_under labels all) ≡ Some s → (s.labels ≡ labels) × P s) [

@@ -3,6 +3,7 @@ pub mod NoteTexts
 pub mod Series
 pub mod Beside
 pub mod Paired
+pub mod Rounds
 pub mod Lookups
 pub mod Verdicts
 pub mod Noted

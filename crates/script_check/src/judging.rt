@@ -48,7 +48,7 @@ fn judge_failure(e: &Expectations, o: &Outcome) -> Option<Reason>
     }
 }
 
-/// Whether the text of an outcome is what each `expect fail` wants.
+/// Whether the text of an outcome is what each `expect fail` wants, of which it makes a text. The only error is want of memory.
 fn has_failure_text(
     alloc: Global,
     e: &Expectations,
@@ -131,7 +131,7 @@ fn bare_reason(warnings: bool, none: bool, noted: bool) -> Option<Reason>
 }
 
 /// The first reason among the lines on warnings, or else on info notes. Where there are no such lines, or none of them searches and
-/// they hold, it takes no memory, unless a note tells a quantile; else its only error is want of memory.
+/// they hold, it takes no memory; else its only error is want of memory.
 fn judge_notes(
     alloc: Global,
     warnings: bool,
@@ -248,7 +248,8 @@ fn first_reason(
 
 /// Whether the outcome of an evaluation is what is expected of it, and else the first reason why it isn't. `instant` tells that
 /// it was evaluated at one instant, and `searches` keeps the patterns that the expectations name. The only error is want of
-/// memory, which comes in the search of a pattern and in the finding of a reason.
+/// memory, which the text of a failure takes, lines that search a text, and the finding of a reason. A pass of an answer without such
+/// lines takes none, where notes stand in their order and no labels twice on a side, as in an answer and in a script.
 pub fn judge(
     alloc: Global,
     e: &Expectations,

@@ -1,69 +1,35 @@
 //! Notes against the lines that want them, without memory: the note of a line is looked up by halves, since notes stand in order.
-ghost use Rattle.label_set.specs.LabelText.{escaped_byte, quoted};
 ghost use Rattle.script_check.specs.NoteTexts.{is_of, note_text, texts_of};
 ghost use Rattle.script_check.specs.Noted.{AreNotesMarked, HasText, IsWantedIf};
 ghost use Rattle.script_check.specs.Verdicts.{PatternList, is_bare, meets, noted_holds};
 ghost use Rattle.std.specs.List.{AllByRecursion, list_all, list_any};
-ghost use Rattle.std.specs.Prelude.{◌≡◌, ◌<◌, ◌≤◌, ◌++◌, ℕ, Some, true, false, bytes_eq, length, slice_get, slice_index_or, IfSome, IsTrue};
+ghost use Rattle.std.specs.Prelude.{◌≡◌, ◌<◌, ◌≤◌, ℕ, Some, true, false, bytes_eq, length, slice_get, slice_index_or, IfSome, IsTrue};
 ghost use Rattle.step_table.specs.declared.marks.Note.{Note};
-ghost use Rattle.step_table.specs.declared.marks.Note.TheVariants.{BadBucket, NotCounter};
+ghost use Rattle.step_table.specs.declared.marks.Note.TheVariants.{BadBucket, NotCounter, QuantileRange};
 
-use crate::note_text::{BAD_BUCKET, FIXED_BUCKETS, NOT_COUNTER, has_texts, is_of};
+use crate::note_order::{against, told_by};
+use crate::note_text::{BAD_BUCKET, FIXED_BUCKETS, NOT_COUNTER, QUANTILE_RANGE, has_texts, is_of};
+use crate::pieces::{behind, is_quoted, is_same};
 use crate::tested::is_bare;
+use frac_text::spelled;
 use script_read::Wanted;
 use std::cmp::{Ordering, min};
 use step_table::Note;
+use xfrac::XFrac;
 
 /// So many notes are marked in one round, on the stack.
 const ROUND: usize = 65_536;
 
 // ---- the note with a text
 
-/// What stands behind the front of a text, if it begins so.
-fn behind<'a>(text: &'a [u8], front: &[u8]) -> Option<&'a [u8]>
-    ensures { IfSome result (λ rest. text.now ≡ front.now ++ rest.now) }
+/// Whether a text is that of a note on a quantile. The quantile is written on the stack.
+fn is_quantile_text(text: &[u8], quantile: &XFrac) -> bool
+    ensures { IsTrue result → note_text (QuantileRange quantile.now) ≡ text.now }
 {
-    if text.len() < front.len() {
-        return None;
+    match behind(text, QUANTILE_RANGE.as_bytes()) {
+        Some(rest) => is_same(rest, spelled(quantile).as_bytes()),
+        None => false,
     }
-    let (first, rest) = text.split_at(front.len());
-    if first == front { Some(rest) } else { None }
-}
-
-/// Whether two texts are the same.
-fn is_same(text: &[u8], other: &[u8]) -> bool
-    ensures { IsTrue result → text.now ≡ other.now }
-{
-    text == other
-}
-
-/// What stands behind a byte in quotes.
-fn behind_quoted(text: &[u8], byte: u8) -> Option<&[u8]>
-    ensures { IfSome result (λ rest. text.now ≡ escaped_byte byte ++ rest.now) }
-{
-    match byte {
-        b'\\' => behind(text, b"\\\\"),
-        b'"' => behind(text, b"\\\""),
-        b'\n' => behind(text, b"\\n"),
-        _ => behind(text, &[byte]),
-    }
-}
-
-/// Whether a text is this one in quotes.
-fn is_quoted(text: &[u8], plain: &[u8]) -> bool
-    ensures { IsTrue result → quoted plain.now ≡ text.now }
-{
-    let mut rest = match behind(text, b"\"") {
-        Some(rest) => rest,
-        None => return false,
-    };
-    for byte in plain {
-        match behind_quoted(rest, *byte) {
-            Some(more) => rest = more,
-            None => return false,
-        }
-    }
-    is_same(rest, b"\"")
 }
 
 /// Whether a text is that of a note on a bucket.
@@ -81,67 +47,53 @@ fn is_counter_text(text: &[u8], name: &[u8]) -> bool
     ensures { IsTrue result → note_text (NotCounter name.now) ≡ text.now }
 {
     match behind(text, NOT_COUNTER.as_bytes()) {
-        Some(rest) => name == rest,
+        Some(rest) => is_same(rest, name),
         None => false,
     }
 }
 
-/// Whether a text is a note's. Of a quantile it isn't told, since writing a number takes memory.
+/// Whether a text is a note's.
 fn is_text_of(note: &Note, text: &[u8]) -> bool
     ensures { IsTrue result → note_text note.now ≡ text.now }
 {
     match note {
-        Note::QuantileRange(_) => false,
+        Note::QuantileRange(quantile) => is_quantile_text(text, quantile),
         Note::BadBucket(bound) => is_bucket_text(text, bound.as_str().as_bytes()),
         Note::NotCounter(name) => is_counter_text(text, name.as_str().as_bytes()),
         Note::FixedBuckets => FIXED_BUCKETS.as_bytes() == text,
     }
 }
 
-/// What stands between the first byte and the last one.
-fn inner(text: &[u8]) -> &[u8] {
-    if text.len() < 2 {
-        text
+/// A place, if the note there has a text.
+fn place_if_told(notes: &[Note], place: usize, text: &[u8]) -> Option<usize>
+    requires { place < length notes.now }
+    ensures within { IfSome result (λ found. found < length notes.now) }
+    ensures has { IfSome result (λ found. HasText text.now (slice_get notes.now found)) }
+{
+    if is_text_of(&notes[place], text) {
+        Some(place)
     } else {
-        &text[1..text.len() - 1]
+        None
     }
 }
 
-/// A note against a text in the order of notes. What is found by it is looked at again, so nothing is promised of it.
-fn against(note: &Note, text: &[u8]) -> Ordering {
-    match note {
-        Note::QuantileRange(_) => Ordering::Less,
-        Note::BadBucket(bound) => match behind(text, BAD_BUCKET.as_bytes()) {
-            Some(rest) => bound.as_str().as_bytes().cmp(inner(rest)),
-            None => Ordering::Less,
-        },
-        Note::NotCounter(name) => match behind(text, NOT_COUNTER.as_bytes()) {
-            Some(rest) => name.as_str().as_bytes().cmp(rest),
-            None if text == FIXED_BUCKETS.as_bytes() => Ordering::Less,
-            None => Ordering::Greater,
-        },
-        Note::FixedBuckets if text == FIXED_BUCKETS.as_bytes() => Ordering::Equal,
-        Note::FixedBuckets => Ordering::Greater,
-    }
-}
-
-/// The place of a note with a text. It is found where notes stand in order and it is no quantile's.
+/// The place of a note with a text. It is found where notes stand in order.
 fn place_of_text(notes: &[Note], text: &[u8]) -> Option<usize>
     ensures within { IfSome result (λ place. place < length notes.now) }
     ensures has { IfSome result (λ place. HasText text.now (slice_get notes.now place)) }
 {
+    let told = match told_by(text) {
+        Some(told) => told,
+        None => return None,
+    };
     let mut low = 0;
     let mut high = notes.len();
     while low < high {
         let middle = low + (high - low) / 2;
-        let note = &notes[middle];
-        if is_text_of(note, text) {
-            return Some(middle);
-        }
-        if against(note, text) == Ordering::Less {
-            low = middle + 1;
-        } else {
-            high = middle;
+        match against(&notes[middle], &told) {
+            Ordering::Less => low = middle + 1,
+            Ordering::Equal => return place_if_told(notes, middle, text),
+            Ordering::Greater => high = middle,
         }
     }
     None
@@ -249,7 +201,7 @@ fn has_bare(lines: &[Wanted]) -> bool
 }
 
 /// Whether each line holds of the warnings, or else of the info notes, and each of these is what one of the lines wants. It is
-/// told without memory, and neither of lines that search nor of quantiles.
+/// told without memory, and not of lines that search.
 pub fn agree_with_notes(warnings: bool, notes: &[Note], lines: &[Wanted]) -> bool
     ensures noted { IsTrue result → (kept : PatternList) → noted_holds kept lines.now (texts_of warnings notes.now) ≡ true }
     ensures silent { IsTrue result → (kept : PatternList) → list_all (λ note. list_any (meets kept note) lines.now) (texts_of warnings notes.now) ≡ true }

@@ -1,13 +1,14 @@
 //! Whether the series of an answer are those that are expected.
 ghost use Rattle.script_check.specs.Lookups.{HasSeries, HasValues};
-ghost use Rattle.script_check.specs.Series.{differs, differs_from, extra_reason, first_apart, first_value, is_apart, is_differing, is_lacking, are_near, least, lesser, misplaced, missing_reason, order_reason, placed_reason, scalar_in, scalar_reason, soonest, soonest_of, sooner, times, value_at, value_reason};
+ghost use Rattle.script_check.specs.Series.{Agrees, differs, differs_from, extra_reason, first_apart, first_value, is_apart, is_differing, is_lacking, are_near, least, lesser, misplaced, missing_reason, order_reason, placed_reason, scalar_in, scalar_reason, soonest, soonest_of, sooner, times, value_at, value_reason};
 ghost use Rattle.script_check.specs.Verdicts.{series_reason};
 ghost use Rattle.promql_meaning.specs.declared.answer.Point.{Point};
 ghost use Rattle.promql_meaning.specs.declared.answer.ResultSeries.{ResultSeries};
-ghost use Rattle.std.specs.Prelude.{◌≡◌, filter, option_map, IfOk, List};
+ghost use Rattle.std.specs.Prelude.{◌≡◌, filter, option_map, IfOk, IsTrue, List};
 
 use crate::beside::agree_by_lines;
 use crate::paired::agree_in_pairs;
+use crate::rounds::agree_in_rounds;
 use crate::verdict::Reason;
 use label_set::Labels;
 use promql_meaning::{Point, ResultSeries};
@@ -283,8 +284,16 @@ fn placed_reason(
     }
 }
 
-/// The first reason why series aren't those that are expected, if there is one. Series that agree are compared without memory where
-/// the lines or the answer rise by their labels; else the only error is want of memory.
+/// Whether series are the expected ones, in whatever order, with near values. It is told without memory, and only where no labels
+/// stand twice on a side.
+fn agree(wanted: &[ResultSeries], got: &[ResultSeries]) -> bool
+    ensures { IsTrue result → Agrees wanted.now got.now }
+{
+    agree_in_pairs(wanted, got) || agree_in_rounds(wanted, got)
+}
+
+/// The first reason why series aren't those that are expected, if there is one. Series that agree, of which no labels stand twice on
+/// a side, are compared without memory; else the only error is want of memory.
 pub fn judge_series(
     alloc: Global,
     ordered: bool,
@@ -296,7 +305,7 @@ pub fn judge_series(
     if agree_by_lines(wanted, got) {
         return Ok(None);
     }
-    if agree_in_pairs(wanted, got) {
+    if agree(wanted, got) {
         return placed_reason(ordered, wanted, got);
     }
     let lines = by_labels(alloc, wanted)?;

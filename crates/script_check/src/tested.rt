@@ -17,7 +17,7 @@ use std::str;
 const MOST_PATTERNS: usize = 32;
 
 /// The bytes as a text, if they are one.
-fn text_in(bytes: &[u8]) -> Option<&str>
+pub fn text_in(bytes: &[u8]) -> Option<&str>
     ensures { MatchOption result (is_utf8 bytes.now ≡ false) (λ text. (is_utf8 bytes.now ≡ true) × (text.now ≡ bytes.now)) }
 {
     match str::from_utf8(bytes) {

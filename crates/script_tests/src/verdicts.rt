@@ -4,22 +4,26 @@ ghost use Rattle.std.specs.Prelude.{IfOk};
 
 use crate::rows::rows_hold;
 use frac_text::write_number;
-use label_set::{Items, Labels};
+use label_set::{Items, Labels, Text};
 use match_rule::{PatternRoom, Patterns};
 use promql_ast::QueryRefusal;
 use promql_meaning::{Answer, Outcome, Point, ResultSeries};
-use script_check::{Reason, Verdict, append_outcome, judge, scripts_keep_their_patterns};
+use script_check::{
+    Reason, Verdict, append_note, append_outcome, judge, scripts_keep_their_patterns,
+};
 use script_read::{Expectations, Expected, Script, What, read};
 use std::alloc::{AllocError, Global};
+use std::str;
 use std::test::Fail;
+use step_table::{Mark, Note};
 use ticks::Ms;
-use xfrac::{XFrac, whole};
+use xfrac::{XFrac, of, whole};
 
 // ---- rows, whose verdicts were worked out from the rules
 
 /// Outcomes that no small script has. A verdict, then `i` for an instant at 1 s or `r` for a range from 0 to 2 s and the lines
 /// behind the evaluation, and then the outcome: `vector` or `scalar`, and its series by their values from 0, or at the instant; or
-/// a failure. A line feed is written `¶`.
+/// a failure, `clash` with the labels that clash. A line feed is written `¶`.
 const JUDGED: &str = r##"pass§r¶expect fail§rows
 pass§r¶expect fail msg: too many rows§rows
 expected a failure§r¶expect fail regex: .*§scalar¶{} 1
@@ -41,6 +45,25 @@ pass§i¶x 1¶y 2§vector¶y 2¶x 1
 pass§i¶y 1¶x 2¶z 3§vector¶z 3¶x 2¶y 1
 y at 1000 expected 1 got 3§i¶y 1¶x 2§vector¶x 2¶y 3
 missing y§i¶y 1¶x 2§vector¶x 2¶z 1
+pass§i¶expect ordered¶y 1¶x 2¶z 3§vector¶y 1¶x 2¶z 3
+pass§i¶y 1¶x 2¶z 3§vector¶y 1¶z 3¶x 2
+another reason§i¶expect ordered¶y 1¶x 2¶z 3§vector¶y 1¶z 3¶x 2
+z at 1000 expected 3 got 4§i¶expect ordered¶y 1¶x 2¶z 3§vector¶y 1¶x 2¶z 4
+missing z§i¶expect ordered¶y 1¶x 2¶z 3§vector¶y 1¶x 2¶zz 3
+pass§r¶expect fail msg: UnknownFunction fo at 17¶expect fail§unknown
+failure text UnknownFunction fo at 17§r¶expect fail msg: UnknownFunction fo at 1§unknown
+failure text UnknownFunction fo at 17§r¶expect fail msg: UnknownFunction foo at 17§unknown
+pass§r¶expect fail msg: WrongType at 4294967295§type
+failure text WrongType at 4294967295§r¶expect fail msg: WrongType at 42949672950§type
+pass§r¶expect fail msg: irrational result§irrational
+failure text irrational result§r¶expect fail msg: irrational results§irrational
+pass§r¶expect fail msg: vector cannot contain metrics with the same labelset: {}§clash¶{}
+pass§r¶expect fail msg: vector cannot contain metrics with the same labelset: x§clash¶x
+pass§r¶expect fail msg: vector cannot contain metrics with the same labelset: a:b{l="v",m="w"}§clash¶a:b{l="v",m="w"}
+pass§r¶expect fail msg: vector cannot contain metrics with the same labelset: {"x y","l m"="v",n="a\\b\"c"}§clash¶{"x y","l m"="v",n="a\\b\"c"}
+failure text vector cannot contain metrics with the same labelset: x{l="v"}§r¶expect fail msg: vector cannot contain metrics with the same labelset: x{l="v"§clash¶x{l="v"}
+failure text vector cannot contain metrics with the same labelset: x§r¶expect fail msg: vector cannot contain metrics with the same labelset: x{}§clash¶x
+failure text vector cannot contain metrics with the same labelset: {l="v"}§r¶expect fail msg: vector cannot contain metrics with the same labelset: {"l"="v"}§clash¶{l="v"}
 "##;
 
 // ---- what a row says
@@ -89,19 +112,42 @@ fn series(alloc: Global, range: &str, lines: &str) -> Result<Items<ResultSeries>
 }
 
 /// An outcome that is no answer.
-fn failure(kind: &str) -> Outcome {
+fn failure(alloc: Global, kind: &str) -> Result<Outcome, Fail> {
     match kind {
-        "long" => Outcome::Refused(QueryRefusal::TooLong(0)),
-        "type" => Outcome::Refused(QueryRefusal::WrongType(4294967295)),
-        _ => Outcome::TooManyRows { at: Ms(1000) },
+        "long" => Ok(Outcome::Refused(QueryRefusal::TooLong(0))),
+        "type" => Ok(Outcome::Refused(QueryRefusal::WrongType(4294967295))),
+        "unknown" => Ok(Outcome::Refused(QueryRefusal::UnknownFunction(
+            17,
+            Text::of(alloc, "fo")?,
+        ))),
+        "irrational" => Ok(Outcome::Failed {
+            at: Ms(1000),
+            mark: Mark::Irrational,
+        }),
+        _ => Ok(Outcome::TooManyRows { at: Ms(1000) }),
+    }
+}
+
+/// A failure of rows that came to share the labels of the first one of some series.
+fn clash(all: &Items<ResultSeries>) -> Result<Outcome, Fail> {
+    match all.as_slice() {
+        [first, ..] => Ok(Outcome::Failed {
+            at: Ms(1000),
+            mark: Mark::SameLabelset(first.labels.copy()?),
+        }),
+        [] => Err("no labels".into()),
     }
 }
 
 /// An outcome: its kind, and its series behind it.
 fn outcome(alloc: Global, range: &str, text: &str) -> Result<Outcome, Fail> {
     let (kind, lines) = text.split_once("¶").unwrap_or((text, ""));
+    if kind == "clash" {
+        let line = format!(in alloc; "{lines} _x3")?;
+        return clash(&series(alloc, range, line.as_str())?);
+    }
     if kind != "vector" && kind != "scalar" {
-        return Ok(failure(kind));
+        return failure(alloc, kind);
     }
     Ok(Outcome::Answer(Answer {
         scalar: kind == "scalar",
@@ -215,7 +261,7 @@ fn is_judged(alloc: Global, row: &str) -> Result<bool, Fail> {
 
 #[test]
 fn verdicts_are_those_of_the_rules(rt: HostRuntime) -> Result<(), Fail> {
-    rows_hold(rt.alloc(), JUDGED, 21, is_judged)
+    rows_hold(rt.alloc(), JUDGED, 40, is_judged)
 }
 
 fn numbered_labels(alloc: Global, k: u32) -> Result<Labels, Fail> {
@@ -244,7 +290,7 @@ fn shuffled(alloc: Global, count: u32, stride: u32) -> Result<Items<ResultSeries
 }
 
 /// What expects so many series, and nothing else.
-fn expecting(alloc: Global, count: u32) -> Result<Expectations, Fail>
+fn expecting(alloc: Global, count: u32, stride: u32, ordered: bool) -> Result<Expectations, Fail>
     ensures { (kept : PatternList) → IfOk result (λ e. HasPatterns kept e) }
 {
     Ok(Expectations {
@@ -253,12 +299,12 @@ fn expecting(alloc: Global, count: u32) -> Result<Expectations, Fail>
         no_warn: false,
         info: Items::new(alloc),
         no_info: false,
-        ordered: false,
-        result: Expected::Rows(shuffled(alloc, count, 1)?),
+        ordered,
+        result: Expected::Rows(shuffled(alloc, count, stride)?),
     })
 }
 
-/// An answer of so many series in another order.
+/// An answer of so many series in an order of its own.
 fn answering(alloc: Global, count: u32) -> Result<Outcome, Fail> {
     Ok(Outcome::Answer(Answer {
         scalar: false,
@@ -269,11 +315,83 @@ fn answering(alloc: Global, count: u32) -> Result<Outcome, Fail> {
 
 #[test]
 fn judges_40000_series(rt: HostRuntime) -> Result<(), Fail> {
-    let expected = expecting(rt.alloc(), 40_000)?;
+    let expected = expecting(rt.alloc(), 40_000, 1, false)?;
     let got = answering(rt.alloc(), 40_000)?;
     let mut room = PatternRoom::new(rt.alloc())?;
     let mut searches = Patterns::new(rt.alloc(), &mut room);
     let verdict = judge(rt.alloc(), &expected, true, &got, &mut searches)?;
     assert_eq!(rt; verdict, Verdict::Pass);
+    Ok(())
+}
+
+/// Both sides stand in one order, which isn't that of their labels, and are more than are compared in one round.
+#[test]
+fn judges_70000_series_in_order(rt: HostRuntime) -> Result<(), Fail> {
+    let expected = expecting(rt.alloc(), 70_000, 17_389, true)?;
+    let got = answering(rt.alloc(), 70_000)?;
+    let mut room = PatternRoom::new(rt.alloc())?;
+    let mut searches = Patterns::new(rt.alloc(), &mut room);
+    let verdict = judge(rt.alloc(), &expected, true, &got, &mut searches)?;
+    assert_eq!(rt; verdict, Verdict::Pass);
+    Ok(())
+}
+
+// ---- notes on quantiles
+
+/// The quantile of a number: a decimal where that is even, else a fraction. They rise in the order of notes.
+fn quantile(k: u32) -> Result<XFrac, Fail> {
+    let denominator = if k % 2 == 0 { 2 } else { 3 };
+    Ok(
+        of(i128::from(k) * 6 + 5, denominator)
+            .ok()
+            .ok_or("overflow")?,
+    )
+}
+
+/// Lines that want the notes on so many quantiles, the last one first.
+fn wanting(alloc: Global, count: u32) -> Result<Vec<u8>, Fail> {
+    let mut lines = Vec::new(alloc);
+    let mut left = count;
+    while left > 0 {
+        left -= 1;
+        push(&mut lines, "expect warn msg: ")?;
+        append_note(&Note::QuantileRange(quantile(left)?), &mut lines)?;
+        push(&mut lines, "\n")?;
+    }
+    Ok(lines)
+}
+
+/// An answer with notes on so many quantiles.
+fn noted(alloc: Global, count: u32) -> Result<Outcome, Fail> {
+    let mut notes = Items::new(alloc);
+    for k in 0..count {
+        notes.push(Note::QuantileRange(quantile(k)?))?;
+    }
+    Ok(Outcome::Answer(Answer {
+        scalar: false,
+        series: Items::new(alloc),
+        notes,
+    }))
+}
+
+/// The verdict on notes on so many quantiles where those on so many are expected.
+fn judged_notes(alloc: Global, wanted: u32, got: u32) -> Result<Verdict, Fail> {
+    let lines = wanting(alloc, wanted)?;
+    let lines = str::from_utf8(lines.as_slice()).ok().ok_or("no text")?;
+    let mut room = PatternRoom::new(alloc)?;
+    let mut searches = Patterns::new(alloc, &mut room);
+    let expected = expectations(alloc, "instant at 1", lines, &mut searches)?;
+    let got = noted(alloc, got)?;
+    Ok(judge(alloc, &expected, true, &got, &mut searches)?)
+}
+
+#[test]
+fn judges_2000_notes_on_quantiles(rt: HostRuntime) -> Result<(), Fail> {
+    let verdict = judged_notes(rt.alloc(), 2_000, 2_000)?;
+    assert_eq!(rt; verdict, Verdict::Pass);
+    let verdict = judged_notes(rt.alloc(), 2_000, 1_999)?;
+    assert_eq!(rt; verdict, Verdict::Fail(Reason::NoWarning));
+    let verdict = judged_notes(rt.alloc(), 1_999, 2_000)?;
+    assert_eq!(rt; verdict, Verdict::Fail(Reason::Warned));
     Ok(())
 }
