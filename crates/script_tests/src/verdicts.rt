@@ -8,16 +8,13 @@ use label_set::{Items, Labels, Text};
 use match_rule::{PatternRoom, Patterns};
 use promql_ast::QueryRefusal;
 use promql_meaning::{Answer, Outcome, Point, ResultSeries};
-use script_check::{
-    Reason, Verdict, append_note, append_outcome, judge, scripts_keep_their_patterns,
-};
+use script_check::{Reason, Verdict, append_outcome, judge, scripts_keep_their_patterns};
 use script_read::{Expectations, Expected, Script, What, read};
 use std::alloc::{AllocError, Global};
-use std::str;
 use std::test::Fail;
-use step_table::{Mark, Note};
+use step_table::Mark;
 use ticks::Ms;
-use xfrac::{XFrac, of, whole};
+use xfrac::{XFrac, whole};
 
 // ---- rows, whose verdicts were worked out from the rules
 
@@ -333,65 +330,5 @@ fn judges_70000_series_in_order(rt: HostRuntime) -> Result<(), Fail> {
     let mut searches = Patterns::new(rt.alloc(), &mut room);
     let verdict = judge(rt.alloc(), &expected, true, &got, &mut searches)?;
     assert_eq!(rt; verdict, Verdict::Pass);
-    Ok(())
-}
-
-// ---- notes on quantiles
-
-/// The quantile of a number: a decimal where that is even, else a fraction. They rise in the order of notes.
-fn quantile(k: u32) -> Result<XFrac, Fail> {
-    let denominator = if k % 2 == 0 { 2 } else { 3 };
-    Ok(
-        of(i128::from(k) * 6 + 5, denominator)
-            .ok()
-            .ok_or("overflow")?,
-    )
-}
-
-/// Lines that want the notes on so many quantiles, the last one first.
-fn wanting(alloc: Global, count: u32) -> Result<Vec<u8>, Fail> {
-    let mut lines = Vec::new(alloc);
-    let mut left = count;
-    while left > 0 {
-        left -= 1;
-        push(&mut lines, "expect warn msg: ")?;
-        append_note(&Note::QuantileRange(quantile(left)?), &mut lines)?;
-        push(&mut lines, "\n")?;
-    }
-    Ok(lines)
-}
-
-/// An answer with notes on so many quantiles.
-fn noted(alloc: Global, count: u32) -> Result<Outcome, Fail> {
-    let mut notes = Items::new(alloc);
-    for k in 0..count {
-        notes.push(Note::QuantileRange(quantile(k)?))?;
-    }
-    Ok(Outcome::Answer(Answer {
-        scalar: false,
-        series: Items::new(alloc),
-        notes,
-    }))
-}
-
-/// The verdict on notes on so many quantiles where those on so many are expected.
-fn judged_notes(alloc: Global, wanted: u32, got: u32) -> Result<Verdict, Fail> {
-    let lines = wanting(alloc, wanted)?;
-    let lines = str::from_utf8(lines.as_slice()).ok().ok_or("no text")?;
-    let mut room = PatternRoom::new(alloc)?;
-    let mut searches = Patterns::new(alloc, &mut room);
-    let expected = expectations(alloc, "instant at 1", lines, &mut searches)?;
-    let got = noted(alloc, got)?;
-    Ok(judge(alloc, &expected, true, &got, &mut searches)?)
-}
-
-#[test]
-fn judges_2000_notes_on_quantiles(rt: HostRuntime) -> Result<(), Fail> {
-    let verdict = judged_notes(rt.alloc(), 2_000, 2_000)?;
-    assert_eq!(rt; verdict, Verdict::Pass);
-    let verdict = judged_notes(rt.alloc(), 2_000, 1_999)?;
-    assert_eq!(rt; verdict, Verdict::Fail(Reason::NoWarning));
-    let verdict = judged_notes(rt.alloc(), 1_999, 2_000)?;
-    assert_eq!(rt; verdict, Verdict::Fail(Reason::Warned));
     Ok(())
 }
