@@ -50,7 +50,7 @@ fn is_window(windows: &Windows<'_>, i: usize, at: Ms, row: &Row) -> bool {
 }
 
 /// Whether the windows that are lent are those of the rows of a step, in their order.
-pub fn are_windows(windows: &Windows<'_>, at: Ms, step: &Step) -> bool {
+fn are_windows(windows: &Windows<'_>, at: Ms, step: &Step) -> bool {
     let rows = step.table.rows.as_slice();
     if windows.len() != rows.len() || !windows.marks().is_same(&step.marks) {
         return false;

@@ -4,8 +4,6 @@
 #[cfg(test)]
 mod delivered;
 #[cfg(test)]
-mod filters;
-#[cfg(test)]
 mod gathers;
 #[cfg(test)]
 mod no_engine;
