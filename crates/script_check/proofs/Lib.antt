@@ -2,6 +2,7 @@ pub mod Agreements
 pub mod BareLines
 pub mod Holding
 pub mod Kept
+pub mod LabelTexts
 pub mod LineByLine
 pub mod Matches
 pub mod Pairs

@@ -4,6 +4,7 @@ ghost use Rattle.script_read.specs.Lines.{is_empty};
 ghost use Rattle.std.specs.List.{list_all, list_any};
 ghost use Rattle.std.specs.Prelude.{◌≡◌, not, true, IfOk, IsTrue};
 
+use crate::failure_text::meets_lines;
 use crate::note_text::{has_texts, texts_of};
 use crate::noted::agree_with_notes;
 use crate::outcome_text::text_of;
@@ -48,7 +49,8 @@ fn judge_failure(e: &Expectations, o: &Outcome) -> Option<Reason>
     }
 }
 
-/// Whether the text of an outcome is what each `expect fail` wants, of which it makes a text. The only error is want of memory.
+/// Whether the text of an outcome is what each `expect fail` wants. Where it is and none of them searches, it takes no memory; else
+/// its only error is want of memory.
 fn has_failure_text(
     alloc: Global,
     e: &Expectations,
@@ -59,6 +61,9 @@ fn has_failure_text(
     ensures answer { IfOk result (λ b. b ≡ failure_text_holds searches.old e.now o.now) }
     ensures same { searches.new ≡ searches.old }
 {
+    if meets_lines(o, e.fail.as_slice()) {
+        return Ok(true);
+    }
     let text = text_of(alloc, o)?;
     meets_all(text.as_slice(), e.fail.as_slice(), searches)
 }
@@ -248,8 +253,8 @@ fn first_reason(
 
 /// Whether the outcome of an evaluation is what is expected of it, and else the first reason why it isn't. `instant` tells that
 /// it was evaluated at one instant, and `searches` keeps the patterns that the expectations name. The only error is want of
-/// memory, which the text of a failure takes, lines that search a text, and the finding of a reason. A pass of an answer without such
-/// lines takes none, where notes stand in their order and no labels twice on a side, as in an answer and in a script.
+/// memory, which lines that search a text take, and the finding of a reason. A pass without such lines takes none, where notes stand
+/// in their order and no labels twice on a side, as in an answer and in a script.
 pub fn judge(
     alloc: Global,
     e: &Expectations,

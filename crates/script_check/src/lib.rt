@@ -3,8 +3,10 @@
 #![tactic(auto)]
 
 mod beside;
+mod failure_text;
 mod joined;
 mod judging;
+mod label_pieces;
 mod laws;
 mod note_order;
 mod note_text;

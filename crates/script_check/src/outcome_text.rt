@@ -9,6 +9,18 @@ use promql_meaning::Outcome;
 use std::alloc::{AllocError, Global};
 use step_table::Mark;
 
+/// What stands before the labels that two rows have.
+pub const SAME_LABELSET: &str = "vector cannot contain metrics with the same labelset: ";
+
+/// What stands before the labels under which a side that must have one row has two.
+pub const DUPLICATE_ONE_SIDE: &str = "found duplicate series for the match group ";
+
+/// What stands before the labels under which several rows match one though no side was said to be the many.
+pub const IMPLICIT_MANY_TO_ONE: &str = "many-to-one matching must be explicit for ";
+
+/// What stands before the labels that two rows of a match would have.
+pub const DUPLICATE_RESULT: &str = "multiple matches for labels ";
+
 /// Appends the function that a refusal names, with a blank before it, if it names one.
 fn append_function(refusal: &QueryRefusal, into: &mut Vec<u8>) -> Result<(), AllocError>
     ensures { OnOk result (into.new.items ≡ into.old.items ++ function_text refusal.now) }
@@ -53,26 +65,10 @@ fn append_mark(mark: &Mark, into: &mut Vec<u8>) -> Result<(), AllocError>
     match mark {
         Mark::Overflow => into.extend_from_slice(b"overflow"),
         Mark::Irrational => into.extend_from_slice(b"irrational result"),
-        Mark::SameLabelset(labels) => append_labelled(
-            "vector cannot contain metrics with the same labelset: ",
-            labels,
-            into,
-        ),
-        Mark::DuplicateOneSide(labels) => append_labelled(
-            "found duplicate series for the match group ",
-            labels,
-            into,
-        ),
-        Mark::ImplicitManyToOne(labels) => append_labelled(
-            "many-to-one matching must be explicit for ",
-            labels,
-            into,
-        ),
-        Mark::DuplicateResult(labels) => append_labelled(
-            "multiple matches for labels ",
-            labels,
-            into,
-        ),
+        Mark::SameLabelset(labels) => append_labelled(SAME_LABELSET, labels, into),
+        Mark::DuplicateOneSide(labels) => append_labelled(DUPLICATE_ONE_SIDE, labels, into),
+        Mark::ImplicitManyToOne(labels) => append_labelled(IMPLICIT_MANY_TO_ONE, labels, into),
+        Mark::DuplicateResult(labels) => append_labelled(DUPLICATE_RESULT, labels, into),
         Mark::OutOfCalendar => into.extend_from_slice(b"time outside the calendar"),
     }
 }
