@@ -6,9 +6,13 @@ pub mod Lasts
 pub mod Limits
 pub mod Lowered
 pub mod Lowers
+pub mod PartKept
+pub mod PartLowers
+pub mod PartTypes
 pub mod Placements
 pub mod Placing
 pub mod Showing
 pub mod Steady
+pub mod Taking
 pub mod Typings
 pub mod Valid

@@ -1,6 +1,7 @@
 pub mod Laws
 pub mod Lowering
 pub mod Onces
+pub mod PartExprs
 pub mod Placements
 pub mod PlanFolds
 pub mod PlanMeaning

@@ -1,7 +1,8 @@
-//! Plans of queries: what they mean, and the plan of a typed tree.
+//! Plans of queries: what they mean, the plan of a typed tree, and the expression of a plan.
 #![tactic(auto)]
 
 mod copying;
+mod exprs;
 mod laws;
 mod lowering;
 mod nodes;
@@ -10,6 +11,7 @@ mod parts;
 mod steadiness;
 mod typed_plan;
 
+pub use exprs::part_expr;
 pub use laws::{
     checked_trees_are_within_limits, kept_patterns_are_placed, onces_keep_meanings,
     onces_keep_validity, plans_mean_their_trees, steady_plans_stay,
