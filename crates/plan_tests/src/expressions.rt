@@ -76,12 +76,13 @@ fn asked(alloc: Global, text: &str) -> Result<Vec<u8>, Fail> {
         return Err(Fail::from("no type"));
     };
     let plan = lower(alloc, &typed)?;
+    let part = match &plan.node {
+        PlanNode::Once(inner) => inner.get(),
+        _ => &plan,
+    };
+    let expression = part_expr(alloc, part, &patterns)?;
     let mut written = Vec::new(alloc);
-    print(
-        &part_expr(alloc, &plan, &patterns)?,
-        &patterns,
-        &mut written,
-    )?;
+    print(&expression, &patterns, &mut written)?;
     Ok(written)
 }
 
