@@ -1,0 +1,9 @@
+pub mod Alike
+pub mod Filling
+pub mod Keeping
+pub mod Lists
+pub mod Making
+pub mod Opening
+pub mod Owing
+pub mod Places
+pub mod Turning
