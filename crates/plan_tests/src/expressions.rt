@@ -1,6 +1,6 @@
 //! Texts without parentheses in the form that expressions are printed in, a line each. What an engine is asked for means what the
 //! text means, so the expression of its plan is printed as the text itself.
-use logical_plan::{PlanNode, lower, part_expr};
+use logical_plan::{Plan, PlanNode, lower, part_expr};
 use match_rule::{PatternRoom, Patterns};
 use promql_parse::parse;
 use promql_print::print;
@@ -65,6 +65,14 @@ x or y
 x unless on () y
 x == y";
 
+/// What is computed once where that is all of a plan; else the plan.
+fn inside(plan: &Plan) -> &Plan {
+    match &plan.node {
+        PlanNode::Once(inner) => inner.get(),
+        _ => plan,
+    }
+}
+
 /// The text of the expression of the plan of a text, or of the part that is computed once where that is all of it.
 fn asked(alloc: Global, text: &str) -> Result<Vec<u8>, Fail> {
     let mut room = PatternRoom::new(alloc)?;
@@ -76,11 +84,7 @@ fn asked(alloc: Global, text: &str) -> Result<Vec<u8>, Fail> {
         return Err(Fail::from("no type"));
     };
     let plan = lower(alloc, &typed)?;
-    let part = match &plan.node {
-        PlanNode::Once(inner) => inner.get(),
-        _ => &plan,
-    };
-    let expression = part_expr(alloc, part, &patterns)?;
+    let expression = part_expr(alloc, inside(&plan), &patterns)?;
     let mut written = Vec::new(alloc);
     print(&expression, &patterns, &mut written)?;
     Ok(written)
