@@ -79,6 +79,13 @@ impl<'r> Kept<'r> {
         self.text.as_str()
     }
 
+    /// Whether it has to match a whole value.
+    pub(crate) fn is_whole(&self) -> bool
+        ensures { result ≡ self.now.0 }
+    {
+        self.whole
+    }
+
     /// Whether it is the pattern of a text.
     pub(crate) fn is(&self, whole: bool, text: &str) -> bool
         ensures { result ≡ is_pattern (whole, text.now) self.now }

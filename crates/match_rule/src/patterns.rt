@@ -94,6 +94,14 @@ impl<'r> Patterns<'r> {
         self.kept[id.0 as usize].text()
     }
 
+    /// Whether the pattern under a number has to match a whole value.
+    pub fn is_whole(&self, id: PatternId) -> bool
+        requires { id.0 < length self.now }
+        ensures { option_map (λ p. p.0) (slice_get self.now id.0) ≡ Some result }
+    {
+        self.kept[id.0 as usize].is_whole()
+    }
+
     /// The number of a pattern, if it is kept. It takes no memory.
     pub fn find(&self, whole: bool, text: &str) -> Option<PatternId>
         ensures there { IfSome result (λ id. slice_get self.now id.0 ≡ Some (whole, text.now)) }

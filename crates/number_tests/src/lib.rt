@@ -14,4 +14,6 @@ mod numbers;
 #[cfg(test)]
 mod texts;
 #[cfg(test)]
+mod times;
+#[cfg(test)]
 mod windows;

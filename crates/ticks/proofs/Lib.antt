@@ -1,5 +1,6 @@
 pub mod Edges
 pub mod Listing
+pub mod Near
 pub mod Spelled
 pub mod Steps
 pub mod Walks

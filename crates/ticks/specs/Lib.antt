@@ -3,6 +3,7 @@ pub mod Edges
 pub mod Grids
 pub mod Listed
 pub mod Moments
+pub mod Near
 pub mod Pairs
 pub mod Runs
 pub mod Spellings

@@ -2,6 +2,7 @@ ghost use Rattle.std.specs.Prelude.{◌≡◌, ℕ, ℤ, pos, ◌<◌, ◌^◌, 
 ghost use Rattle.ticks.specs.Durations.{IsDuration, duration_in};
 ghost use Rattle.ticks.specs.Grids.{IsInRange, IsNumbered, IsOnGrid};
 ghost use Rattle.ticks.specs.Listed.{EachWalkIsListed, FirstIsHead, ListsAreOne, NextIsBehind};
+ghost use Rattle.ticks.specs.Near.{GridsAreNear, InstantsAreTimes, SubqueriesStayNear};
 ghost use Rattle.ticks.specs.Spellings.{spelling};
 
 /// A law, with nothing to run: the spelling of a duration that isn't negative is read as that duration.
@@ -26,4 +27,12 @@ pub fn walks_are_listed()
     ensures no_other { ListsAreOne }
     ensures first { FirstIsHead }
     ensures next { NextIsBehind }
+{}
+
+/// A law, with nothing to run: each instant of a walk that leads to times is a time, a grid is near the time 0, and a walk over
+/// the multiples in ranges whose moments are near leads to times.
+pub fn walks_keep_to_times()
+    ensures times { InstantsAreTimes }
+    ensures grids { GridsAreNear }
+    ensures subqueries { SubqueriesStayNear }
 {}

@@ -1,5 +1,4 @@
 //! Times and durations, in whole milliseconds.
-//! Its rows of tests stand in its module `tests`.
 #![tactic(auto)]
 
 mod edge;
@@ -18,6 +17,7 @@ pub use edge::{closed_windows_have_their_edge, last_before};
 pub use grid::Grid;
 pub use laws::{
     durations_are_found, instants_are_numbered, spellings_are_durations, walks_are_listed,
+    walks_keep_to_times,
 };
 pub use moment::Ms;
 pub use read::read_duration;
@@ -26,6 +26,3 @@ pub use std::alloc::AllocError as Memory;
 pub use walk::{Walk, WalkMoment};
 pub use work::Work;
 pub use write::write_duration;
-
-#[cfg(test)]
-mod tests;

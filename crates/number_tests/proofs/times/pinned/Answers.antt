@@ -2,7 +2,7 @@ use Rattle.std.proofs.Common.{arith, subst, sym}
 use Rattle.std.proofs.lemmas.Int.{ints}
 use Rattle.ticks.specs.Walks.{LeadsToTimes}
 use Rattle.ticks.proofs.Walks.{pinned-leads}
-use Rattle.ticks.proofs.tests.pinned.Goals as goal
+use Rattle.number_tests.proofs.times.pinned.Goals as goal
 
 pub returns : goal.returns
 returns c =

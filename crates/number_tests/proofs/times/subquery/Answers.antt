@@ -3,7 +3,7 @@ use Rattle.std.specs.Prelude.{ℤ, pos, ◌+ℤ◌, ◌≤ℤ◌}
 use Rattle.std.proofs.lemmas.Int.{ints}
 use Rattle.ticks.specs.Walks.{IsInstant, LeadsToTimes}
 use Rattle.ticks.proofs.Walks.{near-instants, near-leads}
-use Rattle.ticks.proofs.tests.subquery.Goals as goal
+use Rattle.number_tests.proofs.times.subquery.Goals as goal
 
 pub returns-clause-times : goal.returns-clause-times
 returns-clause-times c =

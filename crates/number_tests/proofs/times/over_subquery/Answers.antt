@@ -3,7 +3,7 @@ use Rattle.std.specs.Prelude.{ℤ, pos, ◌+ℤ◌, ◌≤ℤ◌}
 use Rattle.std.proofs.lemmas.Int.{ints}
 use Rattle.ticks.specs.Walks.{IsInstant, LeadsToTimes}
 use Rattle.ticks.proofs.Walks.{near-leads}
-use Rattle.ticks.proofs.tests.over_subquery.Goals as goal
+use Rattle.number_tests.proofs.times.over_subquery.Goals as goal
 
 pub returns : goal.returns
 returns c =

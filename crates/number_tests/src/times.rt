@@ -1,13 +1,15 @@
-ghost use Rattle.std.specs.Prelude.{◌+◌, ◌^◌, ◌<◌, ℤ, pos, ◌+ℤ◌, ◌≤ℤ◌, IfOk};
-ghost use Rattle.ticks.specs.Walks.{IsInstant, LeadsToTimes};
+//! Durations, grids and walks.
+ghost use Rattle.std.specs.Prelude.{◌+◌, ◌^◌, ◌<◌, IfOk};
+ghost use Rattle.ticks.specs.Near.{AreNear};
+ghost use Rattle.ticks.specs.Walks.{LeadsToTimes};
 
-use crate::{
-    Grid, Ms, TickRefusal, Walk, WalkMoment, durations_are_found, instants_are_numbered,
-    read_duration, spellings_are_durations, write_duration,
-};
 use holders::Boxed;
 use std::alloc::{AllocError, Global};
 use std::test::Fail;
+use ticks::{
+    Grid, Ms, TickRefusal, Walk, WalkMoment, durations_are_found, instants_are_numbered,
+    read_duration, spellings_are_durations, walks_keep_to_times, write_duration,
+};
 
 // Each line is a text and the milliseconds of its duration, or why it is refused.
 const READ: &str = "0s=0
@@ -148,12 +150,13 @@ fn subquery(
     step: u16,
 ) -> Result<Walk, AllocError>
     requires times { LeadsToTimes outer }
-    requires near { (o : ℤ) → IsInstant outer o → (pos 0 ≤ℤ (o +ℤ pos (10 ^ 14))) × (o ≤ℤ pos (10 ^ 14)) }
+    requires near { AreNear (10 ^ 14) outer }
     requires range { 0 < range }
     requires step { 0 < step }
     ensures times { IfOk result (λ walk. LeadsToTimes walk) }
-    ensures near { IfOk result (λ walk. (t : ℤ) → IsInstant walk t → (pos 0 ≤ℤ (t +ℤ pos (10 ^ 14 + 2 ^ 41))) × (t ≤ℤ pos (10 ^ 14 + 2 ^ 41))) }
+    ensures near { IfOk result (λ walk. AreNear (10 ^ 14 + 2 ^ 41) walk) }
 {
+    walks_keep_to_times();
     let outer = Boxed::new(alloc, outer)?;
     Ok(Walk::Multiples {
         outer,
@@ -177,11 +180,12 @@ fn over_subquery(
     step: u16,
 ) -> Result<Walk, AllocError>
     requires times { LeadsToTimes outer }
-    requires near { (o : ℤ) → IsInstant outer o → (pos 0 ≤ℤ (o +ℤ pos (10 ^ 14 + 2 ^ 41))) × (o ≤ℤ pos (10 ^ 14 + 2 ^ 41)) }
+    requires near { AreNear (10 ^ 14 + 2 ^ 41) outer }
     requires range { 0 < range }
     requires step { 0 < step }
     ensures { IfOk result (λ walk. LeadsToTimes walk) }
 {
+    walks_keep_to_times();
     let outer = Boxed::new(alloc, outer)?;
     Ok(Walk::Multiples {
         outer,
@@ -210,6 +214,7 @@ fn pinned(
     requires step { 0 < step }
     ensures { IfOk result (λ walk. LeadsToTimes walk) }
 {
+    walks_keep_to_times();
     let outer = Boxed::new(alloc, outer)?;
     Ok(Walk::Multiples {
         outer,
@@ -279,6 +284,7 @@ fn subqueries_walk_over_multiples(rt: HostRuntime) -> Result<(), Fail> {
     for (start, end, step, offset, range, multiple, instants) in rows {
         if let Ok(grid) = Grid::of(Ms(start), Ms(end), Ms(step)) {
             assert!(rt; 0 < range && 0 < multiple);
+            walks_keep_to_times();
             let walk = subquery(rt.alloc(), Walk::Grid(grid), offset, false, range, multiple)?;
             assert_eq!(rt; listed(rt.alloc(), &walk)?.as_str(), instants);
         } else {
