@@ -337,6 +337,7 @@ fn subqueries_walk_over_subqueries(rt: HostRuntime) -> Result<(), Fail> {
         if let Ok(grid) = Grid::of(Ms(start), Ms(end), Ms(step)) {
             assert!(rt; 0 < range && 0 < multiple);
             assert!(rt; 0 < wide && 0 < apart);
+            walks_keep_to_times();
             let inner = subquery(rt.alloc(), Walk::Grid(grid), offset, false, range, multiple)?;
             let walk = over_subquery(rt.alloc(), inner, later, false, wide, apart)?;
             assert_eq!(rt; listed(rt.alloc(), &walk)?.as_str(), instants);
@@ -431,6 +432,7 @@ fn closed_subqueries_walk_over_their_edges(rt: HostRuntime) -> Result<(), Fail> 
         if let Ok(grid) = Grid::of(Ms(start), Ms(end), Ms(step)) {
             assert!(rt; 0 < range && 0 < multiple);
             assert!(rt; 0 < wide && 0 < apart);
+            walks_keep_to_times();
             let inner = subquery(
                 rt.alloc(),
                 Walk::Grid(grid),

@@ -1,19 +1,18 @@
-use Rattle.std.proofs.Common.{arith, subst, sym, ◌^◌}
-use Rattle.std.specs.Prelude.{ℤ, pos, ◌+ℤ◌, ◌≤ℤ◌}
+use Rattle.std.proofs.Common.{arith, subst, sym, ◌+◌, ◌^◌}
 use Rattle.std.proofs.lemmas.Int.{ints}
-use Rattle.ticks.specs.Walks.{IsInstant, LeadsToTimes}
-use Rattle.ticks.proofs.Walks.{near-instants, near-leads}
+use Rattle.ticks.specs.Near.{AreNear}
+use Rattle.ticks.specs.Walks.{LeadsToTimes}
+use Rattle.number_tests.proofs.Walked.{leads, stays}
 use Rattle.number_tests.proofs.times.subquery.Goals as goal
 
 pub returns-clause-times : goal.returns-clause-times
 returns-clause-times c =
-    near-leads c.in_ok-outer.outer (10 ^ 14) (omega arith)
-    (subst (λ z. (o : ℤ) → IsInstant z o → (pos 0 ≤ℤ (o +ℤ pos (10 ^ 14))) × (o ≤ℤ pos (10 ^ 14))) (sym c.in_ok-outer.ensures) c.requires.near) _ _ _ _
-    (omega (arith, ints)) (omega (arith, ints)) (omega (arith, ints, c.requires.range)) (omega (arith, ints)) (subst LeadsToTimes (sym c.in_ok-outer.ensures) c.requires.times)
+    leads c.walks_keep_to_times.ensures.subqueries c.in_ok-outer.outer (10 ^ 14) (omega arith) (subst (AreNear (10 ^ 14)) (sym c.in_ok-outer.ensures) c.requires.near)
+    (subst LeadsToTimes (sym c.in_ok-outer.ensures) c.requires.times) _ _ _ _ (omega (arith, ints)) (omega (arith, ints)) (omega (arith, ints, c.requires.range)) (omega (arith, ints))
     (omega (arith, ints, c.requires.step))
 
 pub returns-clause-near : goal.returns-clause-near
 returns-clause-near c =
-    near-instants c.in_ok-outer.outer (10 ^ 14) (omega arith)
-    (subst (λ z. (o : ℤ) → IsInstant z o → (pos 0 ≤ℤ (o +ℤ pos (10 ^ 14))) × (o ≤ℤ pos (10 ^ 14))) (sym c.in_ok-outer.ensures) c.requires.near) _ _ _ _
-    (omega (arith, ints)) (omega (arith, ints)) (omega (arith, ints, c.requires.range)) (omega (arith, ints))
+    stays c.walks_keep_to_times.ensures.subqueries c.in_ok-outer.outer (10 ^ 14) (omega arith) (subst (AreNear (10 ^ 14)) (sym c.in_ok-outer.ensures) c.requires.near)
+    (subst LeadsToTimes (sym c.in_ok-outer.ensures) c.requires.times) _ _ _ _ (omega (arith, ints)) (omega (arith, ints)) (omega (arith, ints, c.requires.range)) (omega (arith, ints))
+    (omega (arith, ints, c.requires.step))
