@@ -1,0 +1,134 @@
+-- What an engine of parted samples holds is the part that has its declared labels.
+use Rattle.std.proofs.Common.{◌≡◌, ◌∙◌, ℕ, Bool, true, false, cond, List, [], ◌∷◌, length, refl, sym, ap, subst, arith, Some, None}
+use Rattle.std.specs.Prelude.{Option, filter, if◌then◌else◌}
+use Rattle.std.specs.declared.cmp.Ordering.{Ordering}
+use Rattle.std.specs.declared.cmp.Ordering.TheVariants.{Less, Equal, Greater}
+use Rattle.std.specs.Ordering.{match_ordering, ordering_reverse}
+use Rattle.std.specs.BTreeMap.{insert_entry, is_at}
+use Rattle.std.specs.List.{AllByRecursion}
+use Rattle.std.specs.List.Sorted.{IsStrictlySortedBy}
+use Rattle.std.specs.Map.{keys_of, lookup}
+use Rattle.std.proofs.lemmas.Cmp.{tied_itself}
+use Rattle.std.proofs.lemmas.List.Kept.{IsStrictlySortedBy-filter}
+use Rattle.std.proofs.lemmas.Map.Entries.{lookup-filter-keys}
+use Rattle.label_set.specs.Entries.{keys_filter, recursion_map}
+use Rattle.label_set.specs.LabelEquality.{labels_eq}
+use Rattle.label_set.specs.LabelOrder.{by_labels, by_labels_sorted, labels_cmp_ties, labels_cmp_total, labels_eq_at}
+use Rattle.label_set.specs.Labels.{is_named, labels_cmp, metric_name}
+use Rattle.step_table.specs.Groups.{Names}
+use Rattle.promql_meaning.specs.Selecting.{AllSeries, Samples}
+use Rattle.parting_laws.specs.Parted.{Engine, HoldsItsOwn, Parted, declared_names, samples_under, takes}
+use Rattle.parting_laws.specs.PartLaws.{EnginesHoldParts, EnginesIgnoreName, IgnoresName, IsPartOf, NoEngineHasNone}
+use Rattle.parting_laws.proofs.Chosen.{mapped_along}
+use Rattle.parting_laws.proofs.Declared.{declared_left, is_equal, not_among}
+
+-- ---- look-ups in the order of labels
+
+same_names : (m n : Names) → is_at (labels_cmp m) n ≡ true → m ≡ n
+same_names m n e = labels_cmp_ties m n (is_equal (labels_cmp m n) e)
+
+put_same : (b : Bool) (v w : Samples) (o : Option Samples) → cond b (Some v) o ≡ cond b (Some v) (cond b (Some w) o)
+put_same true v w o = refl
+put_same false v w o = refl
+
+put_apart : (q k n : Names) (v w : Samples) (o : Option Samples) (b c : Bool) → is_at (labels_cmp q) k ≡ b → is_at (labels_cmp q) n ≡ c → labels_cmp k n ≡ Greater → cond c (Some w) (cond b (Some v) o) ≡ cond b (Some v) (cond c (Some w) o)
+put_apart q k n v w o true true e f g =
+    let tied : labels_cmp k n ≡ Equal = ap (λ z. labels_cmp z n) (sym (same_names q k e)) ∙ is_equal (labels_cmp q n) f in
+    absurd (cc)
+put_apart q k n v w o true false e f g = refl
+put_apart q k n v w o false true e f g = refl
+put_apart q k n v w o false false e f g = refl
+
+lookup_put : (q k : Names) (v : Samples) (es : AllSeries) → lookup (is_at (labels_cmp q)) (insert_entry labels_cmp es k v) ≡ cond (is_at (labels_cmp q) k) (Some v) (lookup (is_at (labels_cmp q)) es)
+lookup_put q k v [] = refl
+lookup_put q k v (e ∷ es) =
+    elim (labels_cmp k e.0) as (λ r. labels_cmp k e.0 ≡ r → lookup (is_at (labels_cmp q)) (match_ordering r ((k, v) ∷ e ∷ es) ((e.0, v) ∷ es) (e ∷ insert_entry labels_cmp es k v)) ≡ cond (is_at (labels_cmp q) k) (Some v) (cond (is_at (labels_cmp q) e.0) (Some e.1) (lookup (is_at (labels_cmp q)) es))) [
+      | Less ↦ λ h. refl
+      | Equal ↦ λ h.
+          let same : k ≡ e.0 = labels_cmp_ties k e.0 h in
+          put_same (is_at (labels_cmp q) e.0) v e.1 (lookup (is_at (labels_cmp q)) es) ∙ ap (λ (z : Names). cond (is_at (labels_cmp q) z) (Some v) (cond (is_at (labels_cmp q) e.0) (Some e.1) (lookup (is_at (labels_cmp q)) es))) (sym same)
+      | Greater ↦ λ h.
+          ap (λ o. cond (is_at (labels_cmp q) e.0) (Some e.1) o) (lookup_put q k v es) ∙ put_apart q k e.0 v e.1 (lookup (is_at (labels_cmp q)) es) (is_at (labels_cmp q) k) (is_at (labels_cmp q) e.0) refl refl h
+    ] refl
+
+-- series in the order of their labels hold under any labels what they held
+lookup_by_labels : (q : Names) (series : AllSeries) → lookup (is_at (labels_cmp q)) (by_labels series) ≡ lookup (is_at (labels_cmp q)) series
+lookup_by_labels q [] = refl
+lookup_by_labels q (s ∷ series) = lookup_put q s.0 s.1 (by_labels series) ∙ ap (λ o. cond (is_at (labels_cmp q) s.0) (Some s.1) o) (lookup_by_labels q series)
+
+under_at : (q : Names) (series : AllSeries) → lookup (is_at (labels_cmp q)) series ≡ samples_under series q
+under_at q series = λ i. lookup (λ (n : Names). labels_eq_at q n i) series
+
+-- ---- series in order with equal look-ups are the same
+
+none_past : (q : Names) (es : AllSeries) → AllByRecursion (λ k. labels_cmp q k ≡ Less) (keys_of es) → lookup (is_at (labels_cmp q)) es ≡ None
+none_past q [] a = refl
+none_past q (e ∷ es) a = rw a.0 (none_past q es a.1)
+
+none_before : (q : Names) (e : Names × Samples) (es : AllSeries) → labels_cmp q e.0 ≡ Less → AllByRecursion (λ k. labels_cmp e.0 k ≡ Less) (keys_of es) → lookup (is_at (labels_cmp q)) (e ∷ es) ≡ None
+none_before q e es l a = none_past q (e ∷ es) (l, recursion_map (λ k. labels_cmp e.0 k ≡ Less) (λ k. labels_cmp q k ≡ Less) (λ k m. labels_cmp_total.trans q e.0 k l m) (keys_of es) a)
+
+first_at : (e : Names × Samples) (es : AllSeries) → lookup (is_at (labels_cmp e.0)) (e ∷ es) ≡ Some e.1
+first_at e es = rw (tied_itself labels_cmp_total e.0) refl
+
+tails : (k : Names) (v w : Samples) (xs ys : AllSeries) → AllByRecursion (λ z. labels_cmp k z ≡ Less) (keys_of xs) → AllByRecursion (λ z. labels_cmp k z ≡ Less) (keys_of ys)
+    → ((q : Names) → lookup (is_at (labels_cmp q)) ((k, v) ∷ xs) ≡ lookup (is_at (labels_cmp q)) ((k, w) ∷ ys)) → (q : Names) → lookup (is_at (labels_cmp q)) xs ≡ lookup (is_at (labels_cmp q)) ys
+tails k v w xs ys a b e q = by (is_at (labels_cmp q) k) refl (e q)
+  where
+    by : (r : Bool) → is_at (labels_cmp q) k ≡ r → cond r (Some v) (lookup (is_at (labels_cmp q)) xs) ≡ cond r (Some w) (lookup (is_at (labels_cmp q)) ys) → lookup (is_at (labels_cmp q)) xs ≡ lookup (is_at (labels_cmp q)) ys
+    by true h f = subst (λ (z : Names). lookup (is_at (labels_cmp z)) xs ≡ lookup (is_at (labels_cmp z)) ys) (sym (same_names q k h)) (none_past k xs a ∙ sym (none_past k ys b))
+    by false h f = f
+
+same_series : (xs ys : AllSeries) → IsStrictlySortedBy labels_cmp (keys_of xs) → IsStrictlySortedBy labels_cmp (keys_of ys) → ((q : Names) → lookup (is_at (labels_cmp q)) xs ≡ lookup (is_at (labels_cmp q)) ys) → xs ≡ ys
+unfolding IsStrictlySortedBy
+same_series [] [] s t e = refl
+same_series [] (y ∷ ys) s t e = let f : None ≡ Some y.1 = e y.0 ∙ first_at y ys in absurd (cc)
+same_series (x ∷ xs) [] s t e = let f : None ≡ Some x.1 = sym (e x.0) ∙ first_at x xs in absurd (cc)
+same_series (x ∷ xs) (y ∷ ys) s t e = by (labels_cmp x.0 y.0) refl (same_series xs ys s.1 t.1)
+  where
+    by : (r : Ordering) → labels_cmp x.0 y.0 ≡ r → (((q : Names) → lookup (is_at (labels_cmp q)) xs ≡ lookup (is_at (labels_cmp q)) ys) → xs ≡ ys) → x ∷ xs ≡ y ∷ ys
+    by Less h rest = let f : Some x.1 ≡ None = sym (first_at x xs) ∙ e x.0 ∙ none_before x.0 y ys h t.0 in absurd (cc)
+    by Equal h rest =
+        let same : x.0 ≡ y.0 = labels_cmp_ties x.0 y.0 h in
+        let value : Some x.1 ≡ Some y.1 = sym (first_at x xs) ∙ e x.0 ∙ ap (λ (z : Names). lookup (is_at (labels_cmp z)) (y ∷ ys)) same ∙ first_at y ys in
+        let value' : x.1 ≡ y.1 = cc in
+        let behind : AllByRecursion (λ z. labels_cmp x.0 z ≡ Less) (keys_of ys) = subst (λ (k : Names). AllByRecursion (λ z. labels_cmp k z ≡ Less) (keys_of ys)) (sym same) t.0 in
+        let others : xs ≡ ys = rest (tails x.0 x.1 y.1 xs ys s.0 behind (λ q. e q ∙ ap (λ (k : Names). lookup (is_at (labels_cmp q)) ((k, y.1) ∷ ys)) (sym same))) in
+        λ i. (same i, value' i) ∷ others i
+    by Greater h rest =
+        let less : labels_cmp y.0 x.0 ≡ Less = labels_cmp_total.antisymm y.0 x.0 ∙ ap ordering_reverse h in
+        let f : None ≡ Some y.1 = sym (none_before y.0 x xs less s.0) ∙ e y.0 ∙ first_at y ys in absurd (cc)
+
+-- ---- a part
+
+module _ (test : Names → Bool) (samples held : AllSeries) where
+  abbrev own : Names × Samples → Bool
+  own series = test series.0
+
+  filtered_at : (q : Names) → lookup (is_at (labels_cmp q)) (filter own (by_labels samples)) ≡ (if test q then samples_under samples q else None)
+  filtered_at q =
+      lookup-filter-keys (is_at (labels_cmp q)) test (test q) (λ n h. ap test (sym (same_names q n h))) (by_labels samples)
+      ∙ ap (λ (o : Option Samples). cond (test q) o None) (lookup_by_labels q samples ∙ under_at q samples)
+
+  pub is_part : ((labels : Names) → samples_under held labels ≡ (if test labels then samples_under samples labels else None)) → IsPartOf test samples held
+  is_part h =
+      same_series (by_labels held) (filter own (by_labels samples))
+      (by_labels_sorted held)
+      (subst (IsStrictlySortedBy labels_cmp) (sym (keys_filter test (by_labels samples))) (IsStrictlySortedBy-filter labels_cmp test (keys_of (by_labels samples)) (by_labels_sorted samples)))
+      (λ q. lookup_by_labels q held ∙ under_at q held ∙ h q ∙ sym (filtered_at q))
+
+-- ---- engines
+
+pub engines_hold : EnginesHoldParts
+engines_hold engines samples parted =
+    mapped_along (HoldsItsOwn samples) (λ (engine : Engine). IsPartOf (takes engine) samples engine.samples) (λ engine h. is_part (takes engine) samples engine.samples h) engines parted.held
+
+pub engines_ignore : EnginesIgnoreName
+engines_ignore engines samples parted =
+    mapped_along (λ (engine : Engine). keys_of engine.declared ≡ declared_names engines) (λ (engine : Engine). IgnoresName (takes engine))
+    (λ engine e labels. declared_left (metric_name ∷ []) engine.declared labels (subst (AllByRecursion (λ (n : List ℕ). is_named (metric_name ∷ []) n ≡ false)) (sym e) (not_among metric_name (declared_names engines) parted.unnamed)))
+    engines parted.names
+
+pub no_engine : NoEngineHasNone
+no_engine [] parted = refl
+no_engine (s ∷ samples) parted = let none : 0 ≡ 1 = parted.one.0 in absurd (omega (arith, none))

@@ -1,0 +1,13 @@
+pub mod Chosen
+pub mod Constants
+pub mod Declared
+pub mod Held
+pub mod Joins
+pub mod Locals
+pub mod Made
+pub mod MarksParted
+pub mod PartedGroups
+pub mod Parts
+pub mod Selectors
+pub mod StepsParted
+pub mod WindowsParted

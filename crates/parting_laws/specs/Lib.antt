@@ -1,0 +1,4 @@
+pub mod LocalLaws
+pub mod PartLaws
+pub mod Parted
+pub mod Portions

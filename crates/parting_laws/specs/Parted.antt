@@ -1,0 +1,55 @@
+-- Samples that are parted over engines, and the labels that tell whose a series is. (This project's own.)
+use Rattle.std.specs.Prelude.{◌≡◌, ℕ, Bool, false, List, [], ◌∷◌, filter, length, map, bytes_eq, Option, None, if◌then◌else◌}
+use Rattle.std.specs.List.{AllByRecursion, IsDistinct, list_all}
+use Rattle.std.specs.Map.{keys_of, lookup}
+use Rattle.label_set.specs.LabelEquality.{labels_eq}
+use Rattle.label_set.specs.Labels.{is_named, metric_name, value_of}
+use Rattle.step_table.specs.Groups.{Names}
+use Rattle.promql_meaning.specs.Selecting.{AllSeries, Samples}
+
+-- ---- declared labels
+
+-- an engine: the labels that are declared to it, and the series that it holds
+pub record Engine : Type 0 where
+  pub declared : Names
+  pub samples : AllSeries
+
+-- whether labels have a pair; a label that is missing reads as the empty text
+abbrev pub has_pair : Names → List ℕ × List ℕ → Bool
+has_pair labels pair = bytes_eq (value_of labels pair.0) pair.1
+
+-- whether labels have all that are declared
+abbrev pub has_declared : Names → Names → Bool
+has_declared declared labels = list_all (has_pair labels) declared
+
+-- whether labels are an engine's: they have what is declared to it
+abbrev pub takes : Engine → Names → Bool
+takes engine labels = has_declared engine.declared labels
+
+-- the engines whose labels these are
+abbrev pub takers : List Engine → Names → List Engine
+takers engines labels = filter (λ (engine : Engine). takes engine labels) engines
+
+-- the names of the labels that the first engine declares; where samples are parted each declares these
+abbrev pub declared_names : List Engine → List (List ℕ)
+declared_names [] = []
+declared_names (engine ∷ engines) = keys_of engine.declared
+
+-- ---- what engines hold
+
+-- the samples under some labels, where there is such a series
+abbrev pub samples_under : AllSeries → Names → Option Samples
+samples_under series labels = lookup (labels_eq labels) series
+
+-- an engine holds exactly the series that are its own, each with exactly its samples
+abbrev pub HoldsItsOwn : AllSeries → Engine → Type 0
+HoldsItsOwn samples engine = (labels : Names) → samples_under engine.samples labels ≡ (if takes engine labels then samples_under samples labels else None)
+
+-- all engines declare the same label names, the metric's name not among them, and no two the same values; each series has the
+-- declared labels of exactly one engine; and each engine holds its own series, and no others
+pub record Parted (engines : List Engine) (samples : AllSeries) : Type 0 where
+  pub names : AllByRecursion (λ (engine : Engine). keys_of engine.declared ≡ declared_names engines) engines
+  pub unnamed : is_named (declared_names engines) metric_name ≡ false
+  pub values : IsDistinct labels_eq (map (λ (engine : Engine). engine.declared) engines)
+  pub one : AllByRecursion (λ (series : Names × Samples). length (takers engines series.0) ≡ 1) samples
+  pub held : AllByRecursion (HoldsItsOwn samples) engines

@@ -1,0 +1,80 @@
+//! Laws of engines that hold a part of the samples each. The functions do nothing: each stands for what its contract says.
+ghost use Rattle.parting_laws.specs.LocalLaws.{ConstantsStay, ElementsAreParted, LeftScalarsAreParted, ParensAreParted, QuantilesAreParted, RangesAreParted, RightScalarsAreParted, SelectionsDecide, SelectorsAreParted, SignsAreParted, SortsAreParted, TimestampsAreParted, WindowFunctionsAreParted};
+ghost use Rattle.parting_laws.specs.PartLaws.{EnginesHoldParts, EnginesIgnoreName, NoEngineHasNone, RangesJoin, SelectedArePart, SelectorsJoin, StampsArePart, TimestampsJoin, WindowsArePart};
+
+use promql_meaning::laws::meanings_are_well_formed;
+use step_table::laws::{steps_are_well_formed, unions_are_sets};
+
+/// Where samples are parted over engines, each engine holds the part that has its declared labels, which tell nothing of the metric's
+/// name; without engines there are no samples.
+pub fn engines_hold_parts()
+    ensures held { EnginesHoldParts }
+    ensures names { EnginesIgnoreName }
+    ensures none { NoEngineHasNone }
+{}
+
+/// Over a part of the samples a selector gives that part of its newest samples, that part of their times, and a range selector that
+/// part of its windows.
+pub fn selectors_are_parted()
+    ensures rows { SelectedArePart }
+    ensures times { StampsArePart }
+    ensures windows { WindowsArePart }
+{}
+
+/// Where samples are parted over engines, what the engines give of a selector, of the timestamp of a selector, or of a range selector
+/// is joined to what it gives over all samples, notes and marks as well.
+pub fn selectors_join()
+    ensures rows { SelectorsJoin }
+    ensures times { TimestampsJoin }
+    ensures windows { RangesJoin }
+{
+    unions_are_sets();
+    steps_are_well_formed();
+    meanings_are_well_formed();
+}
+
+/// An expression means the same over two lists of samples of which each of its selectors selects the same series; so one in which no
+/// selector stands means the same over any samples.
+pub fn selections_decide()
+    ensures selections { SelectionsDecide }
+    ensures constants { ConstantsStay }
+{}
+
+/// What a selector gives is parted as the samples are, and so are the windows of a range selector; parentheses change nothing.
+pub fn leaves_are_parted()
+    ensures selectors { SelectorsAreParted }
+    ensures ranges { RangesAreParted }
+    ensures parens { ParensAreParted }
+{}
+
+/// A sign or an element function of a parted expression is parted, where no selector stands in the other arguments.
+pub fn elements_are_parted()
+    ensures signs { SignsAreParted }
+    ensures functions { ElementsAreParted }
+{
+    unions_are_sets();
+}
+
+/// An operator between a parted expression and a constant scalar is parted.
+pub fn scalar_sides_are_parted()
+    ensures right { RightScalarsAreParted }
+    ensures left { LeftScalarsAreParted }
+{
+    unions_are_sets();
+}
+
+/// Sorted, or in the place of its values its times, a parted expression is parted.
+pub fn sorts_and_times_are_parted()
+    ensures sorts { SortsAreParted }
+    ensures times { TimestampsAreParted }
+{
+    unions_are_sets();
+}
+
+/// A function of parted windows is parted, where no selector stands in its other argument.
+pub fn window_functions_are_parted()
+    ensures functions { WindowFunctionsAreParted }
+    ensures quantiles { QuantilesAreParted }
+{
+    unions_are_sets();
+}
