@@ -7,6 +7,7 @@ use Rattle.label_set.specs.Labels.{labels_cmp}
 use Rattle.step_table.specs.Gathering.{nothing_more}
 use Rattle.step_table.specs.Groups.{Names}
 use Rattle.step_table.specs.Outcomes.{keyed_by, lone_by, shared_marks}
+use Rattle.step_table.specs.Sets.{step_of_rows}
 use Rattle.step_table.specs.Shuffles.{Shuffled}
 use Rattle.step_table.specs.Shuffling.{lone_shuffled, mapped_shuffled, shared_shuffled, turned_back}
 use Rattle.step_table.specs.Unions.{united, with_fatal}
@@ -63,26 +64,41 @@ module _ {X : Type 0} (labels : X → Names) (xs ys : List X) (sorted : IsStrict
 -- ---- all parts
 
 module _ {P : Type 0} (test : P → Names → Bool) (cells : P → StepCells) (ps : List P) where
+  abbrev marks_in : P → Marks
+  marks_in p = (cells p).marks
+
+  -- rows of which each part gives its own, all parts all of them
+  pub rows_of_parts : (rows : List Row) → IsTable rows → Shuffled rows (of_parts test row_labels ps rows) → AllByRecursion (λ (p : P). (cells p).rows ≡ map value_cell (in_part test row_labels p rows)) ps
+      → joined_rows (map cells ps) ≡ step_of_rows rows (union_over marks_in nothing ps)
+  rows_of_parts rows table turned each =
+      let all : List Row = rows_in (map cells ps) in
+      let back : all ≡ of_parts test row_labels ps rows = all_back value_cell cell_row (λ row. refl) test row_labels cells rows ps each in
+      let turned' : Shuffled all rows = turned_back rows all (subst (λ (r : List Row). Shuffled rows r) (sym back) turned) in
+      let same : lone_by row_labels all ≡ rows = lone_are row_labels rows all table turned' in
+      let together : with_fatal (all_marks (map cells ps)) (shared_marks row_labels all) ≡ union_over marks_in nothing ps = marks_stay row_labels rows all table turned' (all_marks (map cells ps)) ∙ marks_are cells nothing ps in
+      λ i. record { table = record { rows = same i }; marks = together i }
+
+  -- and windows likewise
+  pub windows_of_parts : (at : Ms) (rows : List WindowRow) → IsStrictlySortedBy labels_cmp (map window_labels rows) → Shuffled rows (of_parts test window_labels ps rows)
+      → AllByRecursion (λ (p : P). (cells p).rows ≡ map window_cell (in_part test window_labels p rows)) ps
+      → joined_windows at (map cells ps) ≡ record { at = at; rows = rows; marks = union_over marks_in nothing ps }
+  windows_of_parts at rows sorted turned each =
+      let all : List WindowRow = windows_in (map cells ps) in
+      let back : all ≡ of_parts test window_labels ps rows = all_back window_cell (λ (row : CellRow). window_under row.labels row.cell) (λ w. refl) test window_labels cells rows ps each in
+      let turned' : Shuffled all rows = turned_back rows all (subst (λ (r : List WindowRow). Shuffled rows r) (sym back) turned) in
+      let same : lone_by window_labels all ≡ rows = lone_are window_labels rows all sorted turned' in
+      let together : with_fatal (all_marks (map cells ps)) (shared_marks window_labels all) ≡ union_over marks_in nothing ps = marks_stay window_labels rows all sorted turned' (all_marks (map cells ps)) ∙ marks_are cells nothing ps in
+      λ i. record { at = at; rows = same i; marks = together i }
+
   pub rows_join : (whole : Step) → IsTable whole.table.rows → AllByRecursion (λ (row : Row). IsOfOne test ps row.labels) whole.table.rows
       → AllByRecursion (λ (p : P). (cells p).rows ≡ map value_cell (in_part test row_labels p whole.table.rows)) ps
-      → union_over (λ (p : P). (cells p).marks) nothing ps ≡ whole.marks
+      → union_over marks_in nothing ps ≡ whole.marks
       → joined_rows (map cells ps) ≡ whole
-  rows_join whole table one each marks =
-      let all : List Row = rows_in (map cells ps) in
-      let back : all ≡ of_parts test row_labels ps whole.table.rows = all_back value_cell cell_row (λ row. refl) test row_labels cells whole.table.rows ps each in
-      let turned : Shuffled all whole.table.rows = turned_back whole.table.rows all (subst (λ (r : List Row). Shuffled whole.table.rows r) (sym back) (all_parted test row_labels ps whole.table.rows one)) in
-      let rows : lone_by row_labels all ≡ whole.table.rows = lone_are row_labels whole.table.rows all table turned in
-      let together : with_fatal (all_marks (map cells ps)) (shared_marks row_labels all) ≡ whole.marks = marks_stay row_labels whole.table.rows all table turned (all_marks (map cells ps)) ∙ marks_are cells nothing ps ∙ marks in
-      λ i. record { table = record { rows = rows i }; marks = together i }
+  rows_join whole table one each marks = rows_of_parts whole.table.rows table (all_parted test row_labels ps whole.table.rows one) each ∙ ap (step_of_rows whole.table.rows) marks
 
-  pub windows_join : (at : Ms) (whole : WindowsAt) → whole.at ≡ at → IsStrictlySortedBy labels_cmp (map window_labels whole.rows) → AllByRecursion (λ (w : WindowRow). IsOfOne test ps w.labels) whole.rows
+  pub windows_join : (whole : WindowsAt) → IsStrictlySortedBy labels_cmp (map window_labels whole.rows) → AllByRecursion (λ (w : WindowRow). IsOfOne test ps w.labels) whole.rows
       → AllByRecursion (λ (p : P). (cells p).rows ≡ map window_cell (in_part test window_labels p whole.rows)) ps
-      → union_over (λ (p : P). (cells p).marks) nothing ps ≡ whole.marks
-      → joined_windows at (map cells ps) ≡ whole
-  windows_join at whole same sorted one each marks =
-      let all : List WindowRow = windows_in (map cells ps) in
-      let back : all ≡ of_parts test window_labels ps whole.rows = all_back window_cell (λ (row : CellRow). window_under row.labels row.cell) (λ w. refl) test window_labels cells whole.rows ps each in
-      let turned : Shuffled all whole.rows = turned_back whole.rows all (subst (λ (r : List WindowRow). Shuffled whole.rows r) (sym back) (all_parted test window_labels ps whole.rows one)) in
-      let rows : lone_by window_labels all ≡ whole.rows = lone_are window_labels whole.rows all sorted turned in
-      let together : with_fatal (all_marks (map cells ps)) (shared_marks window_labels all) ≡ whole.marks = marks_stay window_labels whole.rows all sorted turned (all_marks (map cells ps)) ∙ marks_are cells nothing ps ∙ marks in
-      λ i. record { at = sym same i; rows = rows i; marks = together i }
+      → union_over marks_in nothing ps ≡ whole.marks
+      → joined_windows whole.at (map cells ps) ≡ whole
+  windows_join whole sorted one each marks =
+      windows_of_parts whole.at whole.rows sorted (all_parted test window_labels ps whole.rows one) each ∙ ap (λ (m : Marks). record { at = whole.at; rows = whole.rows; marks = m }) marks

@@ -1,6 +1,7 @@
 pub mod Chosen
 pub mod Constants
 pub mod Declared
+pub mod Gathered
 pub mod Held
 pub mod Joins
 pub mod Locals
@@ -10,4 +11,5 @@ pub mod PartedGroups
 pub mod Parts
 pub mod Selectors
 pub mod StepsParted
+pub mod Unasked
 pub mod WindowsParted

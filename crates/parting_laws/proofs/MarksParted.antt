@@ -8,7 +8,7 @@ use Rattle.xfrac.specs.declared.value.XFrac.{XFrac}
 use Rattle.step_table.specs.Alike.{same_sets}
 use Rattle.step_table.specs.Groups.{Names}
 use Rattle.step_table.specs.KeySets.{any_of_set, merged-nil}
-use Rattle.step_table.specs.Laws.{SettledIsWellFormed, TakenHasSets, UnionHasMarks, UnionIsSet, has_mark}
+use Rattle.step_table.specs.Laws.{SettledIsWellFormed, TakenHasSets, UnionHasMarks, UnionHasNotes, UnionIsSet, has_mark, has_note}
 use Rattle.step_table.specs.OrderLaws.{mark_cmp_ties, mark_cmp_total}
 use Rattle.step_table.specs.Orders.{mark_cmp, note_cmp}
 use Rattle.step_table.specs.Outcomes.{mark_of, taken}
@@ -17,6 +17,7 @@ use Rattle.step_table.specs.WellFormed.{AreSets}
 use Rattle.step_table.specs.declared.marks.Mark.{Mark}
 use Rattle.step_table.specs.declared.marks.Mark.TheVariants.{SameLabelset}
 use Rattle.step_table.specs.declared.marks.Marks.{Marks}
+use Rattle.step_table.specs.declared.marks.Note.{Note}
 use Rattle.step_table.specs.declared.outcomes.Outcome.{Outcome}
 use Rattle.parting_laws.proofs.Chosen.{everywhere, mapped_along}
 use Rattle.parting_laws.proofs.Made.{Keeps, made_step, shared_all, shared_made, shared_rows}
@@ -76,6 +77,12 @@ module _ {P : Type 0} where
     all_have f mark marks (p ∷ ps) =
         all_have f mark (united marks (f p)) ps ∙ ap (λ b. b || list_any (λ (p : P). has_mark (f p).fatal mark) ps) (unions marks (f p) mark)
         ∙ or_turned (has_mark marks.fatal mark) (has_mark (f p).fatal mark) (list_any (λ (p : P). has_mark (f p).fatal mark) ps)
+
+  pub all_have_notes : UnionHasNotes → (f : P → Marks) (note : Note) (marks : Marks) (ps : List P) → has_note (union_over f marks ps).notes note ≡ (has_note marks.notes note || list_any (λ (p : P). has_note (f p).notes note) ps)
+  all_have_notes unions f note marks [] = or_none (has_note marks.notes note)
+  all_have_notes unions f note marks (p ∷ ps) =
+      all_have_notes unions f note (united marks (f p)) ps ∙ ap (λ b. b || list_any (λ (p : P). has_note (f p).notes note) ps) (unions marks (f p) note)
+      ∙ or_turned (has_note marks.notes note) (has_note (f p).notes note) (list_any (λ (p : P). has_note (f p).notes note) ps)
 
   pub same_notes : (f g : P → Marks) (m n : Marks) (ps : List P) → m.notes ≡ n.notes → AllByRecursion (λ (p : P). (f p).notes ≡ (g p).notes) ps → (union_over f m ps).notes ≡ (union_over g n ps).notes
   same_notes f g m n [] e a = e

@@ -123,14 +123,14 @@ module _ (engines : List Engine) where
       chosen_all (newest_row selector.moment.closed m) OfOne (λ (row : Stamped). IsOfOne takes engines row.labels)
       (λ s row e h. subst (IsOfOne takes engines) (sym (stamped_is selector.moment.closed m s row e)) h) (passing asked.samples asked.kept selector.rules) (passing_one asked selector parted)
 
-  windows_one : (asked : Asked) (selector : Selector) (range t : ℤ) → Parted engines asked.samples → AllByRecursion (λ (w : WindowRow). IsOfOne takes engines w.labels) (selected_windows asked selector range t)
+  pub windows_one : (asked : Asked) (selector : Selector) (range t : ℤ) → Parted engines asked.samples → AllByRecursion (λ (w : WindowRow). IsOfOne takes engines w.labels) (selected_windows asked selector range t)
   windows_one asked selector range t parted =
       let m : ℤ = moment_of asked selector.moment t in
       chosen_all (series_window selector.moment.closed m range) OfOne (λ (w : WindowRow). IsOfOne takes engines w.labels)
       (λ s w e h. subst (IsOfOne takes engines) (sym (window_is selector.moment.closed m range s w e)) h) (passing asked.samples asked.kept selector.rules) (passing_one asked selector parted)
 
 -- windows stand in the order of their labels
-windows_sorted : (asked : Asked) (selector : Selector) (range t : ℤ) → IsStrictlySortedBy labels_cmp (map window_labels (selected_windows asked selector range t))
+pub windows_sorted : (asked : Asked) (selector : Selector) (range t : ℤ) → IsStrictlySortedBy labels_cmp (map window_labels (selected_windows asked selector range t))
 windows_sorted asked selector range t =
     let m : ℤ = moment_of asked selector.moment t in
     let pass : Names → Bool = λ names. labels_pass asked.kept selector.rules names in
@@ -192,7 +192,7 @@ timestamps_join unions sets takens settleds well engines asked e inner selector 
 
 -- ---- a range selector
 
-range_means : (asked : Asked) (e : Expr) (selector : Selector) (range at : Ms) → e.node ≡ node.Range selector range
+pub range_means : (asked : Asked) (e : Expr) (selector : Selector) (range at : Ms) → e.node ≡ node.Range selector range
     → windows_at at (meaning asked e at.0) ≡ record { at = at; rows = selected_windows asked selector range.0 at.0; marks = nothing }
 range_means asked e selector range at is = ap (λ (f : ℤ → Given). windows_at at (f at.0)) (fold-Range (node_meaning asked) (λ e. e.node) e selector range is)
 
@@ -200,7 +200,7 @@ pub ranges_join : RangesJoin
 ranges_join engines asked e selector range at parted is =
     let xs : List WindowRow = selected_windows asked selector range.0 at.0 in
     let means = λ (a : Asked). range_means a e selector range at is in
-    windows_join takes (owed_at part.Windows asked e at) engines at (record { at = at; rows = xs; marks = nothing }) refl (windows_sorted asked selector range.0 at.0) (windows_one engines asked selector range.0 at.0 parted)
+    windows_join takes (owed_at part.Windows asked e at) engines (record { at = at; rows = xs; marks = nothing }) (windows_sorted asked selector range.0 at.0) (windows_one engines asked selector range.0 at.0 parted)
     (mapped_along (λ (engine : Engine). IsPartOf (takes engine) asked.samples engine.samples) (λ (engine : Engine). (owed_at part.Windows asked e at engine).rows ≡ map window_cell (in_part takes window_labels engine xs))
     (λ engine h. ap (map window_cell) (ap (λ (w : WindowsAt). w.rows) (means (over engine.samples asked)) ∙ windows_part (takes engine) asked engine.samples selector range.0 at.0 h))
     engines (engines_hold engines asked.samples parted))

@@ -1,3 +1,4 @@
+pub mod Gathers
 pub mod LocalLaws
 pub mod PartLaws
 pub mod Parted

@@ -1,8 +1,10 @@
 //! Laws of engines that hold a part of the samples each. The functions do nothing: each stands for what its contract says.
+ghost use Rattle.parting_laws.specs.Gathers.{GroupsAreGathered, RowsAreGathered, UnaskedGivesNothing, WindowsAreGathered};
 ghost use Rattle.parting_laws.specs.LocalLaws.{ConstantsStay, ElementsAreParted, LeftScalarsAreParted, ParensAreParted, QuantilesAreParted, RangesAreParted, RightScalarsAreParted, SelectionsDecide, SelectorsAreParted, SignsAreParted, SortsAreParted, TimestampsAreParted, WindowFunctionsAreParted};
 ghost use Rattle.parting_laws.specs.PartLaws.{EnginesHoldParts, EnginesIgnoreName, NoEngineHasNone, RangesJoin, SelectedArePart, SelectorsJoin, StampsArePart, TimestampsJoin, WindowsArePart};
 
 use promql_meaning::laws::meanings_are_well_formed;
+use step_cells::laws::partials_agree;
 use step_table::laws::{steps_are_well_formed, unions_are_sets};
 
 /// Where samples are parted over engines, each engine holds the part that has its declared labels, which tell nothing of the metric's
@@ -77,4 +79,17 @@ pub fn window_functions_are_parted()
     ensures quantiles { QuantilesAreParted }
 {
     unions_are_sets();
+}
+
+/// Where samples are parted over engines, an engine that isn't asked for an expression has nothing to give of it; and what the others
+/// give of a parted expression, of an aggregation over one, or of a range selector, is what it means over all samples.
+pub fn engines_give_the_whole()
+    ensures unasked { UnaskedGivesNothing }
+    ensures rows { RowsAreGathered }
+    ensures groups { GroupsAreGathered }
+    ensures windows { WindowsAreGathered }
+{
+    unions_are_sets();
+    meanings_are_well_formed();
+    partials_agree();
 }
