@@ -11,5 +11,6 @@ pub mod PartedGroups
 pub mod Parts
 pub mod Selectors
 pub mod StepsParted
+pub mod SubqueriesParted
 pub mod Unasked
 pub mod WindowsParted

@@ -70,7 +70,7 @@ module _ (portions : List Portion) (ignore : AllByRecursion (λ (p : Portion). I
 -- ---- what is asked over
 
 -- what the meaning of an expression is, at each of what is asked, is parted where that is
-along : (portions : List Portion) (asked : Asked) (f g : Asked → Given) → ((a : Asked) → f a ≡ g a) → GivenParts portions (g asked) (λ p. g (over p.samples asked)) → GivenParts portions (f asked) (λ p. f (over p.samples asked))
+pub along : (portions : List Portion) (asked : Asked) (f g : Asked → Given) → ((a : Asked) → f a ≡ g a) → GivenParts portions (g asked) (λ p. g (over p.samples asked)) → GivenParts portions (f asked) (λ p. f (over p.samples asked))
 along portions asked f g e parts = subst (λ (h : Asked → Given). GivenParts portions (h asked) (λ p. h (over p.samples asked))) (λ i a. sym (e a) i) parts
 
 -- ---- selectors

@@ -17,7 +17,7 @@ use Rattle.step_table.specs.declared.outcomes.Outcome.{Outcome}
 use Rattle.step_table.specs.declared.step.Row.{Row}
 use Rattle.step_table.specs.declared.step.Step.{Step}
 use Rattle.parting_laws.proofs.Chosen.{chosen_all, chosen_filter, chosen_of_mapped, everywhere}
-use Rattle.parting_laws.proofs.PartedGroups.{keyed_in, lone_all, lone_in, shared_in}
+use Rattle.parting_laws.proofs.PartedGroups.{keyed_in, lone_all, lone_in, names_all, shared_in}
 
 abbrev pub row_labels : Row → Names
 row_labels row = row.labels
@@ -79,15 +79,6 @@ module _ {X : Type 0} (labels : X → Names) (outcome : X → Outcome) where
     pub made_all : (marks : Marks) (xs : List X) → AllByRecursion (λ (x : X). P (labels x)) xs → AllByRecursion (λ (row : Row). P row.labels) (made_step marks xs).table.rows
     made_all marks xs a = lone_all row_labels (λ (row : Row). P row.labels) (made_rows xs) (rows_all xs a)
 
-    insert_all : (k : Names) (ks : List Names) → P k → AllByRecursion P ks → AllByRecursion P (insert_key labels_cmp ks k)
-    insert_all k [] p a = (p, tt)
-    insert_all k (q ∷ ks) p a =
-        elim (labels_cmp k q) as (λ r. AllByRecursion P (match_ordering r (k ∷ q ∷ ks) (q ∷ ks) (q ∷ insert_key labels_cmp ks k))) [ Less ↦ (p, a) | Equal ↦ a | Greater ↦ (a.0, insert_all k ks p a.1) ]
-
-    set_all : (done keys : List Names) → AllByRecursion P done → AllByRecursion P keys → AllByRecursion P (fold (insert_key labels_cmp) done keys)
-    set_all done [] d a = d
-    set_all done (k ∷ keys) d a = set_all (insert_key labels_cmp done k) keys (insert_all k done a.0 d) a.1
-
     several_all : {T : Type 0} (h : Names → List T) (ms : List Names) → AllByRecursion P ms → AllByRecursion P (filter_map shared_of (map (λ n. (n, h n)) ms))
     several_all h [] a = tt
     several_all h (m ∷ ms) a = by (has_several (h m)) (several_all h ms a.1)
@@ -104,4 +95,4 @@ module _ {X : Type 0} (labels : X → Names) (outcome : X → Outcome) where
     unfolding gathered
     shared_all xs a =
         several_all (items_of (keyed (made_rows xs))) (names_among (keyed (made_rows xs)))
-        (set_all [] (keys_of (keyed (made_rows xs))) tt (keys_all (made_rows xs) (rows_all xs a)))
+        (names_all P (keyed (made_rows xs)) (keys_all (made_rows xs) (rows_all xs a)))

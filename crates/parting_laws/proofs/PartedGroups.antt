@@ -1,8 +1,9 @@
 -- The groups, and the items that stand alone, of a part of the items.
 use Rattle.std.proofs.Common.{◌≡◌, ◌∙◌, ℕ, Bool, true, false, cond, List, [], ◌∷◌, map, refl, sym, ap, subst, Some, None}
-use Rattle.std.specs.Prelude.{◌||◌, ◌&&◌, Option, filter}
+use Rattle.std.specs.Prelude.{◌||◌, ◌&&◌, Option, filter, fold}
 use Rattle.std.specs.declared.cmp.Ordering.TheVariants.{Less, Equal, Greater}
-use Rattle.std.specs.Ordering.{is_eq}
+use Rattle.std.specs.Ordering.{is_eq, match_ordering}
+use Rattle.std.specs.BTreeSet.{insert_key}
 use Rattle.std.specs.BTreeMap.{is_at}
 use Rattle.std.specs.List.{AllByRecursion, filter_map, list_any}
 use Rattle.std.specs.Map.{keys_of, values_of}
@@ -161,3 +162,29 @@ module _ {X : Type 0} (labels : X → Names) (Q : X → Type 0) where
   lone_all xs a =
       chosen_all (λ (g : Names × List X). alone g.1) (λ (g : Names × List X). AllByRecursion Q g.1) Q (λ g y e h. alone_holds g.1 y e h) (map (λ n. (n, items_of (keyed_by labels xs) n)) (names_among (keyed_by labels xs)))
       (groups_all xs (names_among (keyed_by labels xs)) a)
+
+-- what holds of the labels of all items holds of those of their groups
+module _ (Q : Names → Type 0) where
+  insert_all : (k : Names) (ks : List Names) → Q k → AllByRecursion Q ks → AllByRecursion Q (insert_key labels_cmp ks k)
+  insert_all k [] p a = (p, tt)
+  insert_all k (q ∷ ks) p a =
+      elim (labels_cmp k q) as (λ r. AllByRecursion Q (match_ordering r (k ∷ q ∷ ks) (q ∷ ks) (q ∷ insert_key labels_cmp ks k))) [
+        | Less ↦ (p, a)
+        | Equal ↦ a
+        | Greater ↦ (a.0, insert_all k ks p a.1)
+      ]
+
+  set_all : (done keys : List Names) → AllByRecursion Q done → AllByRecursion Q keys → AllByRecursion Q (fold (insert_key labels_cmp) done keys)
+  set_all done [] d a = d
+  set_all done (k ∷ keys) d a = set_all (insert_key labels_cmp done k) keys (insert_all k done a.0 d) a.1
+
+  pub names_all : {T : Type 0} (items : List (Names × T)) → AllByRecursion Q (keys_of items) → AllByRecursion Q (names_among items)
+  names_all items a = set_all [] (keys_of items) tt a
+
+  under_names : {T : Type 0} (h : Names → List T) (ms : List Names) → AllByRecursion Q ms → AllByRecursion (λ (g : Names × List T). Q g.0) (map (λ n. (n, h n)) ms)
+  under_names h [] a = tt
+  under_names h (m ∷ ms) a = (a.0, under_names h ms a.1)
+
+  pub groups_named : {T : Type 0} (items : List (Names × T)) → AllByRecursion Q (keys_of items) → AllByRecursion (λ (g : Names × List T). Q g.0) (gathered items)
+  unfolding gathered
+  groups_named items a = under_names (items_of items) (names_among items) (names_all items a)

@@ -6,6 +6,7 @@ use Rattle.func_table.specs.declared.table.Func.{Func}
 use Rattle.func_table.specs.declared.table.Func.TheVariants as func
 use Rattle.func_table.specs.declared.table.Window.{Window}
 use Rattle.func_table.specs.declared.table.Window.TheVariants.{QuantileOver}
+use Rattle.label_set.specs.Labels.{is_named}
 use Rattle.label_set.specs.declared.rules.Pairing.{Pairing}
 use Rattle.label_set.specs.declared.rules.Rule.{Rule}
 use Rattle.promql_ast.specs.declared.tree.Expr.{Expr}
@@ -17,6 +18,7 @@ use Rattle.promql_ast.specs.declared.tree.Selector.{Selector}
 use Rattle.step_table.specs.Alike.{has_some}
 use Rattle.ticks.specs.declared.moment.Ms.{Ms}
 use Rattle.xfrac.specs.declared.value.PairOp.{PairOp}
+use Rattle.promql_meaning.specs.Buckets.{bucket_label}
 use Rattle.promql_meaning.specs.Meaning.{meaning}
 use Rattle.promql_meaning.specs.Selecting.{AllSeries, Asked, passing}
 use Rattle.parting_laws.specs.PartLaws.{over}
@@ -144,3 +146,24 @@ abbrev pub QuantilesAreParted : Type 0
 QuantilesAreParted =
     (names : List (List ℕ)) (e quantile inner : Expr)
     → e.node ≡ node.Call (func.Window QuantileOver) (quantile ∷ inner ∷ []) → has_selector quantile ≡ false → IsParted names inner → IsParted names e
+
+-- the windows of a subquery of one
+abbrev pub SubqueriesAreParted : Type 0
+SubqueriesAreParted = (names : List (List ℕ)) (e inner : Expr) (range step : Ms) (moment : Moment) → e.node ≡ node.Subquery inner range step moment → IsParted names inner → IsParted names e
+
+-- label_replace and label_join, where the label that is set is none of those by which samples are parted
+abbrev pub ReplacementsAreParted : Type 0
+ReplacementsAreParted =
+    (names : List (List ℕ)) (e inner target : Expr) (label : List ℕ) (others : List Expr)
+    → e.node ≡ node.Call func.LabelReplace (inner ∷ target ∷ others) → target.node ≡ node.Words label → is_named names label ≡ false → HaveNoSelector others → IsParted names inner → IsParted names e
+
+abbrev pub LabelJoinsAreParted : Type 0
+LabelJoinsAreParted =
+    (names : List (List ℕ)) (e inner target : Expr) (label : List ℕ) (others : List Expr)
+    → e.node ≡ node.Call func.LabelJoin (inner ∷ target ∷ others) → target.node ≡ node.Words label → is_named names label ≡ false → HaveNoSelector others → IsParted names inner → IsParted names e
+
+-- histogram_quantile, where `le` is none of those by which samples are parted, of a quantile in which no selector stands
+abbrev pub HistogramsAreParted : Type 0
+HistogramsAreParted =
+    (names : List (List ℕ)) (e quantile inner : Expr)
+    → e.node ≡ node.Call func.HistogramQuantile (quantile ∷ inner ∷ []) → is_named names bucket_label ≡ false → has_selector quantile ≡ false → IsParted names inner → IsParted names e

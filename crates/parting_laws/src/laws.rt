@@ -1,6 +1,6 @@
 //! Laws of engines that hold a part of the samples each. The functions do nothing: each stands for what its contract says.
 ghost use Rattle.parting_laws.specs.Gathers.{GroupsAreGathered, RowsAreGathered, UnaskedGivesNothing, WindowsAreGathered};
-ghost use Rattle.parting_laws.specs.LocalLaws.{ConstantsStay, ElementsAreParted, LeftScalarsAreParted, ParensAreParted, QuantilesAreParted, RangesAreParted, RightScalarsAreParted, SelectionsDecide, SelectorsAreParted, SignsAreParted, SortsAreParted, TimestampsAreParted, WindowFunctionsAreParted};
+ghost use Rattle.parting_laws.specs.LocalLaws.{ConstantsStay, ElementsAreParted, LeftScalarsAreParted, ParensAreParted, QuantilesAreParted, RangesAreParted, RightScalarsAreParted, SelectionsDecide, SelectorsAreParted, SignsAreParted, SortsAreParted, SubqueriesAreParted, TimestampsAreParted, WindowFunctionsAreParted};
 ghost use Rattle.parting_laws.specs.PartLaws.{EnginesHoldParts, EnginesIgnoreName, NoEngineHasNone, RangesJoin, SelectedArePart, SelectorsJoin, StampsArePart, TimestampsJoin, WindowsArePart};
 
 use promql_meaning::laws::meanings_are_well_formed;
@@ -77,6 +77,13 @@ pub fn sorts_and_times_are_parted()
 pub fn window_functions_are_parted()
     ensures functions { WindowFunctionsAreParted }
     ensures quantiles { QuantilesAreParted }
+{
+    unions_are_sets();
+}
+
+/// The windows of a subquery of a parted expression are parted.
+pub fn subqueries_are_parted()
+    ensures { SubqueriesAreParted }
 {
     unions_are_sets();
 }
