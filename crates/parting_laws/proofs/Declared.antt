@@ -13,18 +13,14 @@ use Rattle.std.proofs.lemmas.Slice.Eq.{bytes_eq-Decides}
 use Rattle.label_set.specs.Labels.{byte_cmp, is_named, value_of, without}
 use Rattle.step_table.specs.Groups.{Names}
 use Rattle.parting_laws.specs.Parted.{has_declared, has_pair}
-
-pub is_equal : (r : Ordering) → is_eq r ≡ true → r ≡ Equal
-is_equal Less e = absurd (cc)
-is_equal Equal e = refl
-is_equal Greater e = absurd (cc)
+use Rattle.parting_laws.proofs.Puts.{same_key}
 
 -- a name that isn't taken out keeps its value
 pub value_left : (gone : List (List ℕ)) (name : List ℕ) (labels : Names) → is_named gone name ≡ false → value_of (without gone labels) name ≡ value_of labels name
 value_left gone name labels e =
     ap (λ o. unwrap_or o [])
     (lookup-filter-keys (is_at (byte_cmp name)) (λ (n : List ℕ). not (is_named gone n)) true
-    (λ n h. let same : name ≡ n = exact_bytes name n (is_equal (byte_cmp name n) h) in ap (λ (m : List ℕ). not (is_named gone m)) (sym same) ∙ ap not e) labels)
+    (λ n h. let same : name ≡ n = same_key byte_cmp exact_bytes name n h in ap (λ (m : List ℕ). not (is_named gone m)) (sym same) ∙ ap not e) labels)
 
 -- declared labels of which none is taken out are had as before
 pub declared_left : (gone : List (List ℕ)) (declared labels : Names) → AllByRecursion (λ (name : List ℕ). is_named gone name ≡ false) (keys_of declared) → has_declared declared (without gone labels) ≡ has_declared declared labels

@@ -20,41 +20,18 @@ use Rattle.promql_meaning.specs.Selecting.{AllSeries, Samples}
 use Rattle.parting_laws.specs.Parted.{Engine, HoldsItsOwn, Parted, declared_names, samples_under, takes}
 use Rattle.parting_laws.specs.PartLaws.{EnginesHoldParts, EnginesIgnoreName, IgnoresName, IsPartOf, NoEngineHasNone}
 use Rattle.parting_laws.proofs.Chosen.{mapped_along}
-use Rattle.parting_laws.proofs.Declared.{declared_left, is_equal, not_among}
+use Rattle.parting_laws.proofs.Declared.{declared_left, not_among}
+use Rattle.parting_laws.proofs.Puts.{lookup_put, same_key}
 
 -- ---- look-ups in the order of labels
 
 same_names : (m n : Names) → is_at (labels_cmp m) n ≡ true → m ≡ n
-same_names m n e = labels_cmp_ties m n (is_equal (labels_cmp m n) e)
-
-put_same : (b : Bool) (v w : Samples) (o : Option Samples) → cond b (Some v) o ≡ cond b (Some v) (cond b (Some w) o)
-put_same true v w o = refl
-put_same false v w o = refl
-
-put_apart : (q k n : Names) (v w : Samples) (o : Option Samples) (b c : Bool) → is_at (labels_cmp q) k ≡ b → is_at (labels_cmp q) n ≡ c → labels_cmp k n ≡ Greater → cond c (Some w) (cond b (Some v) o) ≡ cond b (Some v) (cond c (Some w) o)
-put_apart q k n v w o true true e f g =
-    let tied : labels_cmp k n ≡ Equal = ap (λ z. labels_cmp z n) (sym (same_names q k e)) ∙ is_equal (labels_cmp q n) f in
-    absurd (cc)
-put_apart q k n v w o true false e f g = refl
-put_apart q k n v w o false true e f g = refl
-put_apart q k n v w o false false e f g = refl
-
-lookup_put : (q k : Names) (v : Samples) (es : AllSeries) → lookup (is_at (labels_cmp q)) (insert_entry labels_cmp es k v) ≡ cond (is_at (labels_cmp q) k) (Some v) (lookup (is_at (labels_cmp q)) es)
-lookup_put q k v [] = refl
-lookup_put q k v (e ∷ es) =
-    elim (labels_cmp k e.0) as (λ r. labels_cmp k e.0 ≡ r → lookup (is_at (labels_cmp q)) (match_ordering r ((k, v) ∷ e ∷ es) ((e.0, v) ∷ es) (e ∷ insert_entry labels_cmp es k v)) ≡ cond (is_at (labels_cmp q) k) (Some v) (cond (is_at (labels_cmp q) e.0) (Some e.1) (lookup (is_at (labels_cmp q)) es))) [
-      | Less ↦ λ h. refl
-      | Equal ↦ λ h.
-          let same : k ≡ e.0 = labels_cmp_ties k e.0 h in
-          put_same (is_at (labels_cmp q) e.0) v e.1 (lookup (is_at (labels_cmp q)) es) ∙ ap (λ (z : Names). cond (is_at (labels_cmp q) z) (Some v) (cond (is_at (labels_cmp q) e.0) (Some e.1) (lookup (is_at (labels_cmp q)) es))) (sym same)
-      | Greater ↦ λ h.
-          ap (λ o. cond (is_at (labels_cmp q) e.0) (Some e.1) o) (lookup_put q k v es) ∙ put_apart q k e.0 v e.1 (lookup (is_at (labels_cmp q)) es) (is_at (labels_cmp q) k) (is_at (labels_cmp q) e.0) refl refl h
-    ] refl
+same_names m n e = same_key labels_cmp labels_cmp_ties m n e
 
 -- series in the order of their labels hold under any labels what they held
 lookup_by_labels : (q : Names) (series : AllSeries) → lookup (is_at (labels_cmp q)) (by_labels series) ≡ lookup (is_at (labels_cmp q)) series
 lookup_by_labels q [] = refl
-lookup_by_labels q (s ∷ series) = lookup_put q s.0 s.1 (by_labels series) ∙ ap (λ o. cond (is_at (labels_cmp q) s.0) (Some s.1) o) (lookup_by_labels q series)
+lookup_by_labels q (s ∷ series) = lookup_put labels_cmp labels_cmp_ties q s.0 s.1 (by_labels series) ∙ ap (λ o. cond (is_at (labels_cmp q) s.0) (Some s.1) o) (lookup_by_labels q series)
 
 under_at : (q : Names) (series : AllSeries) → lookup (is_at (labels_cmp q)) series ≡ samples_under series q
 under_at q series = λ i. lookup (λ (n : Names). labels_eq_at q n i) series

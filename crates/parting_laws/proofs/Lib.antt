@@ -4,11 +4,13 @@ pub mod Declared
 pub mod Gathered
 pub mod Held
 pub mod Joins
+pub mod LabelsParted
 pub mod Locals
 pub mod Made
 pub mod MarksParted
 pub mod PartedGroups
 pub mod Parts
+pub mod Puts
 pub mod Selectors
 pub mod StepsParted
 pub mod SubqueriesParted

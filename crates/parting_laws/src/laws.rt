@@ -1,6 +1,6 @@
 //! Laws of engines that hold a part of the samples each. The functions do nothing: each stands for what its contract says.
 ghost use Rattle.parting_laws.specs.Gathers.{GroupsAreGathered, RowsAreGathered, UnaskedGivesNothing, WindowsAreGathered};
-ghost use Rattle.parting_laws.specs.LocalLaws.{ConstantsStay, ElementsAreParted, LeftScalarsAreParted, ParensAreParted, QuantilesAreParted, RangesAreParted, RightScalarsAreParted, SelectionsDecide, SelectorsAreParted, SignsAreParted, SortsAreParted, SubqueriesAreParted, TimestampsAreParted, WindowFunctionsAreParted};
+ghost use Rattle.parting_laws.specs.LocalLaws.{ConstantsStay, ElementsAreParted, HistogramsAreParted, LabelJoinsAreParted, LeftScalarsAreParted, ParensAreParted, QuantilesAreParted, RangesAreParted, ReplacementsAreParted, RightScalarsAreParted, SelectionsDecide, SelectorsAreParted, SignsAreParted, SortsAreParted, SubqueriesAreParted, TimestampsAreParted, WindowFunctionsAreParted};
 ghost use Rattle.parting_laws.specs.PartLaws.{EnginesHoldParts, EnginesIgnoreName, NoEngineHasNone, RangesJoin, SelectedArePart, SelectorsJoin, StampsArePart, TimestampsJoin, WindowsArePart};
 
 use promql_meaning::laws::meanings_are_well_formed;
@@ -84,6 +84,21 @@ pub fn window_functions_are_parted()
 /// The windows of a subquery of a parted expression are parted.
 pub fn subqueries_are_parted()
     ensures { SubqueriesAreParted }
+{
+    unions_are_sets();
+}
+
+/// With a label made anew, where samples aren't parted by that one, a parted expression is parted.
+pub fn labels_made_anew_are_parted()
+    ensures replacements { ReplacementsAreParted }
+    ensures joins { LabelJoinsAreParted }
+{
+    unions_are_sets();
+}
+
+/// Quantiles of the histograms of a parted expression are parted, where samples aren't parted by the label of bounds.
+pub fn histograms_are_parted()
+    ensures { HistogramsAreParted }
 {
     unions_are_sets();
 }
