@@ -1,3 +1,4 @@
+pub mod AllLocals
 pub mod Chosen
 pub mod Constants
 pub mod Declared

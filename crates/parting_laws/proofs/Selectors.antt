@@ -16,6 +16,7 @@ use Rattle.promql_ast.specs.declared.tree.Expr.{Expr}
 use Rattle.promql_ast.specs.declared.tree.Node.TheVariants as node
 use Rattle.promql_ast.specs.declared.tree.Selector.{Selector}
 use Rattle.xfrac.specs.declared.value.XFrac.{XFrac}
+use Rattle.step_table.specs.Gathering.{settled_table}
 use Rattle.step_table.specs.Groups.{Names}
 use Rattle.step_table.specs.Laws.{SettledIsWellFormed, TakenHasSets, UnionHasMarks, UnionIsSet}
 use Rattle.step_table.specs.WellFormed.{AreSets}
@@ -26,6 +27,7 @@ use Rattle.step_table.specs.declared.step.Row.{Row}
 use Rattle.step_table.specs.declared.step.Step.{Step}
 use Rattle.step_table.specs.declared.windows.WindowRow.{WindowRow}
 use Rattle.step_batch.specs.LentWindows.{WindowsAt}
+use Rattle.step_cells.specs.Joined.{joined_rows}
 use Rattle.step_cells.specs.Owed.{value_cell, window_cell, windows_at}
 use Rattle.ticks.specs.declared.moment.Ms.{Ms}
 use Rattle.promql_meaning.specs.Elements.{stamp_outcome, stamps, timestamps}
@@ -37,7 +39,7 @@ use Rattle.promql_meaning.specs.declared.given.Given.{Given}
 use Rattle.promql_meaning.specs.declared.given.Given.TheVariants as given
 use Rattle.promql_meaning.specs.declared.given.Stamped.{Stamped}
 use Rattle.parting_laws.specs.Parted.{Engine, Parted, takes}
-use Rattle.parting_laws.specs.PartLaws.{IgnoresName, IsPartOf, RangesJoin, SelectedArePart, SelectorsJoin, StampsArePart, TimestampsJoin, WindowsArePart, over, owed_at}
+use Rattle.parting_laws.specs.PartLaws.{IgnoresName, IsPartOf, RangeGivesNothing, RangesJoin, SelectedArePart, SelectorGivesNothing, SelectorsJoin, StampsArePart, TimestampGivesNothing, TimestampsJoin, WindowsArePart, over, owed_at}
 use Rattle.parting_laws.proofs.Chosen.{all_mapped, both_along, chosen_all, chosen_filter, chosen_sorted, everywhere, filter_mapped, filter_turned, mapped_along}
 use Rattle.parting_laws.proofs.Held.{engines_hold, engines_ignore}
 use Rattle.parting_laws.proofs.Joins.{rows_join, window_labels, windows_join}
@@ -208,3 +210,21 @@ ranges_join engines asked e selector range at parted is =
     (everywhere (λ (engine : Engine). (owed_at part.Windows asked e at engine).marks ≡ nothing) (λ engine. ap (λ (w : WindowsAt). w.marks) (means (over engine.samples asked))) engines)
     ∙ none_over engines)
     ∙ sym (means asked)
+
+-- ---- over no samples
+
+-- no rows, joined
+none_joined : joined_rows [] ≡ step_of (given.Vector (record { table = record { rows = [] }; marks = nothing }))
+unfolding IsStrictlySortedBy
+none_joined = settled_table (record { table = record { rows = [] }; marks = nothing }) tt
+
+pub selector_gives_nothing : SelectorGivesNothing
+selector_gives_nothing asked e selector t is = ap step_of (selector_means (over [] asked) e selector t is) ∙ sym none_joined
+
+pub timestamp_gives_nothing : TimestampGivesNothing
+timestamp_gives_nothing asked e inner selector t is inner_is = timestamp_means (over [] asked) e inner selector t is inner_is
+
+pub range_gives_nothing : RangeGivesNothing
+unfolding IsStrictlySortedBy
+range_gives_nothing asked e selector range at is =
+    range_means (over [] asked) e selector range at is ∙ sym (windows_join {P = Engine} takes (owed_at part.Windows asked e at) [] (record { at = at; rows = []; marks = nothing }) tt tt tt refl)

@@ -102,3 +102,15 @@ RangesJoin =
 -- without engines there are no samples
 abbrev pub NoEngineHasNone : Type 0
 NoEngineHasNone = (samples : AllSeries) → Parted [] samples → samples ≡ []
+
+-- and over no samples a selector, its timestamp and a range selector give nothing, as no cells joined do
+abbrev pub SelectorGivesNothing : Type 0
+SelectorGivesNothing = (asked : Asked) (e : Expr) (selector : Selector) (t : ℤ) → e.node ≡ node.Select selector → meaning_step (over [] asked) e t ≡ joined_rows []
+
+abbrev pub TimestampGivesNothing : Type 0
+TimestampGivesNothing =
+    (asked : Asked) (e inner : Expr) (selector : Selector) (t : ℤ)
+    → e.node ≡ node.Call func.Timestamp (inner ∷ []) → inner.node ≡ node.Select selector → meaning_step (over [] asked) e t ≡ joined_rows []
+
+abbrev pub RangeGivesNothing : Type 0
+RangeGivesNothing = (asked : Asked) (e : Expr) (selector : Selector) (range at : Ms) → e.node ≡ node.Range selector range → windows_at at (meaning (over [] asked) e at.0) ≡ joined_windows at []

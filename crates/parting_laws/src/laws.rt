@@ -1,7 +1,8 @@
 //! Laws of engines that hold a part of the samples each. The functions do nothing: each stands for what its contract says.
 ghost use Rattle.parting_laws.specs.Gathers.{GroupsAreGathered, RowsAreGathered, UnaskedGivesNothing, WindowsAreGathered};
 ghost use Rattle.parting_laws.specs.LocalLaws.{ConstantsStay, ElementsAreParted, HistogramsAreParted, LabelJoinsAreParted, LeftScalarsAreParted, ParensAreParted, QuantilesAreParted, RangesAreParted, ReplacementsAreParted, RightScalarsAreParted, SelectionsDecide, SelectorsAreParted, SignsAreParted, SortsAreParted, SubqueriesAreParted, TimestampsAreParted, WindowFunctionsAreParted};
-ghost use Rattle.parting_laws.specs.PartLaws.{EnginesHoldParts, EnginesIgnoreName, NoEngineHasNone, RangesJoin, SelectedArePart, SelectorsJoin, StampsArePart, TimestampsJoin, WindowsArePart};
+ghost use Rattle.parting_laws.specs.Locals.{LocalsAreParted};
+ghost use Rattle.parting_laws.specs.PartLaws.{EnginesHoldParts, EnginesIgnoreName, NoEngineHasNone, RangeGivesNothing, RangesJoin, SelectedArePart, SelectorGivesNothing, SelectorsJoin, StampsArePart, TimestampGivesNothing, TimestampsJoin, WindowsArePart};
 
 use promql_meaning::laws::meanings_are_well_formed;
 use step_cells::laws::partials_agree;
@@ -34,6 +35,13 @@ pub fn selectors_join()
     steps_are_well_formed();
     meanings_are_well_formed();
 }
+
+/// Over no samples a selector, the timestamp of a selector and a range selector give nothing, which is what no cells come to.
+pub fn no_samples_give_nothing()
+    ensures rows { SelectorGivesNothing }
+    ensures times { TimestampGivesNothing }
+    ensures windows { RangeGivesNothing }
+{}
 
 /// An expression means the same over two lists of samples of which each of its selectors selects the same series; so one in which no
 /// selector stands means the same over any samples.
@@ -99,6 +107,13 @@ pub fn labels_made_anew_are_parted()
 /// Quantiles of the histograms of a parted expression are parted, where samples aren't parted by the label of bounds.
 pub fn histograms_are_parted()
     ensures { HistogramsAreParted }
+{
+    unions_are_sets();
+}
+
+/// What a local expression gives is parted as the samples are.
+pub fn locals_are_parted()
+    ensures { LocalsAreParted }
 {
     unions_are_sets();
 }
