@@ -53,7 +53,7 @@ use Rattle.parting_laws.specs.Gathers.{GroupsAreGathered, RowsAreGathered, Windo
 use Rattle.parting_laws.specs.PartLaws.{IsPartOf, over, owed_at}
 use Rattle.parting_laws.specs.Parted.{Engine, Parted, declared_names, takes}
 use Rattle.parting_laws.specs.Portions.{IsOfOne, IsParted, Portion, StepParts, no_portion, portion_of, portions_of}
-use Rattle.parting_laws.proofs.Chosen.{both_along, everywhere, mapped_along}
+use Rattle.parting_laws.proofs.Chosen.{both_along, everywhere, mapped_along, of_mapped}
 use Rattle.parting_laws.proofs.Held.{engines_hold}
 use Rattle.parting_laws.proofs.Joins.{rows_of_parts, window_labels, windows_of_parts}
 use Rattle.parting_laws.proofs.Made.{row_labels}
@@ -112,10 +112,6 @@ module _ {P : Type 0} (called : P → Bool) where
 any_mapped : {A B : Type 0} (a : B → Bool) (f : A → B) (xs : List A) → list_any a (map f xs) ≡ list_any (λ x. a (f x)) xs
 any_mapped a f [] = refl
 any_mapped a f (x ∷ xs) = ap (λ b. a (f x) || b) (any_mapped a f xs)
-
-of_mapped : {A B : Type 0} (Q : B → Type 0) (f : A → B) (xs : List A) → AllByRecursion Q (map f xs) → AllByRecursion (λ (x : A). Q (f x)) xs
-of_mapped Q f [] a = tt
-of_mapped Q f (x ∷ xs) a = (a.0, of_mapped Q f xs a.1)
 
 module _ (unions : UnionHasMarks) (note_unions : UnionHasNotes) (sets : UnionIsSet) (well : MeaningIsWellFormed)
     (engines : List Engine) (asked : Asked) (e : Expr) (at : Ms) (parted : Parted engines asked.samples) (is_parted : IsParted (declared_names engines) e) where

@@ -10,16 +10,18 @@ use Rattle.std.specs.List.Sorted.{IsStrictlySortedBy}
 use Rattle.std.specs.Map.{keys_of, lookup}
 use Rattle.std.proofs.lemmas.Cmp.{tied_itself}
 use Rattle.std.proofs.lemmas.List.Kept.{IsStrictlySortedBy-filter}
+use Rattle.std.proofs.lemmas.List.Elements.{recursion_from_All}
 use Rattle.std.proofs.lemmas.Map.Entries.{lookup-filter-keys}
+use Rattle.std.proofs.lemmas.Map.Views.{All-keys_from_lookup}
 use Rattle.label_set.specs.Entries.{keys_filter, recursion_map}
 use Rattle.label_set.specs.LabelEquality.{labels_eq}
-use Rattle.label_set.specs.LabelOrder.{by_labels, by_labels_sorted, labels_cmp_ties, labels_cmp_total, labels_eq_at}
+use Rattle.label_set.specs.LabelOrder.{by_labels, by_labels_sorted, labels_cmp_ties, labels_cmp_total, labels_eq_at, labels_eq_equivalence}
 use Rattle.label_set.specs.Labels.{is_named, labels_cmp, metric_name}
 use Rattle.step_table.specs.Groups.{Names}
 use Rattle.promql_meaning.specs.Selecting.{AllSeries, Samples}
-use Rattle.parting_laws.specs.Parted.{Engine, HoldsItsOwn, Parted, declared_names, samples_under, takes}
+use Rattle.parting_laws.specs.Parted.{Engine, HoldsItsOwn, Parted, declared_names, samples_under, takers, takes}
 use Rattle.parting_laws.specs.PartLaws.{EnginesHoldParts, EnginesIgnoreName, IgnoresName, IsPartOf, NoEngineHasNone}
-use Rattle.parting_laws.proofs.Chosen.{mapped_along}
+use Rattle.parting_laws.proofs.Chosen.{mapped_along, of_mapped}
 use Rattle.parting_laws.proofs.Declared.{declared_left, not_among}
 use Rattle.parting_laws.proofs.Puts.{lookup_put, same_key}
 
@@ -100,12 +102,29 @@ pub engines_hold : EnginesHoldParts
 engines_hold engines samples parted =
     mapped_along (HoldsItsOwn samples) (λ (engine : Engine). IsPartOf (takes engine) samples engine.samples) (λ engine h. is_part (takes engine) samples engine.samples h) engines parted.held
 
+-- the names of each engine's declared labels
+names_declared : (engines : List Engine) (samples : AllSeries) → Parted engines samples → AllByRecursion (λ (engine : Engine). keys_of engine.declared ≡ declared_names engines) engines
+names_declared engines samples parted = of_mapped (λ (labels : Names). keys_of labels ≡ declared_names engines) (λ (engine : Engine). engine.declared) engines parted.declared.names
+
+pub each_looks : (engines : List Engine) (samples : AllSeries) (Q : List (List ℕ) → Engine → Type 0) → ((engine : Engine) → Q (keys_of engine.declared) engine) → Parted engines samples → AllByRecursion (Q (declared_names engines)) engines
+each_looks engines samples Q h parted =
+    mapped_along (λ (engine : Engine). keys_of engine.declared ≡ declared_names engines) (Q (declared_names engines)) (λ engine e. subst (λ (names : List (List ℕ)). Q names engine) e (h engine)) engines (names_declared engines samples parted)
+
 pub engines_ignore : EnginesIgnoreName
 engines_ignore engines samples parted =
     mapped_along (λ (engine : Engine). keys_of engine.declared ≡ declared_names engines) (λ (engine : Engine). IgnoresName (takes engine))
-    (λ engine e labels. declared_left (metric_name ∷ []) engine.declared labels (subst (AllByRecursion (λ (n : List ℕ). is_named (metric_name ∷ []) n ≡ false)) (sym e) (not_among metric_name (declared_names engines) parted.unnamed)))
-    engines parted.names
+    (λ engine e labels. declared_left (metric_name ∷ []) engine.declared labels (subst (AllByRecursion (λ (n : List ℕ). is_named (metric_name ∷ []) n ≡ false)) (sym e) (not_among metric_name (declared_names engines) parted.declared.unnamed)))
+    engines (names_declared engines samples parted)
+
+-- each series is one engine's
+pub each_one : (engines : List Engine) (samples : AllSeries) → Parted engines samples → AllByRecursion (λ (s : Names × Samples). length (takers engines s.0) ≡ 1) samples
+each_one engines samples parted =
+    of_mapped (λ (labels : Names). length (takers engines labels) ≡ 1) (λ (s : Names × Samples). s.0) samples
+    (recursion_from_All (λ (labels : Names). length (takers engines labels) ≡ 1) (keys_of samples) (All-keys_from_lookup labels_eq_equivalence (λ (labels : Names). length (takers engines labels) ≡ 1) samples (λ labels is. parted.one labels is)))
 
 pub no_engine : NoEngineHasNone
-no_engine [] parted = refl
-no_engine (s ∷ samples) parted = let none : 0 ≡ 1 = parted.one.0 in absurd (omega (arith, none))
+no_engine samples parted = by samples (each_one [] samples parted)
+  where
+    by : (all : AllSeries) → AllByRecursion (λ (s : Names × Samples). length (takers [] s.0) ≡ 1) all → all ≡ []
+    by [] a = refl
+    by (s ∷ all) a = let none : 0 ≡ 1 = a.0 in absurd (omega (arith, none))

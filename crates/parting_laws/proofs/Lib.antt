@@ -3,6 +3,7 @@ pub mod Chosen
 pub mod Constants
 pub mod Declared
 pub mod Gathered
+pub mod Growing
 pub mod Held
 pub mod Joins
 pub mod LabelsParted

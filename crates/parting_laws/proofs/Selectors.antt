@@ -41,7 +41,7 @@ use Rattle.promql_meaning.specs.declared.given.Stamped.{Stamped}
 use Rattle.parting_laws.specs.Parted.{Engine, Parted, takes}
 use Rattle.parting_laws.specs.PartLaws.{IgnoresName, IsPartOf, RangeGivesNothing, RangesJoin, SelectedArePart, SelectorGivesNothing, SelectorsJoin, StampsArePart, TimestampGivesNothing, TimestampsJoin, WindowsArePart, over, owed_at}
 use Rattle.parting_laws.proofs.Chosen.{all_mapped, both_along, chosen_all, chosen_filter, chosen_sorted, everywhere, filter_mapped, filter_turned, mapped_along}
-use Rattle.parting_laws.proofs.Held.{engines_hold, engines_ignore}
+use Rattle.parting_laws.proofs.Held.{each_one, engines_hold, engines_ignore}
 use Rattle.parting_laws.proofs.Joins.{rows_join, window_labels, windows_join}
 use Rattle.parting_laws.proofs.Made.{Keeps, made_all, made_step, row_labels, rows_made}
 use Rattle.parting_laws.proofs.MarksParted.{made_of_one, marks_made, no_sets, none_over, nothing, same_union, union_over}
@@ -117,7 +117,7 @@ module _ (engines : List Engine) where
   in_order (s ∷ samples) a = all_insert labels_cmp OfOne s.0 s.1 (by_labels samples) a.0 (λ e h. h) (in_order samples a.1)
 
   passing_one : (asked : Asked) (selector : Selector) → Parted engines asked.samples → AllByRecursion OfOne (passing asked.samples asked.kept selector.rules)
-  passing_one asked selector parted = recursion_filter OfOne (λ (s : Series). labels_pass asked.kept selector.rules s.0) (by_labels asked.samples) (in_order asked.samples parted.one)
+  passing_one asked selector parted = recursion_filter OfOne (λ (s : Series). labels_pass asked.kept selector.rules s.0) (by_labels asked.samples) (in_order asked.samples (each_one engines asked.samples parted))
 
   selected_one : (asked : Asked) (selector : Selector) (t : ℤ) → Parted engines asked.samples → AllByRecursion (λ (row : Stamped). IsOfOne takes engines row.labels) (selected asked selector t)
   selected_one asked selector t parted =

@@ -22,7 +22,7 @@ use Rattle.parting_laws.specs.Parted.{Engine, Parted, declared_names, has_declar
 use Rattle.parting_laws.specs.Portions.{ArePortions, IsOfOne, LooksAt, Portion, no_portion, portion_of, portions_of}
 use Rattle.parting_laws.proofs.Chosen.{all_mapped, filter_mapped, mapped_along}
 use Rattle.parting_laws.proofs.Constants.{selections_decide}
-use Rattle.parting_laws.proofs.Held.{engines_hold}
+use Rattle.parting_laws.proofs.Held.{each_looks, each_one, engines_hold}
 
 -- ---- rules that ask a declared label for another value
 
@@ -121,11 +121,10 @@ one_of_engines engines labels e =
 
 pub engines_are_portions : (engines : List Engine) (samples : AllSeries) → Parted engines samples → ArePortions (declared_names engines) (portions_of engines) samples
 engines_are_portions engines samples parted = record {
-  unnamed = parted.unnamed;
+  unnamed = parted.declared.unnamed;
   some = omega arith;
   looks = (λ m n a. refl,
-      all_mapped (λ (p : Portion). LooksAt (declared_names engines) p.test) portion_of engines
-      (mapped_along (λ (engine : Engine). keys_of engine.declared ≡ declared_names engines) (λ (engine : Engine). LooksAt (declared_names engines) (takes engine)) (λ engine e. subst (λ (ns : List (List ℕ)). LooksAt ns (takes engine)) e (declared_looks engine.declared)) engines parted.names));
+      all_mapped (λ (p : Portion). LooksAt (declared_names engines) p.test) portion_of engines (each_looks engines samples (λ (names : List (List ℕ)) (engine : Engine). LooksAt names (takes engine)) (λ engine. declared_looks engine.declared) parted));
   held = (sym (filtered_none (by_labels samples)), all_mapped (λ (p : Portion). IsPartOf p.test samples p.samples) portion_of engines (engines_hold engines samples parted));
-  one = mapped_along (λ (s : Names × Samples). length (filter (λ (e : Engine). takes e s.0) engines) ≡ 1) (λ (s : Names × Samples). IsOfOne (portions_of engines) s.0) (λ s e. one_of_portions engines s.0 e) samples parted.one;
+  one = mapped_along (λ (s : Names × Samples). length (filter (λ (e : Engine). takes e s.0) engines) ≡ 1) (λ (s : Names × Samples). IsOfOne (portions_of engines) s.0) (λ s e. one_of_portions engines s.0 e) samples (each_one engines samples parted);
 }

@@ -1,5 +1,5 @@
 -- What a part of the samples gives, and what all parts come to together. (This project's own.)
-use Rattle.std.specs.Prelude.{◌≡◌, ◌∷◌, ℤ, Bool, List, [], filter, map}
+use Rattle.std.specs.Prelude.{◌≡◌, ◌≤◌, ◌∷◌, ◌++◌, ℤ, Bool, true, List, [], filter, length, map}
 use Rattle.std.specs.List.{AllByRecursion}
 use Rattle.func_table.specs.declared.table.Func.TheVariants as func
 use Rattle.label_set.specs.LabelOrder.{by_labels}
@@ -19,7 +19,7 @@ use Rattle.promql_meaning.specs.Elements.{nameless, stamps}
 use Rattle.promql_meaning.specs.Meaning.{meaning, meaning_step}
 use Rattle.promql_meaning.specs.Selecting.{AllSeries, Asked, Samples, selected, selected_windows}
 use Rattle.promql_meaning.specs.declared.given.Stamped.{Stamped}
-use Rattle.parting_laws.specs.Parted.{Engine, Parted, takes}
+use Rattle.parting_laws.specs.Parted.{Engine, IsPut, MayBeDeclared, Parted, declared_to, takers, takes, with_samples}
 
 -- ---- a part of the samples
 
@@ -98,6 +98,23 @@ RangesJoin =
     → Parted engines asked.samples
     → e.node ≡ node.Range selector range
     → joined_windows at (owed_by part.Windows asked e at engines) ≡ windows_at at (meaning asked e at.0)
+
+-- of engines whose labels may be declared one at most takes any labels
+abbrev pub OneTakes : Type 0
+OneTakes = (engines : List Engine) (labels : Names) → MayBeDeclared (declared_to engines) → length (takers engines labels) ≤ 1
+
+-- no samples are parted over engines that hold none, and samples stay parted where some are put at the engine whose labels they have
+abbrev pub NothingIsParted : Type 0
+NothingIsParted = (engines : List Engine) → MayBeDeclared (declared_to engines) → AllByRecursion (λ (engine : Engine). engine.samples ≡ []) engines → Parted engines []
+
+abbrev pub PutsStayParted : Type 0
+PutsStayParted =
+    (front back : List Engine) (engine : Engine) (before after held : AllSeries) (labels : Names) (samples : Samples)
+    → Parted (front ++ engine ∷ back) before
+    → takes engine labels ≡ true
+    → IsPut before labels samples after
+    → IsPut engine.samples labels samples held
+    → Parted (front ++ with_samples held engine ∷ back) after
 
 -- without engines there are no samples
 abbrev pub NoEngineHasNone : Type 0

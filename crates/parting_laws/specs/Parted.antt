@@ -1,5 +1,5 @@
 -- Samples that are parted over engines, and the labels that tell whose a series is. (This project's own.)
-use Rattle.std.specs.Prelude.{◌≡◌, ℕ, Bool, false, List, [], ◌∷◌, filter, length, map, bytes_eq, Option, None, if◌then◌else◌}
+use Rattle.std.specs.Prelude.{◌≡◌, ℕ, Bool, false, List, [], ◌∷◌, filter, length, map, bytes_eq, Option, None, Some, IsSome, if◌then◌else◌}
 use Rattle.std.specs.List.{AllByRecursion, IsDistinct, list_all}
 use Rattle.std.specs.Map.{keys_of, lookup}
 use Rattle.label_set.specs.LabelEquality.{labels_eq}
@@ -30,10 +30,23 @@ takes engine labels = has_declared engine.declared labels
 abbrev pub takers : List Engine → Names → List Engine
 takers engines labels = filter (λ (engine : Engine). takes engine labels) engines
 
--- the names of the labels that the first engine declares; where samples are parted each declares these
+-- the labels that are declared to engines
+abbrev pub declared_to : List Engine → List Names
+declared_to engines = map (λ (engine : Engine). engine.declared) engines
+
+-- the names of the first of some labels
+abbrev pub names_of_first : List Names → List (List ℕ)
+names_of_first [] = []
+names_of_first (labels ∷ others) = keys_of labels
+
 abbrev pub declared_names : List Engine → List (List ℕ)
-declared_names [] = []
-declared_names (engine ∷ engines) = keys_of engine.declared
+declared_names engines = names_of_first (declared_to engines)
+
+-- labels that may be declared: all have the same names, the metric's name not among them, and no two the same values
+pub record MayBeDeclared (all : List Names) : Type 0 where
+  pub names : AllByRecursion (λ (labels : Names). keys_of labels ≡ names_of_first all) all
+  pub unnamed : is_named (names_of_first all) metric_name ≡ false
+  pub values : IsDistinct labels_eq all
 
 -- ---- what engines hold
 
@@ -45,11 +58,18 @@ samples_under series labels = lookup (labels_eq labels) series
 abbrev pub HoldsItsOwn : AllSeries → Engine → Type 0
 HoldsItsOwn samples engine = (labels : Names) → samples_under engine.samples labels ≡ (if takes engine labels then samples_under samples labels else None)
 
--- all engines declare the same label names, the metric's name not among them, and no two the same values; each series has the
--- declared labels of exactly one engine; and each engine holds its own series, and no others
+-- samples are parted over engines: the labels that are declared to these may be; each series has the declared labels of exactly one
+-- engine; and each engine holds its own series, and no others
 pub record Parted (engines : List Engine) (samples : AllSeries) : Type 0 where
-  pub names : AllByRecursion (λ (engine : Engine). keys_of engine.declared ≡ declared_names engines) engines
-  pub unnamed : is_named (declared_names engines) metric_name ≡ false
-  pub values : IsDistinct labels_eq (map (λ (engine : Engine). engine.declared) engines)
-  pub one : AllByRecursion (λ (series : Names × Samples). length (takers engines series.0) ≡ 1) samples
+  pub declared : MayBeDeclared (declared_to engines)
+  pub one : (labels : Names) → IsSome (samples_under samples labels) → length (takers engines labels) ≡ 1
   pub held : AllByRecursion (HoldsItsOwn samples) engines
+
+-- ---- samples that come
+
+-- series have these samples under some labels, and under others what they had before
+abbrev pub IsPut : AllSeries → Names → Samples → AllSeries → Type 0
+IsPut before labels samples after = (other : Names) → samples_under after other ≡ (if labels_eq labels other then Some samples else samples_under before other)
+
+abbrev pub with_samples : AllSeries → Engine → Engine
+with_samples samples engine = record engine { samples = samples }
