@@ -1,8 +1,7 @@
 -- Each local expression is parted.
 use Rattle.std.proofs.Common.{inl, inr}
-use Rattle.promql_ast.specs.declared.tree.Expr.{Expr}
 use Rattle.step_table.specs.Laws.{UnionHasMarks, UnionHasNotes}
-use Rattle.parting_laws.specs.Locals.{IsLocal, LocalsAreParted}
+use Rattle.parting_laws.specs.Locals.{LocalsAreParted}
 use Rattle.parting_laws.specs.Locals.{selector, paren, sign, element, timestamp, sort, sort_desc, scalar_right, scalar_left, of_range, of_subquery, quantile_of_range, quantile_of_subquery, label_replace, label_join, histogram_quantile}
 use Rattle.parting_laws.proofs.LabelsParted.{histograms_parted, label_joins_parted, replacements_parted}
 use Rattle.parting_laws.proofs.Locals.{elements_parted, left_parted, parens_parted, ranges_parted, right_parted, selectors_parted, signs_parted, sorts_parted, timestamps_parted}

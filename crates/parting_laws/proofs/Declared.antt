@@ -1,9 +1,6 @@
 -- Declared labels, and labels of which some are taken out.
 use Rattle.std.proofs.Common.{◌≡◌, ◌∙◌, ℕ, Bool, true, false, List, [], ◌∷◌, refl, sym, ap}
 use Rattle.std.specs.Prelude.{◌&&◌, ◌||◌, not, unwrap_or, bytes_eq}
-use Rattle.std.specs.declared.cmp.Ordering.{Ordering}
-use Rattle.std.specs.declared.cmp.Ordering.TheVariants.{Less, Equal, Greater}
-use Rattle.std.specs.Ordering.{is_eq}
 use Rattle.std.specs.BTreeMap.{is_at}
 use Rattle.std.specs.List.{AllByRecursion}
 use Rattle.std.specs.Map.{keys_of}
@@ -12,7 +9,7 @@ use Rattle.std.proofs.lemmas.Map.Lookups.{exact_bytes}
 use Rattle.std.proofs.lemmas.Slice.Eq.{bytes_eq-Decides}
 use Rattle.label_set.specs.Labels.{byte_cmp, is_named, value_of, without}
 use Rattle.step_table.specs.Groups.{Names}
-use Rattle.parting_laws.specs.Parted.{has_declared, has_pair}
+use Rattle.parting_laws.specs.Parted.{has_declared}
 use Rattle.parting_laws.proofs.Puts.{same_key}
 
 -- a name that isn't taken out keeps its value

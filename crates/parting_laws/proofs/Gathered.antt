@@ -1,14 +1,11 @@
 -- What the engines give that are asked for an expression is what it means.
-use Rattle.std.proofs.Common.{◌≡◌, ◌∙◌, ◌<◌, ℕ, Bool, true, false, cond, List, [], ◌∷◌, ◌++◌, length, map, refl, sym, ap, subst, arith, inl, inr, ⊎_elim}
-use Rattle.std.specs.Prelude.{◌||◌, ◌⊎◌, filter, not, ℤ, IsTrue}
-use Rattle.std.specs.BTreeMap.{is_at}
+use Rattle.std.proofs.Common.{◌≡◌, ◌∙◌, Bool, true, false, cond, List, [], ◌∷◌, ◌++◌, length, map, refl, sym, ap, subst, inl, inr}
+use Rattle.std.specs.Prelude.{◌||◌, filter, ℤ, IsTrue}
 use Rattle.std.specs.List.{AllByRecursion, filter_map, list_any}
-use Rattle.std.specs.List.Sorted.{IsStrictlySortedBy}
 use Rattle.std.proofs.lemmas.Simd.{map-map}
 use Rattle.func_table.specs.declared.table.Aggregate.{Aggregate}
 use Rattle.func_table.specs.declared.table.Aggregate.TheVariants as aggregate
 use Rattle.label_set.specs.Entries.{recursion_filter}
-use Rattle.label_set.specs.Labels.{labels_cmp}
 use Rattle.label_set.specs.declared.rules.Grouping.{Grouping}
 use Rattle.promql_ast.specs.Folds.{fold-Aggregate}
 use Rattle.promql_ast.specs.declared.tree.Expr.{Expr}
@@ -18,16 +15,15 @@ use Rattle.step_table.specs.Groups.{Names, gathered, shared_names}
 use Rattle.step_table.specs.KeySets.{sorted_set}
 use Rattle.step_table.specs.Laws.{UnionHasMarks, UnionHasNotes, UnionIsSet, has_mark, has_note}
 use Rattle.step_table.specs.OrderLaws.{mark_cmp_ties, mark_cmp_total, note_cmp_ties, note_cmp_total}
-use Rattle.step_table.specs.Orders.{mark_cmp, note_cmp}
+use Rattle.step_table.specs.Orders.{mark_cmp}
 use Rattle.step_table.specs.Outcomes.{keyed, mark_of, row_of}
 use Rattle.step_table.specs.Sets.{step_of_rows}
 use Rattle.step_table.specs.Shuffles.{Shuffled, none, kept, swapped, joined}
-use Rattle.step_table.specs.Shuffling.{mapped_shuffled, shared_shuffled, turned_back}
+use Rattle.step_table.specs.Shuffling.{mapped_shuffled, shared_shuffled}
 use Rattle.step_table.specs.Timed.{StepAt}
 use Rattle.step_table.specs.Unions.{set_of, united, with_fatal}
-use Rattle.step_table.specs.WellFormed.{AreSets, IsTable, IsWellFormed}
+use Rattle.step_table.specs.WellFormed.{AreSets}
 use Rattle.step_table.specs.declared.cells.PartKind.TheVariants as part
-use Rattle.step_table.specs.declared.cells.StepCells.{StepCells}
 use Rattle.step_table.specs.declared.marks.Mark.{Mark}
 use Rattle.step_table.specs.declared.marks.Mark.TheVariants.{Overflow}
 use Rattle.step_table.specs.declared.marks.Marks.{Marks}
@@ -38,7 +34,7 @@ use Rattle.step_table.specs.declared.windows.WindowRow.{WindowRow}
 use Rattle.step_batch.specs.LentWindows.{WindowsAt}
 use Rattle.step_cells.specs.CellLaws.{Agree, HaveNumbers, PartialsAgree, has_overflow, rows_of_all}
 use Rattle.step_cells.specs.InOrder.{none_share}
-use Rattle.step_cells.specs.Joined.{joined_partials, joined_rows, joined_windows}
+use Rattle.step_cells.specs.Joined.{joined_partials, joined_rows}
 use Rattle.step_cells.specs.Owed.{is_partial, partial_cells, row_cells, value_cell, window_cell, windows_at}
 use Rattle.ticks.specs.declared.moment.Ms.{Ms}
 use Rattle.xfrac.specs.Laws.{IsNumber}
@@ -52,7 +48,7 @@ use Rattle.promql_meaning.specs.declared.given.Given.{Given}
 use Rattle.parting_laws.specs.Gathers.{GroupsAreGathered, RowsAreGathered, WindowsAreGathered, asked_for, is_asked, marks_of_none}
 use Rattle.parting_laws.specs.PartLaws.{IsPartOf, over, owed_at}
 use Rattle.parting_laws.specs.Parted.{Engine, Parted, declared_names, takes}
-use Rattle.parting_laws.specs.Portions.{IsOfOne, IsParted, Portion, StepParts, no_portion, portion_of, portions_of}
+use Rattle.parting_laws.specs.Portions.{IsOfOne, IsParted, Portion, StepParts, portion_of, portions_of}
 use Rattle.parting_laws.proofs.Chosen.{both_along, everywhere, mapped_along, of_mapped}
 use Rattle.parting_laws.proofs.Held.{engines_hold}
 use Rattle.parting_laws.proofs.Joins.{rows_of_parts, window_labels, windows_of_parts}
@@ -170,13 +166,13 @@ module _ (unions : UnionHasMarks) (note_unions : UnionHasNotes) (sets : UnionIsS
   marks_together =
       same_marks (united together empty.marks) whole.marks (sets together empty.marks together_sets (well (over [] asked) e t).marks) (well asked e t).marks
       (λ mark. unions together empty.marks mark ∙ ap (λ b. b || has_mark empty.marks.fatal mark) (all_have unions (λ (engine : Engine). (piece engine).marks) mark nothing called)
-          ∙ any_called (is_asked e) (λ (engine : Engine). has_mark (piece engine).marks.fatal mark) (has_mark empty.marks.fatal mark) engines
-          (mapped_along (λ (engine : Engine). is_asked e engine ≡ false → piece engine ≡ empty) (λ (engine : Engine). is_asked e engine ≡ false → has_mark (piece engine).marks.fatal mark ≡ has_mark empty.marks.fatal mark) (λ engine h n. ap (λ (s : Step). has_mark s.marks.fatal mark) (h n)) engines unasked)
-          ∙ ap (λ b. has_mark empty.marks.fatal mark || b) (sym (any_mapped (λ (p : Portion). has_mark (step_of (meaning (over p.samples asked) e t)).marks.fatal mark) portion_of engines)) ∙ parts.marks.fatal mark)
+      ∙ any_called (is_asked e) (λ (engine : Engine). has_mark (piece engine).marks.fatal mark) (has_mark empty.marks.fatal mark) engines
+      (mapped_along (λ (engine : Engine). is_asked e engine ≡ false → piece engine ≡ empty) (λ (engine : Engine). is_asked e engine ≡ false → has_mark (piece engine).marks.fatal mark ≡ has_mark empty.marks.fatal mark) (λ engine h n. ap (λ (s : Step). has_mark s.marks.fatal mark) (h n)) engines unasked)
+      ∙ ap (λ b. has_mark empty.marks.fatal mark || b) (sym (any_mapped (λ (p : Portion). has_mark (step_of (meaning (over p.samples asked) e t)).marks.fatal mark) portion_of engines)) ∙ parts.marks.fatal mark)
       (λ note. note_unions together empty.marks note ∙ ap (λ b. b || has_note empty.marks.notes note) (all_have_notes note_unions (λ (engine : Engine). (piece engine).marks) note nothing called)
-          ∙ any_called (is_asked e) (λ (engine : Engine). has_note (piece engine).marks.notes note) (has_note empty.marks.notes note) engines
-          (mapped_along (λ (engine : Engine). is_asked e engine ≡ false → piece engine ≡ empty) (λ (engine : Engine). is_asked e engine ≡ false → has_note (piece engine).marks.notes note ≡ has_note empty.marks.notes note) (λ engine h n. ap (λ (s : Step). has_note s.marks.notes note) (h n)) engines unasked)
-          ∙ ap (λ b. has_note empty.marks.notes note || b) (sym (any_mapped (λ (p : Portion). has_note (step_of (meaning (over p.samples asked) e t)).marks.notes note) portion_of engines)) ∙ parts.marks.notes note)
+      ∙ any_called (is_asked e) (λ (engine : Engine). has_note (piece engine).marks.notes note) (has_note empty.marks.notes note) engines
+      (mapped_along (λ (engine : Engine). is_asked e engine ≡ false → piece engine ≡ empty) (λ (engine : Engine). is_asked e engine ≡ false → has_note (piece engine).marks.notes note ≡ has_note empty.marks.notes note) (λ engine h n. ap (λ (s : Step). has_note s.marks.notes note) (h n)) engines unasked)
+      ∙ ap (λ b. has_note empty.marks.notes note || b) (sym (any_mapped (λ (p : Portion). has_note (step_of (meaning (over p.samples asked) e t)).marks.notes note) portion_of engines)) ∙ parts.marks.notes note)
 
   -- the rows of those that are asked are those of the whole
   rows_together : joined_rows (map (owed_at part.Rows asked e at) called) ≡ step_of_rows whole.table.rows together
@@ -222,13 +218,13 @@ module _ (unions : UnionHasMarks) (note_unions : UnionHasNotes) (sets : UnionIsS
       (sets (with_fatal (with_notes u []) fs) c (sets (with_notes u []) f (bare u su) (mark_sets fs)) sc)
       (sets (with_notes (united u c) []) f (bare (united u c) (sets u c su sc)) (mark_sets fs))
       (λ mark.
-          unions (with_fatal (with_notes u []) fs) c mark ∙ ap (λ b. b || has_mark c.fatal mark) (unions (with_notes u []) f mark ∙ ap (λ b. b || has_mark f.fatal mark) (unions u nothing mark))
-          ∙ four (has_mark u.fatal mark) (has_mark nothing.fatal mark) (has_mark f.fatal mark) (has_mark c.fatal mark)
-          ∙ sym (unions (with_notes (united u c) []) f mark ∙ ap (λ b. b || has_mark f.fatal mark) (unions (united u c) nothing mark ∙ ap (λ b. b || has_mark nothing.fatal mark) (unions u c mark))))
+      unions (with_fatal (with_notes u []) fs) c mark ∙ ap (λ b. b || has_mark c.fatal mark) (unions (with_notes u []) f mark ∙ ap (λ b. b || has_mark f.fatal mark) (unions u nothing mark))
+      ∙ four (has_mark u.fatal mark) (has_mark nothing.fatal mark) (has_mark f.fatal mark) (has_mark c.fatal mark)
+      ∙ sym (unions (with_notes (united u c) []) f mark ∙ ap (λ b. b || has_mark f.fatal mark) (unions (united u c) nothing mark ∙ ap (λ b. b || has_mark nothing.fatal mark) (unions u c mark))))
       (λ note.
-          note_unions (with_fatal (with_notes u []) fs) c note ∙ ap (λ b. b || has_note c.notes note) (note_unions (with_notes u []) f note ∙ ap (λ b. b || has_note f.notes note) (note_unions u nothing note))
-          ∙ four (has_note u.notes note) (has_note nothing.notes note) (has_note f.notes note) (has_note c.notes note)
-          ∙ sym (note_unions (with_notes (united u c) []) f note ∙ ap (λ b. b || has_note f.notes note) (note_unions (united u c) nothing note ∙ ap (λ b. b || has_note nothing.notes note) (note_unions u c note))))
+      note_unions (with_fatal (with_notes u []) fs) c note ∙ ap (λ b. b || has_note c.notes note) (note_unions (with_notes u []) f note ∙ ap (λ b. b || has_note f.notes note) (note_unions u nothing note))
+      ∙ four (has_note u.notes note) (has_note nothing.notes note) (has_note f.notes note) (has_note c.notes note)
+      ∙ sym (note_unions (with_notes (united u c) []) f note ∙ ap (λ b. b || has_note f.notes note) (note_unions (united u c) nothing note ∙ ap (λ b. b || has_note nothing.notes note) (note_unions u c note))))
     where
       four : (a b c d : Bool) → (((a || b) || c) || d) ≡ (((a || d) || b) || c)
       four true b c d = refl
@@ -289,8 +285,8 @@ module _ (unions : UnionHasMarks) (note_unions : UnionHasNotes) (sets : UnionIsS
       let cells : joined_partials f (map (partial_cells f by) steps) ≡ joined_partials f (map (owed_at (part.Partial f by) asked e at) called) = ap (joined_partials f) (map-map (partial_cells f by) step_given called) in
       subst (λ (s : Step). Agree (marked empty.marks (joined_partials f (map (owed_at (part.Partial f by) asked e at) called))) s) (marked_aggregation f by is)
       (agree_beside empty.marks (joined_partials f (map (owed_at (part.Partial f by) asked e at) called)) (summed f by (step_of_rows whole.table.rows together))
-          (subst (λ (s : Step). Agree (joined_partials f (map (owed_at (part.Partial f by) asked e at) called)) (summed f by s)) rows
-              (subst (λ (s : Step). Agree s (summed f by (joined_rows (map row_cells steps)))) cells plain)))
+      (subst (λ (s : Step). Agree (joined_partials f (map (owed_at (part.Partial f by) asked e at) called)) (summed f by s)) rows
+      (subst (λ (s : Step). Agree s (summed f by (joined_rows (map row_cells steps)))) cells plain)))
 
 -- ---- the laws
 
@@ -333,10 +329,10 @@ windows_are_gathered engines asked e selector range at parted is =
     windows_of_parts takes (owed_at part.Windows asked e at) called at xs (windows_sorted asked selector range.0 at.0)
     (subst (λ (r : List WindowRow). Shuffled xs r) (of_called (is_asked e) takes window_labels xs engines none) (all_parted takes window_labels engines xs (windows_one engines asked selector range.0 at.0 parted)))
     (mapped_along (λ (engine : Engine). selected_windows (over engine.samples asked) selector range.0 at.0 ≡ in_part takes window_labels engine xs) (λ (engine : Engine). (owed_at part.Windows asked e at engine).rows ≡ map window_cell (in_part takes window_labels engine xs))
-        (λ engine h. ap (map window_cell) (ap (λ (w : WindowsAt). w.rows) (means (over engine.samples asked)) ∙ h)) called
-        (recursion_filter (λ (engine : Engine). selected_windows (over engine.samples asked) selector range.0 at.0 ≡ in_part takes window_labels engine xs) (is_asked e) engines windows))
+    (λ engine h. ap (map window_cell) (ap (λ (w : WindowsAt). w.rows) (means (over engine.samples asked)) ∙ h)) called
+    (recursion_filter (λ (engine : Engine). selected_windows (over engine.samples asked) selector range.0 at.0 ≡ in_part takes window_labels engine xs) (is_asked e) engines windows))
     ∙ ap (λ (m : Marks). record { at = at; rows = xs; marks = m })
     (same_union (λ (engine : Engine). (owed_at part.Windows asked e at engine).marks) (λ (engine : Engine). nothing) nothing called
-        (everywhere (λ (engine : Engine). (owed_at part.Windows asked e at engine).marks ≡ nothing) (λ engine. ap (λ (w : WindowsAt). w.marks) (means (over engine.samples asked))) called)
-        ∙ none_over called)
+    (everywhere (λ (engine : Engine). (owed_at part.Windows asked e at engine).marks ≡ nothing) (λ engine. ap (λ (w : WindowsAt). w.marks) (means (over engine.samples asked))) called)
+    ∙ none_over called)
     ∙ sym (means asked)

@@ -3,8 +3,8 @@ use Rattle.std.proofs.Common.{◌≡◌, ◌∙◌, ℕ, Bool, true, false, cond
 use Rattle.std.specs.Prelude.{Option, filter, if◌then◌else◌}
 use Rattle.std.specs.declared.cmp.Ordering.{Ordering}
 use Rattle.std.specs.declared.cmp.Ordering.TheVariants.{Less, Equal, Greater}
-use Rattle.std.specs.Ordering.{match_ordering, ordering_reverse}
-use Rattle.std.specs.BTreeMap.{insert_entry, is_at}
+use Rattle.std.specs.Ordering.{ordering_reverse}
+use Rattle.std.specs.BTreeMap.{is_at}
 use Rattle.std.specs.List.{AllByRecursion}
 use Rattle.std.specs.List.Sorted.{IsStrictlySortedBy}
 use Rattle.std.specs.Map.{keys_of, lookup}
@@ -14,7 +14,6 @@ use Rattle.std.proofs.lemmas.List.Elements.{recursion_from_All}
 use Rattle.std.proofs.lemmas.Map.Entries.{lookup-filter-keys}
 use Rattle.std.proofs.lemmas.Map.Views.{All-keys_from_lookup}
 use Rattle.label_set.specs.Entries.{keys_filter, recursion_map}
-use Rattle.label_set.specs.LabelEquality.{labels_eq}
 use Rattle.label_set.specs.LabelOrder.{by_labels, by_labels_sorted, labels_cmp_ties, labels_cmp_total, labels_eq_at, labels_eq_equivalence}
 use Rattle.label_set.specs.Labels.{is_named, labels_cmp, metric_name}
 use Rattle.step_table.specs.Groups.{Names}

@@ -1,8 +1,8 @@
 -- Labels that are made anew, and histograms, that are parted.
-use Rattle.std.proofs.Common.{◌≡◌, ◌∙◌, ◌<◌, ℕ, Bool, true, false, cond, List, [], ◌∷◌, length, map, drop, refl, sym, ap, subst, Some, None}
+use Rattle.std.proofs.Common.{◌≡◌, ◌∙◌, ℕ, Bool, true, false, cond, List, [], ◌∷◌, map, drop, refl, sym, ap, subst, Some, None}
 use Rattle.std.specs.Prelude.{◌||◌, Option, Ok, filter, is_some, unwrap_or, bytes_eq, ℤ}
 use Rattle.std.specs.BTreeMap.{insert_entry, is_at}
-use Rattle.std.specs.List.{AllByRecursion, filter_map, list_any}
+use Rattle.std.specs.List.{AllByRecursion, filter_map}
 use Rattle.std.specs.Map.{lookup}
 use Rattle.std.specs.Option.{option_map}
 use Rattle.std.proofs.lemmas.Map.Lookups.{exact_bytes}
@@ -19,9 +19,7 @@ use Rattle.step_table.specs.Groups.{Names, gathered}
 use Rattle.step_table.specs.Laws.{UnionHasMarks, UnionHasNotes}
 use Rattle.step_table.specs.Matching.{labelled}
 use Rattle.step_table.specs.Orders.{note_cmp}
-use Rattle.step_table.specs.Unions.{set_of, united}
-use Rattle.step_table.specs.declared.marks.Marks.{Marks}
-use Rattle.step_table.specs.declared.outcomes.Outcome.{Outcome}
+use Rattle.step_table.specs.Unions.{set_of}
 use Rattle.step_table.specs.declared.step.Row.{Row}
 use Rattle.step_table.specs.declared.step.Step.{Step}
 use Rattle.promql_meaning.specs.Buckets.{bound_note, bound_of, bucket_label, bucket_of, bucket_quantiles, fixed_note, histogram_labels, histogram_outcome, histograms}
@@ -35,9 +33,9 @@ use Rattle.promql_meaning.specs.Templates.{Spans, expanded}
 use Rattle.promql_meaning.specs.declared.buckets.Bucket.{Bucket}
 use Rattle.promql_meaning.specs.declared.given.Given.{Given}
 use Rattle.promql_meaning.specs.declared.given.Given.TheVariants as given
-use Rattle.parting_laws.specs.LocalLaws.{HaveNoSelector, HistogramsAreParted, LabelJoinsAreParted, ReplacementsAreParted, has_selector, node_rules, rules_in}
+use Rattle.parting_laws.specs.LocalLaws.{HistogramsAreParted, LabelJoinsAreParted, ReplacementsAreParted, has_selector, node_rules}
 use Rattle.parting_laws.specs.PartLaws.{IgnoresName, over}
-use Rattle.parting_laws.specs.Portions.{ArePortions, GivenParts, HaveMarks, IsOfOne, IsParted, LooksAt, Portion, StepParts}
+use Rattle.parting_laws.specs.Portions.{ArePortions, HaveMarks, IsOfOne, LooksAt, Portion, StepParts}
 use Rattle.parting_laws.proofs.Chosen.{all_mapped, both_along, chosen_all, chosen_filter, everywhere, if_some, mapped_along}
 use Rattle.parting_laws.proofs.Declared.{not_among, value_left}
 use Rattle.parting_laws.proofs.Locals.{ignore_name, with_others}
@@ -121,7 +119,7 @@ histograms_in : (part : Names → Bool) → ((labels : Names) → part (without 
     → histograms (filter (λ (row : Row). part row.labels) rows) ≡ filter (λ (g : Histogram). part g.0) (histograms rows)
 histograms_in part alike rows =
     ap gathered (chosen_filter bucket_of (λ (row : Row). part row.labels) (λ (item : Names × Bucket). part item.0) rows
-        (everywhere (λ (row : Row). (item : Names × Bucket) → bucket_of row ≡ Some item → part item.0 ≡ part row.labels) (λ row item e. ap part (bucket_is row item e) ∙ alike row.labels) rows))
+    (everywhere (λ (row : Row). (item : Names × Bucket) → bucket_of row ≡ Some item → part item.0 ≡ part row.labels) (λ row item e. ap part (bucket_is row item e) ∙ alike row.labels) rows))
     ∙ gathered_in part (filter_map bucket_of rows)
 
 module _ (unions : UnionHasMarks) (note_unions : UnionHasNotes) (names : List (List ℕ)) (asked : Asked) (portions : List Portion) (ok : ArePortions names portions asked.samples) where
@@ -136,8 +134,8 @@ module _ (unions : UnionHasMarks) (note_unions : UnionHasNotes) (names : List (L
       let one : AllByRecursion (λ (g : Histogram). IsOfOne portions g.0) all =
       groups_named (IsOfOne portions) (filter_map bucket_of rows)
       (all_mapped (IsOfOne portions) (λ (item : Names × Bucket). item.0) (filter_map bucket_of rows)
-          (chosen_all bucket_of (λ (row : Row). IsOfOne portions row.labels) (λ (item : Names × Bucket). IsOfOne portions item.0)
-              (λ row item e k. subst (IsOfOne portions) (sym (bucket_is row item e)) (of_one_alike test_of portions (histogram_labels row) row.labels (all_alike names asked portions ok apart row.labels) k)) rows h.one)) in
+      (chosen_all bucket_of (λ (row : Row). IsOfOne portions row.labels) (λ (item : Names × Bucket). IsOfOne portions item.0)
+      (λ row item e k. subst (IsOfOne portions) (sym (bucket_is row item e)) (of_one_alike test_of portions (histogram_labels row) row.labels (all_alike names asked portions ok apart row.labels) k)) rows h.one)) in
       let ranged : HaveMarks portions (with_notes step.marks (range_notes q)) (λ p. with_notes (steps p).marks (range_notes q)) = marks_with portions unions note_unions ok.some step.marks (λ p. (steps p).marks) (record { fatal = []; notes = set_of note_cmp (range_notes q) }) h.marks in
       let bounded : HaveMarks portions (with_notes (with_notes step.marks (range_notes q)) (filter_map bound_note rows)) (λ p. with_notes (with_notes (steps p).marks (range_notes q)) (filter_map bound_note (steps p).table.rows)) =
       notes_parts portions unions note_unions row_labels (filter_map bound_note) (λ note x. if_some (is_at (note_cmp note)) (bound_note x)) (chosen_notes bound_note) (with_notes step.marks (range_notes q)) (λ p. with_notes (steps p).marks (range_notes q)) rows (λ p. (steps p).table.rows) h.rows h.one ranged in
@@ -145,7 +143,7 @@ module _ (unions : UnionHasMarks) (note_unions : UnionHasNotes) (names : List (L
       (λ p. with_notes (with_notes (with_notes (steps p).marks (range_notes q)) (filter_map bound_note (steps p).table.rows)) (filter_map (fixed_note q) (pieces p))) all pieces are one
       (mapped_along (λ (p : Portion). IgnoresName p.test) (λ (p : Portion). Keeps histogram_names (histogram_outcome q) p.test) (λ p k g v e. k g.0) portions (ignore_name names portions asked.samples ok))
       (notes_parts portions unions note_unions histogram_names (filter_map (fixed_note q)) (λ note x. if_some (is_at (note_cmp note)) (fixed_note q x)) (chosen_notes (fixed_note q))
-          (with_notes (with_notes step.marks (range_notes q)) (filter_map bound_note rows)) (λ p. with_notes (with_notes (steps p).marks (range_notes q)) (filter_map bound_note (steps p).table.rows)) all pieces are one bounded)
+      (with_notes (with_notes step.marks (range_notes q)) (filter_map bound_note rows)) (λ p. with_notes (with_notes (steps p).marks (range_notes q)) (filter_map bound_note (steps p).table.rows)) all pieces are one bounded)
 
 -- ---- expressions
 
@@ -164,8 +162,8 @@ module _ (unions : UnionHasMarks) (note_unions : UnionHasNotes) where
       with_others e inner (target ∷ others) (λ hs g. called func.LabelReplace (g ∷ hs) t) asked portions t
       (λ a. ap (λ (m : ℤ → Given). m t) (fold-Call (node_meaning a) (λ e. e.node) e func.LabelReplace (inner ∷ target ∷ others) is)) (words_select_nothing target label target_is, none)
       (vector_of portions (λ g. called func.LabelReplace (g ∷ gs) t) (relabelled f) (λ g h. refl)
-          (row_parts portions unions (λ row. labelled (f row.labels) row.value) (relabel_keeps names asked portions ok f (replaced_keeps names (words_of (meaning asked target t)) (words_at (given.Words [] ∷ gs) 2) (words_at (given.Words [] ∷ gs) 3) (words_at (given.Words [] ∷ gs) 4) here)))
-          (meaning asked inner t) (λ p. meaning (over p.samples asked) inner t) (parted asked portions t ok))
+      (row_parts portions unions (λ row. labelled (f row.labels) row.value) (relabel_keeps names asked portions ok f (replaced_keeps names (words_of (meaning asked target t)) (words_at (given.Words [] ∷ gs) 2) (words_at (given.Words [] ∷ gs) 3) (words_at (given.Words [] ∷ gs) 4) here)))
+      (meaning asked inner t) (λ p. meaning (over p.samples asked) inner t) (parted asked portions t ok))
 
   pub label_joins_parted : LabelJoinsAreParted
   label_joins_parted names e inner target label others is target_is apart none parted asked portions t ok =
@@ -175,8 +173,8 @@ module _ (unions : UnionHasMarks) (note_unions : UnionHasNotes) where
       with_others e inner (target ∷ others) (λ hs g. called func.LabelJoin (g ∷ hs) t) asked portions t
       (λ a. ap (λ (m : ℤ → Given). m t) (fold-Call (node_meaning a) (λ e. e.node) e func.LabelJoin (inner ∷ target ∷ others) is)) (words_select_nothing target label target_is, none)
       (vector_of portions (λ g. called func.LabelJoin (g ∷ gs) t) (relabelled f) (λ g h. refl)
-          (row_parts portions unions (λ row. labelled (f row.labels) row.value) (relabel_keeps names asked portions ok f (λ labels new k. set_keeps names (words_of (meaning asked target t)) (separated (words_at (given.Words [] ∷ gs) 2) (map (value_of labels) (map words_of (drop 3 (given.Words [] ∷ gs))))) labels new here k)))
-          (meaning asked inner t) (λ p. meaning (over p.samples asked) inner t) (parted asked portions t ok))
+      (row_parts portions unions (λ row. labelled (f row.labels) row.value) (relabel_keeps names asked portions ok f (λ labels new k. set_keeps names (words_of (meaning asked target t)) (separated (words_at (given.Words [] ∷ gs) 2) (map (value_of labels) (map words_of (drop 3 (given.Words [] ∷ gs))))) labels new here k)))
+      (meaning asked inner t) (λ p. meaning (over p.samples asked) inner t) (parted asked portions t ok))
 
   pub histograms_parted : HistogramsAreParted
   histograms_parted names e quantile inner is apart none parted asked portions t ok =
@@ -184,5 +182,5 @@ module _ (unions : UnionHasMarks) (note_unions : UnionHasNotes) where
       with_others e inner (quantile ∷ []) (λ hs g. given.Vector (with_scalar bucket_quantiles (step_at hs 0) (step_of g))) asked portions t
       (λ a. ap (λ (m : ℤ → Given). m t) (fold-Call (node_meaning a) (λ e. e.node) e func.HistogramQuantile (quantile ∷ inner ∷ []) is)) (none, tt)
       (vector_of portions (λ g. given.Vector (with_scalar bucket_quantiles (step_at qs 0) (step_of g))) (λ step. with_scalar bucket_quantiles (step_at qs 0) step) (λ g h. refl)
-          (scalar_parts portions unions note_unions ok.some bucket_quantiles (λ q. histogram_parts unions note_unions names asked portions ok apart q) (step_at qs 0))
-          (meaning asked inner t) (λ p. meaning (over p.samples asked) inner t) (parted asked portions t ok))
+      (scalar_parts portions unions note_unions ok.some bucket_quantiles (λ q. histogram_parts unions note_unions names asked portions ok apart q) (step_at qs 0))
+      (meaning asked inner t) (λ p. meaning (over p.samples asked) inner t) (parted asked portions t ok))

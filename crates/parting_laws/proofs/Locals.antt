@@ -1,7 +1,7 @@
 -- Expressions that are parted as the samples are.
-use Rattle.std.proofs.Common.{◌≡◌, ◌∙◌, ◌<◌, ℕ, Bool, true, false, cond, List, [], ◌∷◌, length, map, refl, sym, ap, subst, inl, inr, ⊎_elim, Some, None}
-use Rattle.std.specs.Prelude.{◌⊎◌, Option, Ok, filter, ℤ}
-use Rattle.std.specs.List.{AllByRecursion, filter_map}
+use Rattle.std.proofs.Common.{◌≡◌, ◌∙◌, ℕ, Bool, true, false, cond, List, [], ◌∷◌, map, refl, sym, ap, subst, ⊎_elim}
+use Rattle.std.specs.Prelude.{ℤ}
+use Rattle.std.specs.List.{AllByRecursion}
 use Rattle.func_table.specs.declared.table.Element.{Element}
 use Rattle.func_table.specs.declared.table.Element.TheVariants as element
 use Rattle.func_table.specs.declared.table.Func.TheVariants as func
@@ -12,29 +12,25 @@ use Rattle.label_set.specs.declared.rules.Pairing.{Pairing}
 use Rattle.match_rule.specs.Patterns.{labels_pass}
 use Rattle.promql_ast.specs.Folds.{fold-Call, fold-Negate, fold-Pair, fold-Paren, fold-Range, fold-Select}
 use Rattle.promql_ast.specs.declared.tree.Expr.{Expr}
-use Rattle.promql_ast.specs.declared.tree.Node.TheOpen.{Node-F}
-use Rattle.promql_ast.specs.declared.tree.Node.TheVariants as node
 use Rattle.promql_ast.specs.declared.tree.Selector.{Selector}
 use Rattle.xfrac.specs.declared.value.PairOp.{PairOp}
 use Rattle.xfrac.specs.declared.value.XFrac.{XFrac}
 use Rattle.step_table.specs.Groups.{Names}
 use Rattle.step_table.specs.Laws.{UnionHasMarks, UnionHasNotes}
-use Rattle.step_table.specs.Operators.{drops_name, unnamed}
-use Rattle.step_table.specs.declared.marks.Marks.{Marks}
+use Rattle.step_table.specs.Operators.{drops_name}
 use Rattle.step_table.specs.declared.outcomes.Outcome.{Outcome}
 use Rattle.step_table.specs.declared.step.Row.{Row}
 use Rattle.step_table.specs.declared.step.Step.{Step}
 use Rattle.step_table.specs.declared.windows.WindowRow.{WindowRow}
-use Rattle.ticks.specs.declared.moment.Ms.{Ms}
 use Rattle.promql_meaning.specs.Elements.{at_instant, element_outcome, instant_outcome, mapped, nameless, operated_rows, operator_outcome, stamp_outcome, stamps, timestamps}
 use Rattle.promql_meaning.specs.Givens.{barren, step_of, with_scalar}
-use Rattle.promql_meaning.specs.Meaning.{applied, applied_to, called, completed, given_at, meaning, negation, node_meaning, operation, rounding, step_at, zero_number}
+use Rattle.promql_meaning.specs.Meaning.{applied, called, completed, given_at, meaning, negation, node_meaning, operation, rounding, step_at, zero_number}
 use Rattle.promql_meaning.specs.Selecting.{AllSeries, Asked, Samples, moment_of, newest_row, passing, selected, selected_windows, series_window}
 use Rattle.promql_meaning.specs.declared.given.Given.{Given}
 use Rattle.promql_meaning.specs.declared.given.Given.TheVariants as given
 use Rattle.promql_meaning.specs.declared.given.Stamped.{Stamped}
 use Rattle.promql_meaning.specs.declared.given.Windows.{Windows}
-use Rattle.parting_laws.specs.LocalLaws.{ElementsAreParted, HaveNoSelector, IsConstantScalar, LeftScalarsAreParted, ParensAreParted, RangesAreParted, RightScalarsAreParted, SelectorsAreParted, SignsAreParted, SortsAreParted, TimestampsAreParted, has_selector}
+use Rattle.parting_laws.specs.LocalLaws.{ElementsAreParted, HaveNoSelector, LeftScalarsAreParted, ParensAreParted, RangesAreParted, RightScalarsAreParted, SelectorsAreParted, SignsAreParted, SortsAreParted, TimestampsAreParted}
 use Rattle.parting_laws.specs.PartLaws.{IgnoresName, IsPartOf, over}
 use Rattle.parting_laws.specs.Portions.{ArePortions, GivenParts, IsOfOne, IsParted, LooksAt, Portion, StepParts, samples_in, windows_in}
 use Rattle.parting_laws.specs.Portions as portions_of

@@ -1,17 +1,12 @@
 -- What is made of each of some things that have labels, and of those of a part.
 use Rattle.std.proofs.Common.{◌≡◌, ◌∙◌, Bool, true, false, List, [], ◌∷◌, map, refl, sym, ap, subst, Some, None}
-use Rattle.std.specs.Prelude.{Option, Result, Ok, Err, filter, fold, if◌then◌else◌}
-use Rattle.std.specs.declared.cmp.Ordering.TheVariants.{Less, Equal, Greater}
-use Rattle.std.specs.Ordering.{match_ordering}
-use Rattle.std.specs.BTreeSet.{insert_key}
+use Rattle.std.specs.Prelude.{Option, Result, Ok, Err, filter, if◌then◌else◌}
 use Rattle.std.specs.List.{AllByRecursion, cons_option, filter_map}
 use Rattle.std.specs.Map.{keys_of}
-use Rattle.label_set.specs.Labels.{labels_cmp}
 use Rattle.xfrac.specs.declared.value.NumFault.{NumFault}
 use Rattle.xfrac.specs.declared.value.XFrac.{XFrac}
 use Rattle.step_table.specs.Groups.{Names, gathered, has_several, items_of, names_among, shared_names, shared_of}
 use Rattle.step_table.specs.Outcomes.{keyed, row_of, settled, taken}
-use Rattle.step_table.specs.Unions.{set_of}
 use Rattle.step_table.specs.declared.marks.Marks.{Marks}
 use Rattle.step_table.specs.declared.outcomes.Outcome.{Outcome}
 use Rattle.step_table.specs.declared.step.Row.{Row}

@@ -1,6 +1,6 @@
 -- The groups, and the items that stand alone, of a part of the items.
-use Rattle.std.proofs.Common.{◌≡◌, ◌∙◌, ℕ, Bool, true, false, cond, List, [], ◌∷◌, map, refl, sym, ap, subst, Some, None}
-use Rattle.std.specs.Prelude.{◌||◌, ◌&&◌, Option, filter, fold}
+use Rattle.std.proofs.Common.{◌≡◌, ◌∙◌, Bool, true, false, cond, List, [], ◌∷◌, map, refl, sym, ap, subst, Some, None}
+use Rattle.std.specs.Prelude.{◌||◌, ◌&&◌, filter, fold}
 use Rattle.std.specs.declared.cmp.Ordering.TheVariants.{Less, Equal, Greater}
 use Rattle.std.specs.Ordering.{is_eq, match_ordering}
 use Rattle.std.specs.BTreeSet.{insert_key}

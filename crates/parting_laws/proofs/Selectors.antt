@@ -1,6 +1,6 @@
 -- Selectors over a part of the samples, and over all parts.
-use Rattle.std.proofs.Common.{◌≡◌, ◌∙◌, ℕ, Bool, List, [], ◌∷◌, map, refl, sym, ap, subst, Some, None}
-use Rattle.std.specs.Prelude.{Option, Ok, filter, ℤ}
+use Rattle.std.proofs.Common.{◌≡◌, ◌∙◌, Bool, List, [], ◌∷◌, map, refl, sym, ap, subst, Some, None}
+use Rattle.std.specs.Prelude.{Option, filter, ℤ}
 use Rattle.std.specs.List.{AllByRecursion, filter_map}
 use Rattle.std.specs.List.Sorted.{IsStrictlySortedBy}
 use Rattle.std.specs.Map.{keys_of}
@@ -21,8 +21,6 @@ use Rattle.step_table.specs.Groups.{Names}
 use Rattle.step_table.specs.Laws.{SettledIsWellFormed, TakenHasSets, UnionHasMarks, UnionIsSet}
 use Rattle.step_table.specs.WellFormed.{AreSets}
 use Rattle.step_table.specs.declared.cells.PartKind.TheVariants as part
-use Rattle.step_table.specs.declared.cells.StepCells.{StepCells}
-use Rattle.step_table.specs.declared.marks.Marks.{Marks}
 use Rattle.step_table.specs.declared.step.Row.{Row}
 use Rattle.step_table.specs.declared.step.Step.{Step}
 use Rattle.step_table.specs.declared.windows.WindowRow.{WindowRow}
@@ -31,7 +29,7 @@ use Rattle.step_cells.specs.Joined.{joined_rows}
 use Rattle.step_cells.specs.Owed.{value_cell, window_cell, windows_at}
 use Rattle.ticks.specs.declared.moment.Ms.{Ms}
 use Rattle.promql_meaning.specs.Elements.{stamp_outcome, stamps, timestamps}
-use Rattle.promql_meaning.specs.Givens.{no_marks, step_of, unstamped}
+use Rattle.promql_meaning.specs.Givens.{step_of, unstamped}
 use Rattle.promql_meaning.specs.Laws.{MeaningIsWellFormed}
 use Rattle.promql_meaning.specs.Meaning.{meaning, meaning_step, node_meaning}
 use Rattle.promql_meaning.specs.Selecting.{AllSeries, Asked, Samples, moment_of, newest, newest_row, passing, selected, selected_windows, series_window, window, window_row}
@@ -44,7 +42,7 @@ use Rattle.parting_laws.proofs.Chosen.{all_mapped, both_along, chosen_all, chose
 use Rattle.parting_laws.proofs.Held.{each_one, engines_hold, engines_ignore}
 use Rattle.parting_laws.proofs.Joins.{rows_join, window_labels, windows_join}
 use Rattle.parting_laws.proofs.Made.{Keeps, made_all, made_step, row_labels, rows_made}
-use Rattle.parting_laws.proofs.MarksParted.{made_of_one, marks_made, no_sets, none_over, nothing, same_union, union_over}
+use Rattle.parting_laws.proofs.MarksParted.{made_of_one, marks_made, no_sets, none_over, nothing, same_union}
 use Rattle.parting_laws.proofs.Parts.{IsOfOne, in_part}
 
 abbrev Series : Type 0

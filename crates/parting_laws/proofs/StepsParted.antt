@@ -1,26 +1,22 @@
 -- Steps that are parted, and what is made of them.
-use Rattle.std.proofs.Common.{◌≡◌, ◌∙◌, ◌<◌, ℕ, Bool, true, false, List, [], ◌∷◌, length, map, refl, sym, ap, subst, arith, Some, None}
-use Rattle.std.specs.Prelude.{◌||◌, Option, filter}
+use Rattle.std.proofs.Common.{◌≡◌, ◌∙◌, ◌<◌, Bool, true, false, List, [], ◌∷◌, length, map, refl, sym, ap, subst, arith, Some, None}
+use Rattle.std.specs.Prelude.{◌||◌, filter}
 use Rattle.std.specs.List.{AllByRecursion, list_any}
 use Rattle.xfrac.specs.declared.value.XFrac.{XFrac}
 use Rattle.step_table.specs.Groups.{Names}
 use Rattle.step_table.specs.Laws.{UnionHasMarks, UnionHasNotes, has_mark, has_note}
 use Rattle.step_table.specs.Unions.{united}
-use Rattle.step_table.specs.declared.marks.Mark.{Mark}
 use Rattle.step_table.specs.declared.marks.Marks.{Marks}
 use Rattle.step_table.specs.declared.marks.Note.{Note}
 use Rattle.step_table.specs.declared.outcomes.Outcome.{Outcome}
 use Rattle.step_table.specs.declared.step.Row.{Row}
 use Rattle.step_table.specs.declared.step.Step.{Step}
-use Rattle.step_table.specs.declared.windows.WindowRow.{WindowRow}
 use Rattle.label_set.specs.declared.rules.Rule.{Rule}
 use Rattle.promql_meaning.specs.Elements.{row_by_row}
-use Rattle.promql_meaning.specs.Givens.{barren, both, by_value, marked, no_marks, step_of, unstamped, value_in, with_scalar, with_scalars}
+use Rattle.promql_meaning.specs.Givens.{barren, both, by_value, marked, step_of, unstamped, value_in, with_scalar, with_scalars}
 use Rattle.promql_meaning.specs.declared.given.Given.{Given}
 use Rattle.promql_meaning.specs.declared.given.Given.TheVariants as given
 use Rattle.promql_meaning.specs.declared.given.Stamped.{Stamped}
-use Rattle.promql_meaning.specs.declared.given.Windows.{Windows}
-use Rattle.step_table.specs.Sets.{step_of_rows}
 use Rattle.parting_laws.specs.Portions.{GivenParts, HaveMarks, IsOfOne, Portion, StepParts, samples_in, selected, vector, windows, windows_in}
 use Rattle.parting_laws.proofs.Chosen.{all_mapped, both_along, everywhere, filter_mapped, mapped_along}
 use Rattle.parting_laws.proofs.Made.{Keeps, made_all, made_step, row_labels, rows_made}

@@ -1,18 +1,15 @@
 -- Subqueries that are parted.
-use Rattle.std.proofs.Common.{◌≡◌, ◌∙◌, ℕ, Bool, true, false, cond, List, [], ◌∷◌, ◌++◌, map, refl, sym, ap, subst, Some, None}
-use Rattle.std.specs.Prelude.{◌||◌, Option, filter, ℤ}
+use Rattle.std.proofs.Common.{◌≡◌, ◌∙◌, Bool, true, false, cond, List, [], ◌∷◌, ◌++◌, map, refl, sym, ap, subst, Some}
+use Rattle.std.specs.Prelude.{◌||◌, filter, ℤ}
 use Rattle.std.specs.List.{AllByRecursion, filter_map, list_any}
 use Rattle.std.specs.Map.{keys_of}
 use Rattle.std.proofs.lemmas.List.{map-append}
 use Rattle.std.proofs.lemmas.List.Elements.{filter-append}
 use Rattle.promql_ast.specs.Folds.{fold-Subquery}
-use Rattle.promql_ast.specs.declared.tree.Expr.{Expr}
-use Rattle.promql_ast.specs.declared.tree.Moment.{Moment}
-use Rattle.promql_ast.specs.declared.tree.Node.TheVariants as node
 use Rattle.xfrac.specs.declared.value.XFrac.{XFrac}
-use Rattle.step_table.specs.Groups.{Names, gathered, items_of, names_among}
+use Rattle.step_table.specs.Groups.{Names, gathered}
 use Rattle.step_table.specs.Laws.{UnionHasMarks, UnionHasNotes, has_mark, has_note}
-use Rattle.step_table.specs.Timed.{StepAt, marks_of_steps, rows_of_steps, steps_over, timed}
+use Rattle.step_table.specs.Timed.{marks_of_steps, rows_of_steps, steps_over, timed}
 use Rattle.step_table.specs.Unions.{united}
 use Rattle.step_table.specs.declared.marks.Mark.{Mark}
 use Rattle.step_table.specs.declared.marks.Marks.{Marks}
@@ -23,7 +20,7 @@ use Rattle.step_table.specs.declared.windows.WindowRow.{WindowRow}
 use Rattle.ticks.specs.declared.moment.Ms.{Ms}
 use Rattle.promql_meaning.specs.Givens.{step_of}
 use Rattle.promql_meaning.specs.Meaning.{meaning, node_meaning}
-use Rattle.promql_meaning.specs.Selecting.{Asked, moment_of, window_row}
+use Rattle.promql_meaning.specs.Selecting.{moment_of, window_row}
 use Rattle.promql_meaning.specs.Subqueries.{as_times, gathered_windows, group_window, multiples, points_of}
 use Rattle.promql_meaning.specs.declared.given.Given.{Given}
 use Rattle.promql_meaning.specs.declared.given.Given.TheVariants as given
@@ -35,7 +32,7 @@ use Rattle.parting_laws.specs.Portions as portions_of
 use Rattle.parting_laws.proofs.Chosen.{chosen_all, chosen_filter, everywhere, mapped_along}
 use Rattle.parting_laws.proofs.Locals.{along}
 use Rattle.parting_laws.proofs.MarksParted.{all_have, all_have_notes, any_same, any_two, nothing, union_over}
-use Rattle.parting_laws.proofs.PartedGroups.{gathered_in, groups_named, items_in, names_all}
+use Rattle.parting_laws.proofs.PartedGroups.{gathered_in, groups_named, items_in}
 use Rattle.parting_laws.proofs.StepsParted.{none_any, step_parts}
 
 abbrev Timed : Type 0
@@ -153,8 +150,8 @@ module _ (unions : UnionHasMarks) (note_unions : UnionHasNotes) where
       let marks : Portion → Marks = λ p. marks_of_steps nothing (steps_over (pieces p) us) in
       portions_of.windows all marks refl
       (mapped_along (λ (p : Portion). (u : ℤ) → (pieces p u).table.rows ≡ filter (λ (row : Row). p.test row.labels) (whole u).table.rows) (λ (p : Portion). given.Windows (points_of closed (pieces p) range step m) ≡ given.Windows (record all { rows = windows_in p all.rows; marks = marks p }))
-          (λ p e. ap (λ (rows : List WindowRow). given.Windows (record all { rows = rows; marks = marks p })) (windows_part p.test whole (pieces p) e us)) portions
-          (for_each (λ (u : ℤ) (p : Portion). (pieces p u).table.rows ≡ filter (λ (row : Row). p.test row.labels) (whole u).table.rows) portions (λ u. (parts u).rows)))
+      (λ p e. ap (λ (rows : List WindowRow). given.Windows (record all { rows = rows; marks = marks p })) (windows_part p.test whole (pieces p) e us)) portions
+      (for_each (λ (u : ℤ) (p : Portion). (pieces p u).table.rows ≡ filter (λ (row : Row). p.test row.labels) (whole u).table.rows) portions (λ u. (parts u).rows)))
       (windows_all (IsOfOne portions) whole (λ u. (parts u).one) us)
       (over_have portions whole pieces (λ u. (parts u).marks) us)
 
@@ -163,4 +160,4 @@ module _ (unions : UnionHasMarks) (note_unions : UnionHasNotes) where
       along portions asked (λ a. meaning a e t) (λ a. given.Windows (points_of moment.closed (λ u. step_of (meaning a inner u)) range step (moment_of a moment t)))
       (λ a. ap (λ (f : ℤ → Given). f t) (fold-Subquery (node_meaning a) (λ e. e.node) e inner range step moment is))
       (points_parts portions moment.closed (λ u. step_of (meaning asked inner u)) (λ p u. step_of (meaning (over p.samples asked) inner u)) range step (moment_of asked moment t)
-          (λ u. step_parts portions (meaning asked inner u) (λ p. meaning (over p.samples asked) inner u) (parted asked portions u ok)))
+      (λ u. step_parts portions (meaning asked inner u) (λ p. meaning (over p.samples asked) inner u) (parted asked portions u ok)))

@@ -1,6 +1,6 @@
 -- Engines that aren't asked for an expression, and what stands in one over no samples.
-use Rattle.std.proofs.Common.{◌≡◌, ◌∙◌, ℕ, Bool, true, false, cond, List, [], ◌∷◌, length, map, refl, sym, ap, subst, arith}
-use Rattle.std.specs.Prelude.{◌||◌, ◌&&◌, not, filter, bytes_eq, ℤ}
+use Rattle.std.proofs.Common.{◌≡◌, ◌∙◌, ℕ, Bool, true, false, cond, List, [], ◌∷◌, length, refl, sym, ap, arith}
+use Rattle.std.specs.Prelude.{◌||◌, ◌&&◌, not, filter, bytes_eq}
 use Rattle.std.specs.List.{AllByRecursion, list_all, list_any}
 use Rattle.std.specs.Map.{keys_of}
 use Rattle.std.proofs.lemmas.List.{length-map}
@@ -11,15 +11,14 @@ use Rattle.label_set.specs.declared.rules.Rule.{Rule}
 use Rattle.label_set.specs.declared.rules.RuleKind.{RuleKind}
 use Rattle.label_set.specs.declared.rules.RuleKind.TheVariants.{Eq, Ne, Re, Nre}
 use Rattle.match_rule.specs.Patterns.{kind_passes, labels_pass}
-use Rattle.promql_ast.specs.declared.tree.Expr.{Expr}
 use Rattle.step_table.specs.Groups.{Names}
 use Rattle.promql_meaning.specs.Meaning.{meaning}
-use Rattle.promql_meaning.specs.Selecting.{AllSeries, Asked, Samples, passing}
+use Rattle.promql_meaning.specs.Selecting.{AllSeries, Samples, passing}
 use Rattle.parting_laws.specs.Gathers.{UnaskedGivesNothing, asks_another, excludes, is_asked, selects_none}
 use Rattle.parting_laws.specs.LocalLaws.{rules_in}
 use Rattle.parting_laws.specs.PartLaws.{IsPartOf, over}
 use Rattle.parting_laws.specs.Parted.{Engine, Parted, declared_names, has_declared, has_pair, takes}
-use Rattle.parting_laws.specs.Portions.{ArePortions, IsOfOne, LooksAt, Portion, no_portion, portion_of, portions_of}
+use Rattle.parting_laws.specs.Portions.{ArePortions, IsOfOne, LooksAt, Portion, portion_of, portions_of}
 use Rattle.parting_laws.proofs.Chosen.{all_mapped, filter_mapped, mapped_along}
 use Rattle.parting_laws.proofs.Constants.{selections_decide}
 use Rattle.parting_laws.proofs.Held.{each_looks, each_one, engines_hold}
@@ -123,8 +122,10 @@ pub engines_are_portions : (engines : List Engine) (samples : AllSeries) → Par
 engines_are_portions engines samples parted = record {
   unnamed = parted.declared.unnamed;
   some = omega arith;
-  looks = (λ m n a. refl,
-      all_mapped (λ (p : Portion). LooksAt (declared_names engines) p.test) portion_of engines (each_looks engines samples (λ (names : List (List ℕ)) (engine : Engine). LooksAt names (takes engine)) (λ engine. declared_looks engine.declared) parted));
+  looks = (
+    λ m n a. refl,
+    all_mapped (λ (p : Portion). LooksAt (declared_names engines) p.test) portion_of engines (each_looks engines samples (λ (names : List (List ℕ)) (engine : Engine). LooksAt names (takes engine)) (λ engine. declared_looks engine.declared) parted),
+  );
   held = (sym (filtered_none (by_labels samples)), all_mapped (λ (p : Portion). IsPartOf p.test samples p.samples) portion_of engines (engines_hold engines samples parted));
   one = mapped_along (λ (s : Names × Samples). length (filter (λ (e : Engine). takes e s.0) engines) ≡ 1) (λ (s : Names × Samples). IsOfOne (portions_of engines) s.0) (λ s e. one_of_portions engines s.0 e) samples (each_one engines samples parted);
 }

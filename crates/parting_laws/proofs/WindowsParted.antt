@@ -1,6 +1,6 @@
 -- Functions of windows that are parted.
-use Rattle.std.proofs.Common.{◌≡◌, ◌∙◌, ◌<◌, ℕ, Bool, true, false, cond, List, [], ◌∷◌, length, map, refl, sym, ap, subst, Some, None}
-use Rattle.std.specs.Prelude.{◌||◌, Option, Ok, filter, ℤ}
+use Rattle.std.proofs.Common.{◌≡◌, ◌∙◌, ◌<◌, Bool, true, false, List, [], ◌∷◌, length, map, refl, sym, ap, Some, None}
+use Rattle.std.specs.Prelude.{◌||◌, Option, ℤ}
 use Rattle.std.specs.BTreeMap.{is_at}
 use Rattle.std.specs.List.{AllByRecursion, filter_map, list_any}
 use Rattle.func_table.specs.declared.table.Func.TheVariants as func
@@ -8,8 +8,6 @@ use Rattle.func_table.specs.declared.table.Window.{Window}
 use Rattle.func_table.specs.declared.table.Window.TheVariants as window
 use Rattle.label_set.specs.declared.rules.Rule.{Rule}
 use Rattle.promql_ast.specs.Folds.{fold-Call}
-use Rattle.promql_ast.specs.declared.tree.Expr.{Expr}
-use Rattle.promql_ast.specs.declared.tree.Node.TheVariants as node
 use Rattle.xfrac.specs.declared.value.XFrac.{XFrac}
 use Rattle.step_table.specs.Groups.{Names}
 use Rattle.step_table.specs.KeySets.{any_of_set}
@@ -22,16 +20,15 @@ use Rattle.step_table.specs.declared.marks.Marks.{Marks}
 use Rattle.step_table.specs.declared.marks.Note.{Note}
 use Rattle.step_table.specs.declared.step.Step.{Step}
 use Rattle.step_table.specs.declared.windows.WindowRow.{WindowRow}
-use Rattle.promql_meaning.specs.Givens.{barren, by_value, step_of, value_in}
-use Rattle.promql_meaning.specs.Meaning.{argument, called, given_at, meaning, node_meaning, over_windows, over_windows_with, ranged, step_at, windowed_with, zero_number}
+use Rattle.promql_meaning.specs.Givens.{barren, by_value, value_in}
+use Rattle.promql_meaning.specs.Meaning.{called, given_at, meaning, node_meaning, over_windows, over_windows_with, step_at, windowed_with, zero_number}
 use Rattle.promql_meaning.specs.Outcomes.{range_notes, range_notes_of, with_notes}
 use Rattle.promql_meaning.specs.Ranges.{counter_note, window_labels, window_notes, window_outcome, windowed}
-use Rattle.promql_meaning.specs.Selecting.{Asked}
 use Rattle.promql_meaning.specs.declared.given.Given.{Given}
 use Rattle.promql_meaning.specs.declared.given.Given.TheVariants as given
 use Rattle.promql_meaning.specs.declared.given.Stamped.{Stamped}
 use Rattle.promql_meaning.specs.declared.given.Windows.{Windows}
-use Rattle.parting_laws.specs.LocalLaws.{HaveNoSelector, QuantilesAreParted, WindowFunctionsAreParted, is_quantile}
+use Rattle.parting_laws.specs.LocalLaws.{QuantilesAreParted, WindowFunctionsAreParted, is_quantile}
 use Rattle.parting_laws.specs.PartLaws.{IgnoresName, over}
 use Rattle.parting_laws.specs.Portions.{ArePortions, GivenParts, HaveMarks, IsOfOne, Portion, StepParts, samples_in, windows_in}
 use Rattle.parting_laws.specs.Portions as portions_of
@@ -41,7 +38,7 @@ use Rattle.parting_laws.proofs.Locals.{ignore_name, with_others}
 use Rattle.parting_laws.proofs.Made.{Keeps}
 use Rattle.parting_laws.proofs.MarksParted.{any_same, any_two, nothing, or_none}
 use Rattle.parting_laws.proofs.Parts.{any_parted, in_part}
-use Rattle.parting_laws.proofs.StepsParted.{IsNoScalar, barren_parts, made_parts, marks_with, no_marks_parted, none_any, test_of}
+use Rattle.parting_laws.proofs.StepsParted.{barren_parts, made_parts, marks_with, no_marks_parted, none_any, test_of}
 
 -- ---- notes
 
