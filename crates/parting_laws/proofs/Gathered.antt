@@ -45,7 +45,7 @@ use Rattle.promql_meaning.specs.Meaning.{aggregation, meaning, meaning_step, nod
 use Rattle.promql_meaning.specs.Outcomes.{with_notes}
 use Rattle.promql_meaning.specs.Selecting.{Asked, selected_windows}
 use Rattle.promql_meaning.specs.declared.given.Given.{Given}
-use Rattle.parting_laws.specs.Gathers.{GroupsAreGathered, RowsAreGathered, WindowsAreGathered, asked_for, is_asked, marks_of_none}
+use Rattle.parting_laws.specs.Gathers.{AllRowsAreGathered, GroupsAreGathered, MayLeaveOut, RowsAreGathered, WindowsAreGathered, gathered_groups, gathered_rows, is_asked, marks_of_none}
 use Rattle.parting_laws.specs.PartLaws.{IsPartOf, over, owed_at}
 use Rattle.parting_laws.specs.Parted.{Engine, Parted, declared_names, takes}
 use Rattle.parting_laws.specs.Portions.{IsOfOne, IsParted, Portion, StepParts, portion_of, portions_of}
@@ -110,7 +110,7 @@ any_mapped a f [] = refl
 any_mapped a f (x ∷ xs) = ap (λ b. a (f x) || b) (any_mapped a f xs)
 
 module _ (unions : UnionHasMarks) (note_unions : UnionHasNotes) (sets : UnionIsSet) (well : MeaningIsWellFormed)
-    (engines : List Engine) (asked : Asked) (e : Expr) (at : Ms) (parted : Parted engines asked.samples) (is_parted : IsParted (declared_names engines) e) where
+    (engines : List Engine) (asked : Asked) (e : Expr) (wanted : Engine → Bool) (at : Ms) (parted : Parted engines asked.samples) (is_parted : IsParted (declared_names engines) e) (may : MayLeaveOut e wanted) where
   abbrev t : ℤ
   t = at.0
 
@@ -133,27 +133,27 @@ module _ (unions : UnionHasMarks) (note_unions : UnionHasNotes) (sets : UnionIsS
   no_rows [] = refl
   no_rows (x ∷ xs) = no_rows xs
 
-  unasked : AllByRecursion (λ (engine : Engine). is_asked e engine ≡ false → piece engine ≡ empty) engines
+  unasked : AllByRecursion (λ (engine : Engine). wanted engine ≡ false → piece engine ≡ empty) engines
   unasked =
-      mapped_along (λ (engine : Engine). is_asked e engine ≡ false → meaning (over engine.samples asked) e t ≡ meaning (over [] asked) e t) (λ (engine : Engine). is_asked e engine ≡ false → piece engine ≡ empty) (λ engine h n. ap step_of (h n)) engines
+      mapped_along (λ (engine : Engine). is_asked e engine ≡ false → meaning (over engine.samples asked) e t ≡ meaning (over [] asked) e t) (λ (engine : Engine). wanted engine ≡ false → piece engine ≡ empty) (λ engine h n. ap step_of (h (may engine n))) engines
       (unasked_gives_nothing engines asked e t parted)
 
-  unasked_rows : AllByRecursion (λ (engine : Engine). is_asked e engine ≡ false → in_part takes row_labels engine whole.table.rows ≡ []) engines
+  unasked_rows : AllByRecursion (λ (engine : Engine). wanted engine ≡ false → in_part takes row_labels engine whole.table.rows ≡ []) engines
   unasked_rows =
-      mapped_along (λ (engine : Engine). ((piece engine).table.rows ≡ in_part takes row_labels engine whole.table.rows) × (is_asked e engine ≡ false → piece engine ≡ empty)) (λ (engine : Engine). is_asked e engine ≡ false → in_part takes row_labels engine whole.table.rows ≡ [])
+      mapped_along (λ (engine : Engine). ((piece engine).table.rows ≡ in_part takes row_labels engine whole.table.rows) × (wanted engine ≡ false → piece engine ≡ empty)) (λ (engine : Engine). wanted engine ≡ false → in_part takes row_labels engine whole.table.rows ≡ [])
       (λ engine h n. sym h.0 ∙ ap (λ (s : Step). s.table.rows) (h.1 n) ∙ parts.rows.0 ∙ no_rows whole.table.rows) engines
-      (both_along (λ (engine : Engine). (piece engine).table.rows ≡ in_part takes row_labels engine whole.table.rows) (λ (engine : Engine). is_asked e engine ≡ false → piece engine ≡ empty) engines engine_rows unasked)
+      (both_along (λ (engine : Engine). (piece engine).table.rows ≡ in_part takes row_labels engine whole.table.rows) (λ (engine : Engine). wanted engine ≡ false → piece engine ≡ empty) engines engine_rows unasked)
 
   abbrev called : List Engine
-  called = asked_for e engines
+  called = filter wanted engines
 
   turned : Shuffled whole.table.rows (of_parts takes row_labels called whole.table.rows)
   turned =
-      subst (λ (r : List Row). Shuffled whole.table.rows r) (of_called (is_asked e) takes row_labels whole.table.rows engines unasked_rows)
+      subst (λ (r : List Row). Shuffled whole.table.rows r) (of_called wanted takes row_labels whole.table.rows engines unasked_rows)
       (all_parted takes row_labels engines whole.table.rows (mapped_along (λ (row : Row). IsOfOne (portions_of engines) row.labels) (λ (row : Row). length (filter (λ (engine : Engine). takes engine row.labels) engines) ≡ 1) (λ row h. one_of_engines engines row.labels h) whole.table.rows parts.one))
 
   called_rows : AllByRecursion (λ (engine : Engine). (piece engine).table.rows ≡ in_part takes row_labels engine whole.table.rows) called
-  called_rows = recursion_filter (λ (engine : Engine). (piece engine).table.rows ≡ in_part takes row_labels engine whole.table.rows) (is_asked e) engines engine_rows
+  called_rows = recursion_filter (λ (engine : Engine). (piece engine).table.rows ≡ in_part takes row_labels engine whole.table.rows) wanted engines engine_rows
 
   abbrev together : Marks
   together = union_over (λ (engine : Engine). (piece engine).marks) nothing called
@@ -166,12 +166,12 @@ module _ (unions : UnionHasMarks) (note_unions : UnionHasNotes) (sets : UnionIsS
   marks_together =
       same_marks (united together empty.marks) whole.marks (sets together empty.marks together_sets (well (over [] asked) e t).marks) (well asked e t).marks
       (λ mark. unions together empty.marks mark ∙ ap (λ b. b || has_mark empty.marks.fatal mark) (all_have unions (λ (engine : Engine). (piece engine).marks) mark nothing called)
-      ∙ any_called (is_asked e) (λ (engine : Engine). has_mark (piece engine).marks.fatal mark) (has_mark empty.marks.fatal mark) engines
-      (mapped_along (λ (engine : Engine). is_asked e engine ≡ false → piece engine ≡ empty) (λ (engine : Engine). is_asked e engine ≡ false → has_mark (piece engine).marks.fatal mark ≡ has_mark empty.marks.fatal mark) (λ engine h n. ap (λ (s : Step). has_mark s.marks.fatal mark) (h n)) engines unasked)
+      ∙ any_called wanted (λ (engine : Engine). has_mark (piece engine).marks.fatal mark) (has_mark empty.marks.fatal mark) engines
+      (mapped_along (λ (engine : Engine). wanted engine ≡ false → piece engine ≡ empty) (λ (engine : Engine). wanted engine ≡ false → has_mark (piece engine).marks.fatal mark ≡ has_mark empty.marks.fatal mark) (λ engine h n. ap (λ (s : Step). has_mark s.marks.fatal mark) (h n)) engines unasked)
       ∙ ap (λ b. has_mark empty.marks.fatal mark || b) (sym (any_mapped (λ (p : Portion). has_mark (step_of (meaning (over p.samples asked) e t)).marks.fatal mark) portion_of engines)) ∙ parts.marks.fatal mark)
       (λ note. note_unions together empty.marks note ∙ ap (λ b. b || has_note empty.marks.notes note) (all_have_notes note_unions (λ (engine : Engine). (piece engine).marks) note nothing called)
-      ∙ any_called (is_asked e) (λ (engine : Engine). has_note (piece engine).marks.notes note) (has_note empty.marks.notes note) engines
-      (mapped_along (λ (engine : Engine). is_asked e engine ≡ false → piece engine ≡ empty) (λ (engine : Engine). is_asked e engine ≡ false → has_note (piece engine).marks.notes note ≡ has_note empty.marks.notes note) (λ engine h n. ap (λ (s : Step). has_note s.marks.notes note) (h n)) engines unasked)
+      ∙ any_called wanted (λ (engine : Engine). has_note (piece engine).marks.notes note) (has_note empty.marks.notes note) engines
+      (mapped_along (λ (engine : Engine). wanted engine ≡ false → piece engine ≡ empty) (λ (engine : Engine). wanted engine ≡ false → has_note (piece engine).marks.notes note ≡ has_note empty.marks.notes note) (λ engine h n. ap (λ (s : Step). has_note s.marks.notes note) (h n)) engines unasked)
       ∙ ap (λ b. has_note empty.marks.notes note || b) (sym (any_mapped (λ (p : Portion). has_note (step_of (meaning (over p.samples asked) e t)).marks.notes note) portion_of engines)) ∙ parts.marks.notes note)
 
   -- the rows of those that are asked are those of the whole
@@ -307,30 +307,38 @@ aggregation_means asked e inner f by t is partial = ap (λ (m : ℤ → Given). 
     of aggregate.CountValues h = absurd (cc)
 
 pub rows_are_gathered : UnionHasMarks → UnionHasNotes → UnionIsSet → MeaningIsWellFormed → RowsAreGathered
-rows_are_gathered unions note_unions sets well engines asked e at parted is_parted = rows_gathered unions note_unions sets well engines asked e at parted is_parted
+rows_are_gathered unions note_unions sets well engines asked e wanted at parted is_parted may = rows_gathered unions note_unions sets well engines asked e wanted at parted is_parted may
+
+all_wanted : (engines : List Engine) → filter (λ (engine : Engine). true) engines ≡ engines
+all_wanted [] = refl
+all_wanted (engine ∷ engines) = ap (λ (es : List Engine). engine ∷ es) (all_wanted engines)
+
+pub all_rows_are_gathered : UnionHasMarks → UnionHasNotes → UnionIsSet → MeaningIsWellFormed → AllRowsAreGathered
+all_rows_are_gathered unions note_unions sets well engines asked e at parted is_parted =
+    ap (λ (es : List Engine). gathered_rows asked e es at) (sym (all_wanted engines)) ∙ rows_gathered unions note_unions sets well engines asked e (λ engine. true) at parted is_parted (λ engine h. absurd (cc))
 
 pub groups_are_gathered : UnionHasMarks → UnionHasNotes → UnionIsSet → MeaningIsWellFormed → PartialsAgree → GroupsAreGathered
-groups_are_gathered unions note_unions sets well law engines asked e inner f by at parted is_parted is partial numbers =
-    subst (λ (s : Step). Agree (marked (marks_of_none asked inner at) (joined_partials f (map (owed_at (part.Partial f by) asked inner at) (asked_for inner engines)))) s) (sym (aggregation_means asked e inner f by at.0 is partial))
-    (groups_gathered unions note_unions sets well engines asked inner at parted is_parted law f by partial numbers)
+groups_are_gathered unions note_unions sets well law engines asked e inner f by wanted at parted is_parted may is partial numbers =
+    subst (λ (s : Step). Agree (gathered_groups f by asked inner (filter wanted engines) at) s) (sym (aggregation_means asked e inner f by at.0 is partial))
+    (groups_gathered unions note_unions sets well engines asked inner wanted at parted is_parted may law f by partial numbers)
 
 pub windows_are_gathered : WindowsAreGathered
-windows_are_gathered engines asked e selector range at parted is =
+windows_are_gathered engines asked e selector wanted range at parted is may =
     let xs : List WindowRow = selected_windows asked selector range.0 at.0 in
     let means = λ (a : Asked). range_means a e selector range at is in
-    let called : List Engine = asked_for e engines in
+    let called : List Engine = filter wanted engines in
     let windows : AllByRecursion (λ (engine : Engine). selected_windows (over engine.samples asked) selector range.0 at.0 ≡ in_part takes window_labels engine xs) engines =
     mapped_along (λ (engine : Engine). IsPartOf (takes engine) asked.samples engine.samples) (λ (engine : Engine). selected_windows (over engine.samples asked) selector range.0 at.0 ≡ in_part takes window_labels engine xs)
     (λ engine h. windows_part (takes engine) asked engine.samples selector range.0 at.0 h) engines (engines_hold engines asked.samples parted) in
-    let none : AllByRecursion (λ (engine : Engine). is_asked e engine ≡ false → in_part takes window_labels engine xs ≡ []) engines =
-    mapped_along (λ (engine : Engine). (selected_windows (over engine.samples asked) selector range.0 at.0 ≡ in_part takes window_labels engine xs) × (is_asked e engine ≡ false → meaning (over engine.samples asked) e at.0 ≡ meaning (over [] asked) e at.0)) (λ (engine : Engine). is_asked e engine ≡ false → in_part takes window_labels engine xs ≡ [])
-    (λ engine h n. sym h.0 ∙ ap (λ (w : WindowsAt). w.rows) (sym (means (over engine.samples asked)) ∙ ap (windows_at at) (h.1 n) ∙ means (over [] asked))) engines
+    let none : AllByRecursion (λ (engine : Engine). wanted engine ≡ false → in_part takes window_labels engine xs ≡ []) engines =
+    mapped_along (λ (engine : Engine). (selected_windows (over engine.samples asked) selector range.0 at.0 ≡ in_part takes window_labels engine xs) × (is_asked e engine ≡ false → meaning (over engine.samples asked) e at.0 ≡ meaning (over [] asked) e at.0)) (λ (engine : Engine). wanted engine ≡ false → in_part takes window_labels engine xs ≡ [])
+    (λ engine h n. sym h.0 ∙ ap (λ (w : WindowsAt). w.rows) (sym (means (over engine.samples asked)) ∙ ap (windows_at at) (h.1 (may engine n)) ∙ means (over [] asked))) engines
     (both_along (λ (engine : Engine). selected_windows (over engine.samples asked) selector range.0 at.0 ≡ in_part takes window_labels engine xs) (λ (engine : Engine). is_asked e engine ≡ false → meaning (over engine.samples asked) e at.0 ≡ meaning (over [] asked) e at.0) engines windows (unasked_gives_nothing engines asked e at.0 parted)) in
     windows_of_parts takes (owed_at part.Windows asked e at) called at xs (windows_sorted asked selector range.0 at.0)
-    (subst (λ (r : List WindowRow). Shuffled xs r) (of_called (is_asked e) takes window_labels xs engines none) (all_parted takes window_labels engines xs (windows_one engines asked selector range.0 at.0 parted)))
+    (subst (λ (r : List WindowRow). Shuffled xs r) (of_called wanted takes window_labels xs engines none) (all_parted takes window_labels engines xs (windows_one engines asked selector range.0 at.0 parted)))
     (mapped_along (λ (engine : Engine). selected_windows (over engine.samples asked) selector range.0 at.0 ≡ in_part takes window_labels engine xs) (λ (engine : Engine). (owed_at part.Windows asked e at engine).rows ≡ map window_cell (in_part takes window_labels engine xs))
     (λ engine h. ap (map window_cell) (ap (λ (w : WindowsAt). w.rows) (means (over engine.samples asked)) ∙ h)) called
-    (recursion_filter (λ (engine : Engine). selected_windows (over engine.samples asked) selector range.0 at.0 ≡ in_part takes window_labels engine xs) (is_asked e) engines windows))
+    (recursion_filter (λ (engine : Engine). selected_windows (over engine.samples asked) selector range.0 at.0 ≡ in_part takes window_labels engine xs) wanted engines windows))
     ∙ ap (λ (m : Marks). record { at = at; rows = xs; marks = m })
     (same_union (λ (engine : Engine). (owed_at part.Windows asked e at engine).marks) (λ (engine : Engine). nothing) nothing called
     (everywhere (λ (engine : Engine). (owed_at part.Windows asked e at engine).marks ≡ nothing) (λ engine. ap (λ (w : WindowsAt). w.marks) (means (over engine.samples asked))) called)

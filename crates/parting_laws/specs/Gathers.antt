@@ -46,23 +46,27 @@ is_asked e engine = not (list_all (selects_none engine) (rules_in e))
 abbrev pub asked_for : Expr → List Engine → List Engine
 asked_for e engines = filter (is_asked e) engines
 
+-- a choice of engines that leaves out none but such as need not be asked
+abbrev pub MayLeaveOut : Expr → (Engine → Bool) → Type 0
+MayLeaveOut e wanted = (engine : Engine) → wanted engine ≡ false → is_asked e engine ≡ false
+
 -- ---- what they give together
 
 -- the notes and marks of an expression over no samples
 abbrev pub marks_of_none : Asked → Expr → Ms → Marks
 marks_of_none asked e at = (meaning_step (over [] asked) e at.0).marks
 
--- the rows of the engines that are asked for an expression, joined, with the notes and marks that it has over no samples
+-- the rows that some engines give of an expression, joined, with the notes and marks that it has over no samples
 abbrev pub gathered_rows : Asked → Expr → List Engine → Ms → Step
-gathered_rows asked e engines at = marked (marks_of_none asked e at) (joined_rows (owed_by part.Rows asked e at (asked_for e engines)))
+gathered_rows asked e engines at = marked (marks_of_none asked e at) (joined_rows (owed_by part.Rows asked e at engines))
 
 -- the same of the cells of an aggregation
 abbrev pub gathered_groups : Aggregate → Grouping → Asked → Expr → List Engine → Ms → Step
-gathered_groups f by asked e engines at = marked (marks_of_none asked e at) (joined_partials f (owed_by (part.Partial f by) asked e at (asked_for e engines)))
+gathered_groups f by asked e engines at = marked (marks_of_none asked e at) (joined_partials f (owed_by (part.Partial f by) asked e at engines))
 
 -- and of the windows of a range selector, which has no notes or marks
 abbrev pub gathered_windows : Asked → Expr → List Engine → Ms → WindowsAt
-gathered_windows asked e engines at = joined_windows at (owed_by part.Windows asked e at (asked_for e engines))
+gathered_windows asked e engines at = joined_windows at (owed_by part.Windows asked e at engines)
 
 -- ---- the laws
 
@@ -73,29 +77,40 @@ UnaskedGivesNothing =
     → Parted engines asked.samples
     → AllByRecursion (λ (engine : Engine). is_asked e engine ≡ false → meaning (over engine.samples asked) e t ≡ meaning (over [] asked) e t) engines
 
--- what the engines give of a parted expression is what it means over all samples
+-- what engines give of a parted expression is what it means over all samples, whichever are left out of those that need not be asked
 abbrev pub RowsAreGathered : Type 0
 RowsAreGathered =
-    (engines : List Engine) (asked : Asked) (e : Expr) (at : Ms)
+    (engines : List Engine) (asked : Asked) (e : Expr) (wanted : Engine → Bool) (at : Ms)
     → Parted engines asked.samples
     → IsParted (declared_names engines) e
-    → gathered_rows asked e engines at ≡ meaning_step asked e at.0
+    → MayLeaveOut e wanted
+    → gathered_rows asked e (filter wanted engines) at ≡ meaning_step asked e at.0
 
 -- of an aggregation over one, whose values are numbers, it agrees with that: both are one step, or both have the mark Overflow
 abbrev pub GroupsAreGathered : Type 0
 GroupsAreGathered =
-    (engines : List Engine) (asked : Asked) (e inner : Expr) (f : Aggregate) (by : Grouping) (at : Ms)
+    (engines : List Engine) (asked : Asked) (e inner : Expr) (f : Aggregate) (by : Grouping) (wanted : Engine → Bool) (at : Ms)
     → Parted engines asked.samples
     → IsParted (declared_names engines) inner
+    → MayLeaveOut inner wanted
     → e.node ≡ node.Aggregate f by (inner ∷ [])
     → IsTrue (is_partial f)
     → HaveNumbers (meaning_step asked inner at.0).table.rows
-    → Agree (gathered_groups f by asked inner engines at) (meaning_step asked e at.0)
+    → Agree (gathered_groups f by asked inner (filter wanted engines) at) (meaning_step asked e at.0)
 
 -- of a range selector they are its windows
 abbrev pub WindowsAreGathered : Type 0
 WindowsAreGathered =
-    (engines : List Engine) (asked : Asked) (e : Expr) (selector : Selector) (range at : Ms)
+    (engines : List Engine) (asked : Asked) (e : Expr) (selector : Selector) (wanted : Engine → Bool) (range at : Ms)
     → Parted engines asked.samples
     → e.node ≡ node.Range selector range
-    → gathered_windows asked e engines at ≡ windows_at at (meaning asked e at.0)
+    → MayLeaveOut e wanted
+    → gathered_windows asked e (filter wanted engines) at ≡ windows_at at (meaning asked e at.0)
+
+-- so is what all engines give
+abbrev pub AllRowsAreGathered : Type 0
+AllRowsAreGathered =
+    (engines : List Engine) (asked : Asked) (e : Expr) (at : Ms)
+    → Parted engines asked.samples
+    → IsParted (declared_names engines) e
+    → gathered_rows asked e engines at ≡ meaning_step asked e at.0

@@ -1,5 +1,5 @@
 //! Laws of engines that hold a part of the samples each. The functions do nothing: each stands for what its contract says.
-ghost use Rattle.parting_laws.specs.Gathers.{GroupsAreGathered, RowsAreGathered, UnaskedGivesNothing, WindowsAreGathered};
+ghost use Rattle.parting_laws.specs.Gathers.{AllRowsAreGathered, GroupsAreGathered, RowsAreGathered, UnaskedGivesNothing, WindowsAreGathered};
 ghost use Rattle.parting_laws.specs.LocalLaws.{ConstantsStay, ElementsAreParted, HistogramsAreParted, LabelJoinsAreParted, LeftScalarsAreParted, ParensAreParted, QuantilesAreParted, RangesAreParted, ReplacementsAreParted, RightScalarsAreParted, SelectionsDecide, SelectorsAreParted, SignsAreParted, SortsAreParted, SubqueriesAreParted, TimestampsAreParted, WindowFunctionsAreParted};
 ghost use Rattle.parting_laws.specs.Locals.{LocalsAreParted};
 ghost use Rattle.parting_laws.specs.PartLaws.{EnginesHoldParts, EnginesIgnoreName, NoEngineHasNone, NothingIsParted, OneTakes, PutsStayParted, RangeGivesNothing, RangesJoin, SelectedArePart, SelectorGivesNothing, SelectorsJoin, StampsArePart, TimestampGivesNothing, TimestampsJoin, WindowsArePart};
@@ -126,13 +126,15 @@ pub fn locals_are_parted()
     unions_are_sets();
 }
 
-/// Where samples are parted over engines, an engine that isn't asked for an expression has nothing to give of it; and what the others
-/// give of a parted expression, of an aggregation over one, or of a range selector, is what it means over all samples.
+/// Where samples are parted over engines, an engine that need not be asked for an expression has nothing to give of it; and what the
+/// others give of a parted expression, of an aggregation over one, or of a range selector, is what it means over all samples, whether
+/// those that need not be asked are left out or not.
 pub fn engines_give_the_whole()
     ensures unasked { UnaskedGivesNothing }
     ensures rows { RowsAreGathered }
     ensures groups { GroupsAreGathered }
     ensures windows { WindowsAreGathered }
+    ensures all { AllRowsAreGathered }
 {
     unions_are_sets();
     meanings_are_well_formed();

@@ -1,4 +1,4 @@
-use Rattle.parting_laws.proofs.Gathered.{groups_are_gathered, rows_are_gathered, windows_are_gathered}
+use Rattle.parting_laws.proofs.Gathered.{all_rows_are_gathered, groups_are_gathered, rows_are_gathered, windows_are_gathered}
 use Rattle.parting_laws.proofs.Unasked.{unasked_gives_nothing}
 use Rattle.parting_laws.proofs.laws.engines_give_the_whole.Goals as goal
 
@@ -13,3 +13,6 @@ returns-clause-groups c = groups_are_gathered c.unions_are_sets.ensures.marks c.
 
 pub returns-clause-windows : goal.returns-clause-windows
 returns-clause-windows c = windows_are_gathered
+
+pub returns-clause-all : goal.returns-clause-all
+returns-clause-all c = all_rows_are_gathered c.unions_are_sets.ensures.marks c.unions_are_sets.ensures.notes c.unions_are_sets.ensures.set c.meanings_are_well_formed.ensures
