@@ -13,7 +13,7 @@ use Rattle.parting_laws.specs.PartLaws.{NothingIsParted, OneTakes, PutsStayParte
 use Rattle.parting_laws.specs.Parted.{Engine, HoldsItsOwn, IsPut, MayBeDeclared, Parted, declared_to, has_declared, has_pair, names_of_first, samples_under, takers, takes, with_samples}
 use Rattle.parting_laws.proofs.Chosen.{filter_mapped, mapped_along}
 
-both_true : (b c : Bool) → (b && c) ≡ true → (b ≡ true) × (c ≡ true)
+pub both_true : (b c : Bool) → (b && c) ≡ true → (b ≡ true) × (c ≡ true)
 both_true true c e = (refl, e)
 both_true false c e = absurd (cc)
 

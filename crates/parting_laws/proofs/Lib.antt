@@ -10,6 +10,7 @@ pub mod LabelsParted
 pub mod Locals
 pub mod Made
 pub mod MarksParted
+pub mod Members
 pub mod PartedGroups
 pub mod Parts
 pub mod Puts

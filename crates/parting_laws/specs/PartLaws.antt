@@ -2,7 +2,9 @@
 use Rattle.std.specs.Prelude.{◌≡◌, ◌≤◌, ◌∷◌, ◌++◌, ℤ, Bool, true, List, [], filter, length, map}
 use Rattle.std.specs.List.{AllByRecursion}
 use Rattle.func_table.specs.declared.table.Func.TheVariants as func
+use Rattle.std.specs.Map.{keys_of}
 use Rattle.label_set.specs.LabelOrder.{by_labels}
+use Rattle.label_set.specs.Labels.{IsLabelSet}
 use Rattle.promql_ast.specs.declared.tree.Expr.{Expr}
 use Rattle.promql_ast.specs.declared.tree.Node.TheVariants as node
 use Rattle.promql_ast.specs.declared.tree.Selector.{Selector}
@@ -19,7 +21,7 @@ use Rattle.promql_meaning.specs.Elements.{nameless, stamps}
 use Rattle.promql_meaning.specs.Meaning.{meaning, meaning_step}
 use Rattle.promql_meaning.specs.Selecting.{AllSeries, Asked, Samples, selected, selected_windows}
 use Rattle.promql_meaning.specs.declared.given.Stamped.{Stamped}
-use Rattle.parting_laws.specs.Parted.{Engine, IsPut, MayBeDeclared, Parted, declared_to, takers, takes, with_samples}
+use Rattle.parting_laws.specs.Parted.{Engine, HaveMembers, IsPut, MayBeDeclared, Parted, declared_to, takers, takes, with_samples}
 
 -- ---- a part of the samples
 
@@ -102,6 +104,15 @@ RangesJoin =
 -- of engines whose labels may be declared one at most takes any labels
 abbrev pub OneTakes : Type 0
 OneTakes = (engines : List Engine) (labels : Names) → MayBeDeclared (declared_to engines) → length (takers engines labels) ≤ 1
+
+-- samples are parted where engines have them as members, if all labels are label sets
+abbrev pub MembersArePart : Type 0
+MembersArePart =
+    (engines : List Engine) (samples : AllSeries)
+    → AllByRecursion IsLabelSet (declared_to engines)
+    → AllByRecursion IsLabelSet (keys_of samples)
+    → HaveMembers engines samples
+    → Parted engines samples
 
 -- no samples are parted over engines that hold none, and samples stay parted where some are put at the engine whose labels they have
 abbrev pub NothingIsParted : Type 0

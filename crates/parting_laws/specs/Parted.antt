@@ -1,5 +1,5 @@
 -- Samples that are parted over engines, and the labels that tell whose a series is. (This project's own.)
-use Rattle.std.specs.Prelude.{◌≡◌, ℕ, Bool, false, List, [], ◌∷◌, filter, length, map, bytes_eq, Option, None, Some, IsSome, if◌then◌else◌}
+use Rattle.std.specs.Prelude.{◌≡◌, ◌↔◌, Contains, ℕ, Bool, false, List, [], ◌∷◌, filter, length, map, bytes_eq, Option, None, Some, IsSome, if◌then◌else◌}
 use Rattle.std.specs.List.{AllByRecursion, IsDistinct, list_all}
 use Rattle.std.specs.Map.{keys_of, lookup}
 use Rattle.label_set.specs.LabelEquality.{labels_eq}
@@ -73,3 +73,16 @@ IsPut before labels samples after = (other : Names) → samples_under after othe
 
 abbrev pub with_samples : AllSeries → Engine → Engine
 with_samples samples engine = record engine { samples = samples }
+
+-- ---- the same by members
+
+-- labels have all pairs of others
+abbrev pub HasLabels : Names → Names → Type 0
+HasLabels declared labels = (pair : List ℕ × List ℕ) → Contains declared pair → Contains labels pair
+
+-- each series has what is declared to an engine; and an engine holds exactly the series that have its labels, each once
+pub record HaveMembers (engines : List Engine) (samples : AllSeries) : Type 0 where
+  pub declared : MayBeDeclared (declared_to engines)
+  pub placed : (series : Names × Samples) → Contains samples series → (engine : Engine) × Contains engines engine × HasLabels engine.declared series.0
+  pub held : (engine : Engine) (series : Names × Samples) → Contains engines engine → Contains engine.samples series ↔ (Contains samples series × HasLabels engine.declared series.0)
+  pub once : (engine : Engine) → Contains engines engine → IsDistinct labels_eq (keys_of engine.samples)

@@ -2,7 +2,7 @@
 ghost use Rattle.parting_laws.specs.Gathers.{AllRowsAreGathered, GroupsAreGathered, RowsAreGathered, UnaskedGivesNothing, WindowsAreGathered};
 ghost use Rattle.parting_laws.specs.LocalLaws.{ConstantsStay, ElementsAreParted, HistogramsAreParted, LabelJoinsAreParted, LeftScalarsAreParted, ParensAreParted, QuantilesAreParted, RangesAreParted, ReplacementsAreParted, RightScalarsAreParted, SelectionsDecide, SelectorsAreParted, SignsAreParted, SortsAreParted, SubqueriesAreParted, TimestampsAreParted, WindowFunctionsAreParted};
 ghost use Rattle.parting_laws.specs.Locals.{LocalsAreParted};
-ghost use Rattle.parting_laws.specs.PartLaws.{EnginesHoldParts, EnginesIgnoreName, NoEngineHasNone, NothingIsParted, OneTakes, PutsStayParted, RangeGivesNothing, RangesJoin, SelectedArePart, SelectorGivesNothing, SelectorsJoin, StampsArePart, TimestampGivesNothing, TimestampsJoin, WindowsArePart};
+ghost use Rattle.parting_laws.specs.PartLaws.{EnginesHoldParts, EnginesIgnoreName, MembersArePart, NoEngineHasNone, NothingIsParted, OneTakes, PutsStayParted, RangeGivesNothing, RangesJoin, SelectedArePart, SelectorGivesNothing, SelectorsJoin, StampsArePart, TimestampGivesNothing, TimestampsJoin, WindowsArePart};
 
 use promql_meaning::laws::meanings_are_well_formed;
 use step_cells::laws::partials_agree;
@@ -16,10 +16,11 @@ pub fn engines_hold_parts()
     ensures none { NoEngineHasNone }
 {}
 
-/// Of engines whose labels may be declared one at most takes any labels; no samples are parted over those that hold none, and samples
-/// stay parted where some are put at the engine whose labels they have.
+/// Of engines whose labels may be declared one at most takes any labels. Samples are parted where engines have them as members; no
+/// samples are parted over engines that hold none, and samples stay parted where some are put at the engine whose labels they have.
 pub fn puts_stay_parted()
     ensures one { OneTakes }
+    ensures members { MembersArePart }
     ensures nothing { NothingIsParted }
     ensures puts { PutsStayParted }
 {}
