@@ -1,6 +1,6 @@
 -- What is made of some items, and of those that pass a test.
 use Rattle.std.proofs.Common.{◌≡◌, ◌∙◌, Bool, true, false, cond, List, [], ◌∷◌, map, refl, sym, ap, subst, Some, None}
-use Rattle.std.specs.Prelude.{◌||◌, Option, filter}
+use Rattle.std.specs.Prelude.{◌||◌, ◌&&◌, Option, filter}
 use Rattle.std.specs.declared.cmp.Ordering.{Ordering}
 use Rattle.std.specs.declared.cmp.Ordering.TheVariants.{Less}
 use Rattle.std.specs.List.{AllByRecursion, cons_option, filter_map, list_any}
@@ -33,6 +33,14 @@ filter_mapped p f (x ∷ xs) = by (p (f x)) (filter_mapped p f xs)
     by : (b : Bool) → filter p (map f xs) ≡ map f (filter (λ x. p (f x)) xs) → cond b (f x ∷ filter p (map f xs)) (filter p (map f xs)) ≡ map f (cond b (x ∷ filter (λ x. p (f x)) xs) (filter (λ x. p (f x)) xs))
     by true rest = ap (λ ys. f x ∷ ys) rest
     by false rest = rest
+
+pub filtered_none : {X : Type 0} (xs : List X) → filter (λ (x : X). false) xs ≡ []
+filtered_none [] = refl
+filtered_none (x ∷ xs) = filtered_none xs
+
+pub both_true : (b c : Bool) → (b && c) ≡ true → (b ≡ true) × (c ≡ true)
+both_true true c e = (refl, e)
+both_true false c e = absurd (cc)
 
 pub filter_turned : {X : Type 0} (p q : X → Bool) (xs : List X) → filter p (filter q xs) ≡ filter q (filter p xs)
 filter_turned p q [] = refl

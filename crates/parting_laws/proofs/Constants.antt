@@ -23,6 +23,7 @@ use Rattle.promql_meaning.specs.declared.given.Given.{Given}
 use Rattle.promql_meaning.specs.declared.given.Given.TheVariants as given
 use Rattle.parting_laws.specs.LocalLaws.{ConstantsStay, SelectionsDecide, all_rules, is_scalar, makes_scalar, node_rules, node_scalar, rules_in}
 use Rattle.parting_laws.specs.PartLaws.{over}
+use Rattle.parting_laws.proofs.Chosen.{both_true}
 
 abbrev pub IsScalar : Given → Type 0
 IsScalar (given.Scalar step) = Unit {0}
@@ -38,10 +39,6 @@ front_of P (x ∷ xs) ys a = (a.0, front_of P xs ys a.1)
 rest_of : {X : Type 0} (P : X → Type 0) (xs ys : List X) → AllByRecursion P (xs ++ ys) → AllByRecursion P ys
 rest_of P [] ys a = a
 rest_of P (x ∷ xs) ys a = rest_of P xs ys a.1
-
-parts_true : (b c : Bool) → (b && c) ≡ true → (b ≡ true) × (c ≡ true)
-parts_true true c e = (refl, e)
-parts_true false c e = absurd (cc)
 
 negated : (g : Given) → IsScalar g → IsScalar (negation g)
 negated (given.Scalar step) h = tt
@@ -153,7 +150,7 @@ module _ (asked : Asked) (a b : AllSeries) where
   level_scalar (Node-F.Call f items) h t = called_scalar f (given_at (map (meaning (over b asked)) (exprs items)) t) t h
   level_scalar (Node-F.Aggregate f by items) h t = absurd (cc)
   level_scalar (Node-F.Pair op l r pairing) h t =
-      let two = parts_true (is_scalar l.0) (is_scalar r.0) h in
+      let two = both_true (is_scalar l.0) (is_scalar r.0) h in
       operated op pairing (meaning (over b asked) l.0 t) (meaning (over b asked) r.0 t) (l.1.1 two.0 t) (r.1.1 two.1 t)
   level_scalar (Node-F.Set op l r pairing) h t = absurd (cc)
 

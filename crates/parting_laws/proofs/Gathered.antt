@@ -49,8 +49,8 @@ use Rattle.parting_laws.specs.Gathers.{AllRowsAreGathered, GroupsAreGathered, Ma
 use Rattle.parting_laws.specs.PartLaws.{IsPartOf, over, owed_at}
 use Rattle.parting_laws.specs.Parted.{Engine, Parted, declared_names, takes}
 use Rattle.parting_laws.specs.Portions.{IsOfOne, IsParted, Portion, StepParts, portion_of, portions_of}
-use Rattle.parting_laws.proofs.Chosen.{both_along, everywhere, mapped_along, of_mapped}
-use Rattle.parting_laws.proofs.Held.{engines_hold}
+use Rattle.parting_laws.proofs.Chosen.{both_along, everywhere, filtered_none, mapped_along, of_mapped}
+use Rattle.parting_laws.proofs.Held.{each_one, engines_hold}
 use Rattle.parting_laws.proofs.Joins.{rows_of_parts, window_labels, windows_of_parts}
 use Rattle.parting_laws.proofs.Made.{row_labels}
 use Rattle.parting_laws.proofs.MarksParted.{all_have, all_have_notes, all_sets, no_sets, none_over, nothing, same_union, union_over}
@@ -129,10 +129,6 @@ module _ (unions : UnionHasMarks) (note_unions : UnionHasNotes) (sets : UnionIsS
   engine_rows : AllByRecursion (λ (engine : Engine). (piece engine).table.rows ≡ in_part takes row_labels engine whole.table.rows) engines
   engine_rows = of_mapped (λ (p : Portion). (step_of (meaning (over p.samples asked) e t)).table.rows ≡ filter (λ (row : Row). p.test row.labels) whole.table.rows) portion_of engines parts.rows.1
 
-  no_rows : {X : Type 0} (xs : List X) → filter (λ (x : X). false) xs ≡ []
-  no_rows [] = refl
-  no_rows (x ∷ xs) = no_rows xs
-
   unasked : AllByRecursion (λ (engine : Engine). wanted engine ≡ false → piece engine ≡ empty) engines
   unasked =
       mapped_along (λ (engine : Engine). is_asked e engine ≡ false → meaning (over engine.samples asked) e t ≡ meaning (over [] asked) e t) (λ (engine : Engine). wanted engine ≡ false → piece engine ≡ empty) (λ engine h n. ap step_of (h (may engine n))) engines
@@ -141,7 +137,7 @@ module _ (unions : UnionHasMarks) (note_unions : UnionHasNotes) (sets : UnionIsS
   unasked_rows : AllByRecursion (λ (engine : Engine). wanted engine ≡ false → in_part takes row_labels engine whole.table.rows ≡ []) engines
   unasked_rows =
       mapped_along (λ (engine : Engine). ((piece engine).table.rows ≡ in_part takes row_labels engine whole.table.rows) × (wanted engine ≡ false → piece engine ≡ empty)) (λ (engine : Engine). wanted engine ≡ false → in_part takes row_labels engine whole.table.rows ≡ [])
-      (λ engine h n. sym h.0 ∙ ap (λ (s : Step). s.table.rows) (h.1 n) ∙ parts.rows.0 ∙ no_rows whole.table.rows) engines
+      (λ engine h n. sym h.0 ∙ ap (λ (s : Step). s.table.rows) (h.1 n) ∙ parts.rows.0 ∙ filtered_none whole.table.rows) engines
       (both_along (λ (engine : Engine). (piece engine).table.rows ≡ in_part takes row_labels engine whole.table.rows) (λ (engine : Engine). wanted engine ≡ false → piece engine ≡ empty) engines engine_rows unasked)
 
   abbrev called : List Engine
@@ -335,7 +331,7 @@ windows_are_gathered engines asked e selector wanted range at parted is may =
     (λ engine h n. sym h.0 ∙ ap (λ (w : WindowsAt). w.rows) (sym (means (over engine.samples asked)) ∙ ap (windows_at at) (h.1 (may engine n)) ∙ means (over [] asked))) engines
     (both_along (λ (engine : Engine). selected_windows (over engine.samples asked) selector range.0 at.0 ≡ in_part takes window_labels engine xs) (λ (engine : Engine). is_asked e engine ≡ false → meaning (over engine.samples asked) e at.0 ≡ meaning (over [] asked) e at.0) engines windows (unasked_gives_nothing engines asked e at.0 parted)) in
     windows_of_parts takes (owed_at part.Windows asked e at) called at xs (windows_sorted asked selector range.0 at.0)
-    (subst (λ (r : List WindowRow). Shuffled xs r) (of_called wanted takes window_labels xs engines none) (all_parted takes window_labels engines xs (windows_one engines asked selector range.0 at.0 parted)))
+    (subst (λ (r : List WindowRow). Shuffled xs r) (of_called wanted takes window_labels xs engines none) (all_parted takes window_labels engines xs (windows_one takes engines asked selector range.0 at.0 (each_one engines asked.samples parted))))
     (mapped_along (λ (engine : Engine). selected_windows (over engine.samples asked) selector range.0 at.0 ≡ in_part takes window_labels engine xs) (λ (engine : Engine). (owed_at part.Windows asked e at engine).rows ≡ map window_cell (in_part takes window_labels engine xs))
     (λ engine h. ap (map window_cell) (ap (λ (w : WindowsAt). w.rows) (means (over engine.samples asked)) ∙ h)) called
     (recursion_filter (λ (engine : Engine). selected_windows (over engine.samples asked) selector range.0 at.0 ≡ in_part takes window_labels engine xs) wanted engines windows))

@@ -11,11 +11,7 @@ use Rattle.step_table.specs.Groups.{Names}
 use Rattle.promql_meaning.specs.Selecting.{AllSeries, Samples}
 use Rattle.parting_laws.specs.PartLaws.{NothingIsParted, OneTakes, PutsStayParted}
 use Rattle.parting_laws.specs.Parted.{Engine, HoldsItsOwn, IsPut, MayBeDeclared, Parted, declared_to, has_declared, has_pair, names_of_first, samples_under, takers, takes, with_samples}
-use Rattle.parting_laws.proofs.Chosen.{filter_mapped, mapped_along}
-
-pub both_true : (b c : Bool) → (b && c) ≡ true → (b ≡ true) × (c ≡ true)
-both_true true c e = (refl, e)
-both_true false c e = absurd (cc)
+use Rattle.parting_laws.proofs.Chosen.{both_true, filter_mapped, mapped_along}
 
 -- ---- one engine takes labels
 

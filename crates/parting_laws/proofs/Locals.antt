@@ -39,8 +39,8 @@ use Rattle.parting_laws.proofs.Constants.{constants_stay, scalar_given}
 use Rattle.parting_laws.proofs.Declared.{not_among, value_left}
 use Rattle.parting_laws.proofs.Made.{Keeps, row_labels}
 use Rattle.parting_laws.proofs.MarksParted.{nothing}
-use Rattle.parting_laws.proofs.Selectors.{selected_part, stamped_is, stamped_labels, stamps_keep, window_is, windows_part}
-use Rattle.parting_laws.proofs.StepsParted.{IsNoScalar, barren_parts, made_parts, no_marks_parted, row_parts, scalar_parts, scalars_parts, vector_of}
+use Rattle.parting_laws.proofs.Selectors.{selected_one, selected_part, stamped_labels, stamps_keep, windows_one, windows_part}
+use Rattle.parting_laws.proofs.StepsParted.{IsNoScalar, barren_parts, made_parts, no_marks_parted, row_parts, scalar_parts, scalars_parts, test_of, vector_of}
 
 -- ---- tests that don't look at the metric's name
 
@@ -71,41 +71,24 @@ along portions asked f g e parts = subst (λ (h : Asked → Given). GivenParts p
 
 -- ---- selectors
 
-module _ (portions : List Portion) where
-  abbrev OfOne : Names × Samples → Type 0
-  OfOne s = IsOfOne portions s.0
-
-  in_order : (samples : AllSeries) → AllByRecursion OfOne samples → AllByRecursion OfOne (by_labels samples)
-  in_order [] a = tt
-  in_order (s ∷ samples) a = all_insert labels_cmp OfOne s.0 s.1 (by_labels samples) a.0 (λ e h. h) (in_order samples a.1)
-
-  passing_one : (asked : Asked) (selector : Selector) → AllByRecursion OfOne asked.samples → AllByRecursion OfOne (passing asked.samples asked.kept selector.rules)
-  passing_one asked selector one = recursion_filter OfOne (λ (s : Names × Samples). labels_pass asked.kept selector.rules s.0) (by_labels asked.samples) (in_order asked.samples one)
-
 pub selectors_parted : SelectorsAreParted
 selectors_parted names e selector is asked portions t ok =
-    let m : ℤ = moment_of asked selector.moment t in
-    let closed : Bool = selector.moment.closed in
     along portions asked (λ a. meaning a e t) (λ a. given.Selected (record { rules = selector.rules; rows = selected a selector t }))
     (λ a. ap (λ (f : ℤ → Given). f t) (fold-Select (node_meaning a) (λ e. e.node) e selector is))
     (portions_of.selected selector.rules (selected asked selector t) refl
     (mapped_along (λ (p : Portion). IsPartOf p.test asked.samples p.samples) (λ (p : Portion). given.Selected (record { rules = selector.rules; rows = selected (over p.samples asked) selector t }) ≡ given.Selected (record { rules = selector.rules; rows = samples_in p (selected asked selector t) }))
     (λ p h. ap (λ (rows : List Stamped). given.Selected (record { rules = selector.rules; rows = rows })) (selected_part p.test asked p.samples selector t h)) portions ok.held)
-    (chosen_all (newest_row closed m) (OfOne portions) (λ (row : Stamped). IsOfOne portions row.labels) (λ s row q h. subst (IsOfOne portions) (sym (stamped_is closed m s row q)) h)
-    (passing asked.samples asked.kept selector.rules) (passing_one portions asked selector ok.one)))
+    (selected_one test_of portions asked selector t ok.one))
 
 pub ranges_parted : RangesAreParted
 ranges_parted names e selector range is asked portions t ok =
-    let m : ℤ = moment_of asked selector.moment t in
-    let closed : Bool = selector.moment.closed in
     let given_of : Asked → Windows = λ a. record { moment = record { 0 = moment_of a selector.moment t }; range = range; rules = selector.rules; rows = selected_windows a selector range.0 t; marks = nothing } in
     along portions asked (λ a. meaning a e t) (λ a. given.Windows (given_of a))
     (λ a. ap (λ (f : ℤ → Given). f t) (fold-Range (node_meaning a) (λ e. e.node) e selector range is))
     (portions_of.windows (given_of asked) (λ p. nothing) refl
     (mapped_along (λ (p : Portion). IsPartOf p.test asked.samples p.samples) (λ (p : Portion). given.Windows (given_of (over p.samples asked)) ≡ given.Windows (record (given_of asked) { rows = windows_in p (selected_windows asked selector range.0 t); marks = nothing }))
     (λ p h. ap (λ (rows : List WindowRow). given.Windows (record (given_of asked) { rows = rows; marks = nothing })) (windows_part p.test asked p.samples selector range.0 t h)) portions ok.held)
-    (chosen_all (series_window closed m range.0) (OfOne portions) (λ (row : WindowRow). IsOfOne portions row.labels) (λ s row q h. subst (IsOfOne portions) (sym (window_is closed m range.0 s row q)) h)
-    (passing asked.samples asked.kept selector.rules) (passing_one portions asked selector ok.one))
+    (windows_one test_of portions asked selector range.0 t ok.one)
     (no_marks_parted portions))
 
 pub parens_parted : ParensAreParted

@@ -19,8 +19,8 @@ use Rattle.step_table.specs.Groups.{Names}
 use Rattle.promql_meaning.specs.Selecting.{AllSeries, Samples}
 use Rattle.parting_laws.specs.PartLaws.{MembersArePart}
 use Rattle.parting_laws.specs.Parted.{Engine, HasLabels, HaveMembers, HoldsItsOwn, declared_to, has_declared, has_pair, samples_under, takers, takes}
-use Rattle.parting_laws.proofs.Chosen.{both_along, mapped_along, of_mapped}
-use Rattle.parting_laws.proofs.Growing.{both_true, one_takes}
+use Rattle.parting_laws.proofs.Chosen.{both_along, both_true, mapped_along, of_mapped}
+use Rattle.parting_laws.proofs.Growing.{one_takes}
 use Rattle.parting_laws.proofs.Puts.{same_key}
 
 abbrev name_eq : List ℕ → List ℕ → Bool

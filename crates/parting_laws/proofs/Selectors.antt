@@ -53,14 +53,14 @@ stamped_labels row = row.labels
 
 -- ---- the labels of what a series gives are the series' own
 
-pub stamped_is : (closed : Bool) (m : ℤ) (s : Series) (row : Stamped) → newest_row closed m s ≡ Some row → row.labels ≡ s.0
+stamped_is : (closed : Bool) (m : ℤ) (s : Series) (row : Stamped) → newest_row closed m s ≡ Some row → row.labels ≡ s.0
 stamped_is closed m s row e = by (newest closed m s.1) e
   where
     by : (o : Option (Ms × XFrac)) → option_map (λ (x : Ms × XFrac). record { labels = s.0; at = x.0; value = x.1 }) o ≡ Some row → row.labels ≡ s.0
     by None f = absurd (cc)
     by (Some x) f = let same : record { labels = s.0; at = x.0; value = x.1 } ≡ row = cc in ap (λ (r : Stamped). r.labels) (sym same)
 
-pub window_is : (closed : Bool) (m range : ℤ) (s : Series) (w : WindowRow) → series_window closed m range s ≡ Some w → w.labels ≡ s.0
+window_is : (closed : Bool) (m range : ℤ) (s : Series) (w : WindowRow) → series_window closed m range s ≡ Some w → w.labels ≡ s.0
 window_is closed m range s w e = by (window closed m range s.1) e
   where
     by : (xs : List (Ms × XFrac)) → window_row s.0 xs ≡ Some w → w.labels ≡ s.0
@@ -106,28 +106,29 @@ stamps_part test asked held selector t ignores parted =
 
 -- ---- all parts
 
-module _ (engines : List Engine) where
+module _ {P : Type 0} (test : P → Names → Bool) (ps : List P) where
   abbrev OfOne : Series → Type 0
-  OfOne s = IsOfOne takes engines s.0
+  OfOne s = IsOfOne test ps s.0
 
   in_order : (samples : AllSeries) → AllByRecursion OfOne samples → AllByRecursion OfOne (by_labels samples)
   in_order [] a = tt
   in_order (s ∷ samples) a = all_insert labels_cmp OfOne s.0 s.1 (by_labels samples) a.0 (λ e h. h) (in_order samples a.1)
 
-  passing_one : (asked : Asked) (selector : Selector) → Parted engines asked.samples → AllByRecursion OfOne (passing asked.samples asked.kept selector.rules)
-  passing_one asked selector parted = recursion_filter OfOne (λ (s : Series). labels_pass asked.kept selector.rules s.0) (by_labels asked.samples) (in_order asked.samples (each_one engines asked.samples parted))
+  passing_one : (asked : Asked) (selector : Selector) → AllByRecursion OfOne asked.samples → AllByRecursion OfOne (passing asked.samples asked.kept selector.rules)
+  passing_one asked selector one = recursion_filter OfOne (λ (s : Series). labels_pass asked.kept selector.rules s.0) (by_labels asked.samples) (in_order asked.samples one)
 
-  selected_one : (asked : Asked) (selector : Selector) (t : ℤ) → Parted engines asked.samples → AllByRecursion (λ (row : Stamped). IsOfOne takes engines row.labels) (selected asked selector t)
-  selected_one asked selector t parted =
+  -- where each series is of one part, so is each row and each window of a selector
+  pub selected_one : (asked : Asked) (selector : Selector) (t : ℤ) → AllByRecursion OfOne asked.samples → AllByRecursion (λ (row : Stamped). IsOfOne test ps row.labels) (selected asked selector t)
+  selected_one asked selector t one =
       let m : ℤ = moment_of asked selector.moment t in
-      chosen_all (newest_row selector.moment.closed m) OfOne (λ (row : Stamped). IsOfOne takes engines row.labels)
-      (λ s row e h. subst (IsOfOne takes engines) (sym (stamped_is selector.moment.closed m s row e)) h) (passing asked.samples asked.kept selector.rules) (passing_one asked selector parted)
+      chosen_all (newest_row selector.moment.closed m) OfOne (λ (row : Stamped). IsOfOne test ps row.labels)
+      (λ s row e h. subst (IsOfOne test ps) (sym (stamped_is selector.moment.closed m s row e)) h) (passing asked.samples asked.kept selector.rules) (passing_one asked selector one)
 
-  pub windows_one : (asked : Asked) (selector : Selector) (range t : ℤ) → Parted engines asked.samples → AllByRecursion (λ (w : WindowRow). IsOfOne takes engines w.labels) (selected_windows asked selector range t)
-  windows_one asked selector range t parted =
+  pub windows_one : (asked : Asked) (selector : Selector) (range t : ℤ) → AllByRecursion OfOne asked.samples → AllByRecursion (λ (w : WindowRow). IsOfOne test ps w.labels) (selected_windows asked selector range t)
+  windows_one asked selector range t one =
       let m : ℤ = moment_of asked selector.moment t in
-      chosen_all (series_window selector.moment.closed m range) OfOne (λ (w : WindowRow). IsOfOne takes engines w.labels)
-      (λ s w e h. subst (IsOfOne takes engines) (sym (window_is selector.moment.closed m range s w e)) h) (passing asked.samples asked.kept selector.rules) (passing_one asked selector parted)
+      chosen_all (series_window selector.moment.closed m range) OfOne (λ (w : WindowRow). IsOfOne test ps w.labels)
+      (λ s w e h. subst (IsOfOne test ps) (sym (window_is selector.moment.closed m range s w e)) h) (passing asked.samples asked.kept selector.rules) (passing_one asked selector one)
 
 -- windows stand in the order of their labels
 pub windows_sorted : (asked : Asked) (selector : Selector) (range t : ℤ) → IsStrictlySortedBy labels_cmp (map window_labels (selected_windows asked selector range t))
@@ -149,7 +150,7 @@ selectors_join well engines asked e selector at parted is =
     let rows : (a : Asked) → (meaning_step a e t).table.rows ≡ map unstamped (selected a selector t) = λ a. ap (λ (s : Step). s.table.rows) (means a) in
     let marks : (a : Asked) → (meaning_step a e t).marks ≡ nothing = λ a. ap (λ (s : Step). s.marks) (means a) in
     rows_join takes (owed_at part.Rows asked e at) engines (meaning_step asked e t) (well asked e t).rows
-    (subst (AllByRecursion (λ (row : Row). IsOfOne takes engines row.labels)) (sym (rows asked)) (all_mapped (λ (row : Row). IsOfOne takes engines row.labels) unstamped (selected asked selector t) (selected_one engines asked selector t parted)))
+    (subst (AllByRecursion (λ (row : Row). IsOfOne takes engines row.labels)) (sym (rows asked)) (all_mapped (λ (row : Row). IsOfOne takes engines row.labels) unstamped (selected asked selector t) (selected_one takes engines asked selector t (each_one engines asked.samples parted))))
     (mapped_along (λ (engine : Engine). IsPartOf (takes engine) asked.samples engine.samples) (λ (engine : Engine). (owed_at part.Rows asked e at engine).rows ≡ map value_cell (in_part takes row_labels engine (meaning_step asked e t).table.rows))
     (λ engine h. ap (map value_cell)
     (rows (over engine.samples asked) ∙ ap (map unstamped) (selected_part (takes engine) asked engine.samples selector t h)
@@ -177,7 +178,7 @@ timestamps_join unions sets takens settleds well engines asked e inner selector 
     (λ engine h. means (over engine.samples asked) ∙ ap stamps (selected_part (takes engine) asked engine.samples selector t h)) engines parts in
     let keep : AllByRecursion (λ (engine : Engine). Keeps stamped_labels stamp_outcome (takes engine)) engines =
     mapped_along (λ (engine : Engine). IgnoresName (takes engine)) (λ (engine : Engine). Keeps stamped_labels stamp_outcome (takes engine)) (λ engine h. stamps_keep (takes engine) h) engines (engines_ignore engines asked.samples parted) in
-    let one = selected_one engines asked selector t parted in
+    let one = selected_one takes engines asked selector t (each_one engines asked.samples parted) in
     rows_join takes (owed_at part.Rows asked e at) engines (meaning_step asked e t) (well asked e t).rows
     (subst (λ (s : Step). AllByRecursion (λ (row : Row). IsOfOne takes engines row.labels) s.table.rows) (sym (means asked))
     (made_all stamped_labels stamp_outcome (IsOfOne takes engines) (made_of_one stamped_labels stamp_outcome takes engines keep) nothing xs one))
@@ -200,7 +201,7 @@ pub ranges_join : RangesJoin
 ranges_join engines asked e selector range at parted is =
     let xs : List WindowRow = selected_windows asked selector range.0 at.0 in
     let means = λ (a : Asked). range_means a e selector range at is in
-    windows_join takes (owed_at part.Windows asked e at) engines (record { at = at; rows = xs; marks = nothing }) (windows_sorted asked selector range.0 at.0) (windows_one engines asked selector range.0 at.0 parted)
+    windows_join takes (owed_at part.Windows asked e at) engines (record { at = at; rows = xs; marks = nothing }) (windows_sorted asked selector range.0 at.0) (windows_one takes engines asked selector range.0 at.0 (each_one engines asked.samples parted))
     (mapped_along (λ (engine : Engine). IsPartOf (takes engine) asked.samples engine.samples) (λ (engine : Engine). (owed_at part.Windows asked e at engine).rows ≡ map window_cell (in_part takes window_labels engine xs))
     (λ engine h. ap (map window_cell) (ap (λ (w : WindowsAt). w.rows) (means (over engine.samples asked)) ∙ windows_part (takes engine) asked engine.samples selector range.0 at.0 h))
     engines (engines_hold engines asked.samples parted))

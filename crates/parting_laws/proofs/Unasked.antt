@@ -19,15 +19,11 @@ use Rattle.parting_laws.specs.LocalLaws.{rules_in}
 use Rattle.parting_laws.specs.PartLaws.{IsPartOf, over}
 use Rattle.parting_laws.specs.Parted.{Engine, Parted, declared_names, has_declared, has_pair, takes}
 use Rattle.parting_laws.specs.Portions.{ArePortions, IsOfOne, LooksAt, Portion, portion_of, portions_of}
-use Rattle.parting_laws.proofs.Chosen.{all_mapped, filter_mapped, mapped_along}
+use Rattle.parting_laws.proofs.Chosen.{all_mapped, both_true, filter_mapped, filtered_none, mapped_along}
 use Rattle.parting_laws.proofs.Constants.{selections_decide}
 use Rattle.parting_laws.proofs.Held.{each_looks, each_one, engines_hold}
 
 -- ---- rules that ask a declared label for another value
-
-both_true : (b c : Bool) → (b && c) ≡ true → (b ≡ true) × (c ≡ true)
-both_true true c e = (refl, e)
-both_true false c e = absurd (cc)
 
 kind_fails : (kept : List (Bool × List ℕ)) (kind : RuleKind) (value had : List ℕ) → had ≡ value → asks_another kind value ≡ true → kind_passes kept kind had ≡ false
 kind_fails kept (Eq text) value had same e = ap (λ (v : List ℕ). bytes_eq v text) same ∙ by (bytes_eq value text) e
@@ -105,10 +101,6 @@ unasked_gives_nothing engines asked e t parted =
 declared_looks : (declared : Names) → LooksAt (keys_of declared) (has_declared declared)
 declared_looks [] m n a = refl
 declared_looks (pair ∷ declared) m n a = λ i. bytes_eq (a.0 i) pair.1 && declared_looks declared m n a.1 i
-
-filtered_none : {X : Type 0} (xs : List X) → filter (λ (x : X). false) xs ≡ []
-filtered_none [] = refl
-filtered_none (x ∷ xs) = filtered_none xs
 
 one_of_portions : (engines : List Engine) (labels : Names) → length (filter (λ (e : Engine). takes e labels) engines) ≡ 1 → IsOfOne (portions_of engines) labels
 one_of_portions engines labels e =
