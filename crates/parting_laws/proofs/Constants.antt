@@ -17,11 +17,12 @@ use Rattle.label_set.specs.declared.rules.Pairing.{Pairing}
 use Rattle.label_set.specs.declared.rules.Rule.{Rule}
 use Rattle.promql_meaning.specs.Givens.{no_marks, step_of}
 use Rattle.promql_meaning.specs.Meaning.{aggregation, called, given_at, meaning, negation, node_meaning, operation}
+use Rattle.promql_meaning.specs.Results.{call_gives_scalar, gives_scalar, node_gives_scalar}
 use Rattle.promql_meaning.specs.Selecting.{AllSeries, Asked, moment_of, newest_rows, passing, window_rows}
 use Rattle.promql_meaning.specs.Subqueries.{points_of}
 use Rattle.promql_meaning.specs.declared.given.Given.{Given}
 use Rattle.promql_meaning.specs.declared.given.Given.TheVariants as given
-use Rattle.parting_laws.specs.LocalLaws.{ConstantsStay, SelectionsDecide, all_rules, is_scalar, makes_scalar, node_rules, node_scalar, rules_in}
+use Rattle.parting_laws.specs.LocalLaws.{ConstantsStay, SelectionsDecide, all_rules, node_rules, rules_in}
 use Rattle.parting_laws.specs.PartLaws.{over}
 use Rattle.parting_laws.proofs.Chosen.{both_true}
 
@@ -58,7 +59,7 @@ operated op pairing (given.Selected l) r h k = absurd h
 operated op pairing (given.Windows l) r h k = absurd h
 operated op pairing (given.Words l) r h k = absurd h
 
-called_scalar : (f : Func) (gs : List Given) (t : ℤ) → makes_scalar f ≡ true → IsScalar (called f gs t)
+called_scalar : (f : Func) (gs : List Given) (t : ℤ) → call_gives_scalar f ≡ true → IsScalar (called f gs t)
 called_scalar (func.Element f) gs t h = absurd (cc)
 called_scalar (func.Window f) gs t h = absurd (cc)
 called_scalar func.Absent gs t h = absurd (cc)
@@ -83,7 +84,7 @@ module _ (asked : Asked) (a b : AllSeries) where
 
   -- where selectors select the same it means the same, and a scalar gives one
   abbrev Fits : Expr → Type 0
-  Fits e = (AreSame (rules_in e) → (t : ℤ) → meaning (over a asked) e t ≡ meaning (over b asked) e t) × (is_scalar e ≡ true → (t : ℤ) → IsScalar (meaning (over b asked) e t))
+  Fits e = (AreSame (rules_in e) → (t : ℤ) → meaning (over a asked) e t ≡ meaning (over b asked) e t) × (gives_scalar e ≡ true → (t : ℤ) → IsScalar (meaning (over b asked) e t))
 
   abbrev meaning_in : AllSeries → Node → ℤ → Given
   meaning_in s = fold-Node (ℤ → Given) (ℤ → Given) (node_meaning (over s asked)) (λ e. e.node)
@@ -92,7 +93,7 @@ module _ (asked : Asked) (a b : AllSeries) where
   in_node = fold-Node (List (List Rule)) (List (List Rule)) node_rules (λ e. e.node)
 
   abbrev scalar_in : Node → Bool
-  scalar_in = fold-Node Bool Bool node_scalar (λ e. e.node)
+  scalar_in = fold-Node Bool Bool node_gives_scalar (λ e. e.node)
 
   abbrev NodeFits : Node → Type 0
   NodeFits node = (AreSame (in_node node) → (t : ℤ) → meaning_in a node t ≡ meaning_in b node t) × (scalar_in node ≡ true → (t : ℤ) → IsScalar (meaning_in b node t))
@@ -139,7 +140,7 @@ module _ (asked : Asked) (a b : AllSeries) where
       let right = r.1.0 (rest_of IsSame (rules_in l.0) (rules_in r.0) h) t in
       λ i. given.Vector (combined (step_of (left i)) (step_of (right i)) op pairing)
 
-  level_scalar : (y : Fitting) → node_scalar (map-Node Node Expr Bool Bool scalar_in is_scalar (plain y)) ≡ true → (t : ℤ) → IsScalar (node_of b y t)
+  level_scalar : (y : Fitting) → node_gives_scalar (map-Node Node Expr Bool Bool scalar_in gives_scalar (plain y)) ≡ true → (t : ℤ) → IsScalar (node_of b y t)
   level_scalar (Node-F.Number value) h t = tt
   level_scalar (Node-F.Words text) h t = absurd (cc)
   level_scalar (Node-F.Paren e) h t = e.1.1 h t
@@ -150,7 +151,7 @@ module _ (asked : Asked) (a b : AllSeries) where
   level_scalar (Node-F.Call f items) h t = called_scalar f (given_at (map (meaning (over b asked)) (exprs items)) t) t h
   level_scalar (Node-F.Aggregate f by items) h t = absurd (cc)
   level_scalar (Node-F.Pair op l r pairing) h t =
-      let two = both_true (is_scalar l.0) (is_scalar r.0) h in
+      let two = both_true (gives_scalar l.0) (gives_scalar r.0) h in
       operated op pairing (meaning (over b asked) l.0 t) (meaning (over b asked) r.0 t) (l.1.1 two.0 t) (r.1.1 two.1 t)
   level_scalar (Node-F.Set op l r pairing) h t = absurd (cc)
 
@@ -159,7 +160,7 @@ module _ (asked : Asked) (a b : AllSeries) where
       let means = λ (s : AllSeries). fold-roll-Node (ℤ → Given) (ℤ → Given) (node_meaning (over s asked)) (λ e. e.node) (plain y) in (
         λ h t. subst (λ (f : ℤ → Given). f t ≡ meaning_in b (roll-Node (plain y)) t) (sym (means a))
             (subst (λ (f : ℤ → Given). node_of a y t ≡ f t) (sym (means b)) (level_same y (subst AreSame (fold-roll-Node (List (List Rule)) (List (List Rule)) node_rules (λ e. e.node) (plain y)) h) t)),
-        λ h t. subst (λ (f : ℤ → Given). IsScalar (f t)) (sym (means b)) (level_scalar y (subst (λ r. r ≡ true) (fold-roll-Node Bool Bool node_scalar (λ e. e.node) (plain y)) h) t),
+        λ h t. subst (λ (f : ℤ → Given). IsScalar (f t)) (sym (means b)) (level_scalar y (subst (λ r. r ≡ true) (fold-roll-Node Bool Bool node_gives_scalar (λ e. e.node) (plain y)) h) t),
       )
 
   expr_fits : (at : ℕ) (node : Node) → NodeFits node → Fits (roll-Expr (record { at = at; node = node }))
@@ -167,7 +168,7 @@ module _ (asked : Asked) (a b : AllSeries) where
       let means = λ (s : AllSeries). fold-roll-Expr (ℤ → Given) (ℤ → Given) (node_meaning (over s asked)) (λ e. e.node) (record { at = at; node = node }) in (
         λ h t. subst (λ (f : ℤ → Given). f t ≡ meaning (over b asked) (roll-Expr (record { at = at; node = node })) t) (sym (means a))
             (subst (λ (f : ℤ → Given). meaning_in a node t ≡ f t) (sym (means b)) (is.0 (subst AreSame (fold-roll-Expr (List (List Rule)) (List (List Rule)) node_rules (λ e. e.node) (record { at = at; node = node })) h) t)),
-        λ h t. subst (λ (f : ℤ → Given). IsScalar (f t)) (sym (means b)) (is.1 (subst (λ r. r ≡ true) (fold-roll-Expr Bool Bool node_scalar (λ e. e.node) (record { at = at; node = node })) h) t),
+        λ h t. subst (λ (f : ℤ → Given). IsScalar (f t)) (sym (means b)) (is.1 (subst (λ r. r ≡ true) (fold-roll-Expr Bool Bool node_gives_scalar (λ e. e.node) (record { at = at; node = node })) h) t),
       )
 
   all_fit : (e : Expr) → Fits e
@@ -184,7 +185,7 @@ constants_stay asked samples e t h = selections_decide asked samples asked.sampl
     by (rules ∷ all) k = absurd (cc)
 
 -- a scalar's step
-pub scalar_given : (asked : Asked) (e : Expr) (t : ℤ) → is_scalar e ≡ true → (step : Step) × (meaning asked e t ≡ given.Scalar step)
+pub scalar_given : (asked : Asked) (e : Expr) (t : ℤ) → gives_scalar e ≡ true → (step : Step) × (meaning asked e t ≡ given.Scalar step)
 scalar_given asked e t h = by (meaning asked e t) ((all_fit asked [] asked.samples e).1 h t)
   where
     by : (g : Given) → IsScalar g → (step : Step) × (g ≡ given.Scalar step)

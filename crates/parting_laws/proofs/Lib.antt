@@ -2,6 +2,7 @@ pub mod AllLocals
 pub mod Chosen
 pub mod Constants
 pub mod Declared
+pub mod Ending
 pub mod Gathered
 pub mod Growing
 pub mod Held

@@ -1,3 +1,4 @@
+pub mod Agreeing
 pub mod Gathers
 pub mod LocalLaws
 pub mod Locals

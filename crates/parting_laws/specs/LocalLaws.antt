@@ -1,8 +1,7 @@
 -- Expressions that are parted as the samples are: what makes such an expression of another one. (This project's own.)
-use Rattle.std.specs.Prelude.{◌≡◌, ◌++◌, ◌&&◌, ◌⊎◌, ℕ, ℤ, Bool, true, false, List, [], ◌∷◌}
+use Rattle.std.specs.Prelude.{◌≡◌, ◌++◌, ◌⊎◌, ℕ, ℤ, Bool, true, false, List, [], ◌∷◌}
 use Rattle.std.specs.List.{AllByRecursion}
 use Rattle.func_table.specs.declared.table.Element.{Element}
-use Rattle.func_table.specs.declared.table.Func.{Func}
 use Rattle.func_table.specs.declared.table.Func.TheVariants as func
 use Rattle.func_table.specs.declared.table.Window.{Window}
 use Rattle.func_table.specs.declared.table.Window.TheVariants.{QuantileOver}
@@ -20,6 +19,7 @@ use Rattle.ticks.specs.declared.moment.Ms.{Ms}
 use Rattle.xfrac.specs.declared.value.PairOp.{PairOp}
 use Rattle.promql_meaning.specs.Buckets.{bucket_label}
 use Rattle.promql_meaning.specs.Meaning.{meaning}
+use Rattle.promql_meaning.specs.Results.{gives_scalar}
 use Rattle.promql_meaning.specs.Selecting.{AllSeries, Asked, passing}
 use Rattle.parting_laws.specs.PartLaws.{over}
 use Rattle.parting_laws.specs.Portions.{IsParted}
@@ -51,28 +51,6 @@ rules_in = fold-Expr (List (List Rule)) (List (List Rule)) node_rules (λ e. e.n
 -- whether a selector stands in it
 abbrev pub has_selector : Expr → Bool
 has_selector e = has_some (rules_in e)
-
--- whether an expression is a scalar
-abbrev pub makes_scalar : Func → Bool
-makes_scalar func.Scalar = true
-makes_scalar func.Time = true
-makes_scalar _ = false
-
-abbrev pub node_scalar : Node-F Bool Bool → Bool
-node_scalar (Node-F.Number value) = true
-node_scalar (Node-F.Words text) = false
-node_scalar (Node-F.Paren inner) = inner
-node_scalar (Node-F.Negate inner) = inner
-node_scalar (Node-F.Select selector) = false
-node_scalar (Node-F.Range selector range) = false
-node_scalar (Node-F.Subquery inner range step moment) = false
-node_scalar (Node-F.Call f arguments) = makes_scalar f
-node_scalar (Node-F.Aggregate f by arguments) = false
-node_scalar (Node-F.Pair op left right pairing) = left && right
-node_scalar (Node-F.Set op left right pairing) = false
-
-abbrev pub is_scalar : Expr → Bool
-is_scalar = fold-Expr Bool Bool node_scalar (λ e. e.node)
 
 -- where each selector selects the same series of two lists of samples, an expression means the same over both
 abbrev pub SelectionsDecide : Type 0
@@ -112,7 +90,7 @@ ElementsAreParted =
 -- an operator between one and a constant scalar, on either side
 pub record IsConstantScalar (e : Expr) : Type 0 where
   pub constant : has_selector e ≡ false
-  pub scalar : is_scalar e ≡ true
+  pub scalar : gives_scalar e ≡ true
 
 abbrev pub RightScalarsAreParted : Type 0
 RightScalarsAreParted =

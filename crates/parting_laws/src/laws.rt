@@ -1,4 +1,5 @@
 //! Laws of engines that hold a part of the samples each. The functions do nothing: each stands for what its contract says.
+ghost use Rattle.parting_laws.specs.Agreeing.{AgreeingEndAlike};
 ghost use Rattle.parting_laws.specs.Gathers.{AllRowsAreGathered, GroupsAreGathered, RowsAreGathered, UnaskedGivesNothing, WindowsAreGathered};
 ghost use Rattle.parting_laws.specs.LocalLaws.{ConstantsStay, ElementsAreParted, HistogramsAreParted, LabelJoinsAreParted, LeftScalarsAreParted, ParensAreParted, QuantilesAreParted, RangesAreParted, ReplacementsAreParted, RightScalarsAreParted, SelectionsDecide, SelectorsAreParted, SignsAreParted, SortsAreParted, SubqueriesAreParted, TimestampsAreParted, WindowFunctionsAreParted};
 ghost use Rattle.parting_laws.specs.Locals.{LocalsAreParted};
@@ -141,3 +142,8 @@ pub fn engines_give_the_whole()
     meanings_are_well_formed();
     partials_agree();
 }
+
+/// Evaluations whose steps agree at each instant come to the same: Overflow is the least mark.
+pub fn agreeing_steps_end_alike()
+    ensures { AgreeingEndAlike }
+{}
