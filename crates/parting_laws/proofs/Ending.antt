@@ -1,12 +1,11 @@
 -- Overflow is the least mark, so steps that agree end alike.
-use Rattle.std.proofs.Common.{◌≡◌, ◌∙◌, ℕ, ◌+◌, Bool, true, false, List, [], ◌∷◌, length, refl, sym, ap, subst, Some, None, ⊎_elim, inl, inr}
-use Rattle.std.specs.Prelude.{Option, ◌||◌, ◌⊎◌, if◌then◌else◌}
+use Rattle.std.proofs.Common.{◌≡◌, ◌∙◌, ℕ, ◌+◌, Bool, true, List, [], ◌∷◌, length, refl, sym, ap, Some, None, ⊎_elim}
+use Rattle.std.specs.Prelude.{Option, ◌||◌}
 use Rattle.std.specs.BTreeMap.{is_at}
 use Rattle.std.specs.Ordering.{is_eq}
 use Rattle.std.specs.Option.{option_or, unwrap_or}
 use Rattle.std.specs.List.{AllByRecursion, AllZip, list_any}
 use Rattle.std.specs.List.Sorted.{IsStrictlySortedBy}
-use Rattle.std.specs.declared.cmp.Ordering.{Ordering}
 use Rattle.std.specs.declared.cmp.Ordering.TheVariants.{Less, Equal, Greater}
 use Rattle.std.proofs.lemmas.Bool.{false≢true}
 use Rattle.promql_ast.specs.declared.tree.Expr.{Expr}
@@ -16,7 +15,7 @@ use Rattle.step_table.specs.Orders.{mark_cmp}
 use Rattle.step_table.specs.Timed.{StepAt}
 use Rattle.step_table.specs.declared.marks.Mark.{Mark}
 use Rattle.step_table.specs.declared.marks.Mark.TheVariants.{Overflow, Irrational, SameLabelset, DuplicateOneSide, ImplicitManyToOne, DuplicateResult, OutOfCalendar}
-use Rattle.promql_meaning.specs.Results.{answer_of, first_stop, judged, stop_at}
+use Rattle.promql_meaning.specs.Results.{answer_of, first_stop, stop_at}
 use Rattle.promql_meaning.specs.declared.answer.Outcome.{Outcome}
 use Rattle.promql_meaning.specs.declared.answer.Outcome.TheVariants as outcome
 use Rattle.step_cells.specs.CellLaws.{has_overflow}
@@ -68,15 +67,17 @@ alike earlier (x ∷ a) [] z = absurd z
 alike earlier (x ∷ a) (y ∷ b) z =
     ⊎_elim
     (λ same.
-        let whole : x ≡ y = (λ i. record { at = z.0.at i; step = same i }) in
-        let rest = alike (earlier + length x.step.table.rows) a b z.1 in
-        (ap (option_or (stop_at earlier x)) rest.0 ∙ ap (λ (s : StepAt). option_or (stop_at earlier s) (first_stop (earlier + length s.step.table.rows) b)) whole,
-            λ e. let tail : a ≡ b = rest.1 (none_after (stop_at earlier x) (first_stop (earlier + length x.step.table.rows) a) e) in λ i. whole i ∷ tail i))
+    let whole : x ≡ y = (λ i. record { at = z.0.at i; step = same i }) in
+    let rest = alike (earlier + length x.step.table.rows) a b z.1 in (
+      ap (option_or (stop_at earlier x)) rest.0 ∙ ap (λ (s : StepAt). option_or (stop_at earlier s) (first_stop (earlier + length s.step.table.rows) b)) whole,
+      λ e. let tail : a ≡ b = rest.1 (none_after (stop_at earlier x) (first_stop (earlier + length x.step.table.rows) a) e) in λ i. whole i ∷ tail i,
+    ))
     (λ both.
-        let l : stop_at earlier x ≡ Some (outcome.Failed x.at Overflow) = fails_with earlier x z.0.left.fatal both.0 in
-        let r : stop_at earlier y ≡ Some (outcome.Failed y.at Overflow) = fails_with earlier y z.0.right.fatal both.1 in
-        (ap (λ o. option_or o (first_stop (earlier + length x.step.table.rows) a)) l ∙ ap (λ at. Some (outcome.Failed at Overflow)) z.0.at ∙ sym (ap (λ o. option_or o (first_stop (earlier + length y.step.table.rows) b)) r),
-            λ e. absurd (some_or (stop_at earlier x) (first_stop (earlier + length x.step.table.rows) a) (outcome.Failed x.at Overflow) l e)))
+    let l : stop_at earlier x ≡ Some (outcome.Failed x.at Overflow) = fails_with earlier x z.0.left.fatal both.0 in
+    let r : stop_at earlier y ≡ Some (outcome.Failed y.at Overflow) = fails_with earlier y z.0.right.fatal both.1 in (
+      ap (λ o. option_or o (first_stop (earlier + length x.step.table.rows) a)) l ∙ ap (λ at. Some (outcome.Failed at Overflow)) z.0.at ∙ sym (ap (λ o. option_or o (first_stop (earlier + length y.step.table.rows) b)) r),
+      λ e. absurd (some_or (stop_at earlier x) (first_stop (earlier + length x.step.table.rows) a) (outcome.Failed x.at Overflow) l e),
+    ))
     z.0.step
   where
     some_or : (o p : Option Outcome) (v : Outcome) → o ≡ Some v → option_or o p ≡ None → ⊥

@@ -1,6 +1,6 @@
 -- Samples that are parted stay so where some are put at their engine.
 use Rattle.std.proofs.Common.{◌≡◌, ◌∙◌, ◌≤◌, ℕ, Bool, true, false, cond, List, [], ◌∷◌, ◌++◌, length, refl, sym, ap, subst, arith, Some, None}
-use Rattle.std.specs.Prelude.{◌&&◌, Option, IsSome, filter, if◌then◌else◌}
+use Rattle.std.specs.Prelude.{Option, IsSome, filter, if◌then◌else◌}
 use Rattle.std.specs.List.{AllByRecursion, IsDistinct}
 use Rattle.std.specs.Map.{keys_of}
 use Rattle.std.proofs.lemmas.List.{length-map}

@@ -5,14 +5,10 @@ use Rattle.std.specs.List.{AllByRecursion}
 use Rattle.func_table.specs.declared.table.Element.{Element}
 use Rattle.func_table.specs.declared.table.Element.TheVariants as element
 use Rattle.func_table.specs.declared.table.Func.TheVariants as func
-use Rattle.label_set.specs.Entries.{all_insert, recursion_filter}
-use Rattle.label_set.specs.LabelOrder.{by_labels}
-use Rattle.label_set.specs.Labels.{is_named, labels_cmp, metric_name, value_of}
+use Rattle.label_set.specs.Labels.{is_named, metric_name, value_of}
 use Rattle.label_set.specs.declared.rules.Pairing.{Pairing}
-use Rattle.match_rule.specs.Patterns.{labels_pass}
 use Rattle.promql_ast.specs.Folds.{fold-Call, fold-Negate, fold-Pair, fold-Paren, fold-Range, fold-Select}
 use Rattle.promql_ast.specs.declared.tree.Expr.{Expr}
-use Rattle.promql_ast.specs.declared.tree.Selector.{Selector}
 use Rattle.xfrac.specs.declared.value.PairOp.{PairOp}
 use Rattle.xfrac.specs.declared.value.XFrac.{XFrac}
 use Rattle.step_table.specs.Groups.{Names}
@@ -25,7 +21,7 @@ use Rattle.step_table.specs.declared.windows.WindowRow.{WindowRow}
 use Rattle.promql_meaning.specs.Elements.{at_instant, element_outcome, instant_outcome, mapped, nameless, operated_rows, operator_outcome, stamp_outcome, stamps, timestamps}
 use Rattle.promql_meaning.specs.Givens.{barren, step_of, with_scalar}
 use Rattle.promql_meaning.specs.Meaning.{applied, called, completed, given_at, meaning, negation, node_meaning, operation, rounding, step_at, zero_number}
-use Rattle.promql_meaning.specs.Selecting.{AllSeries, Asked, Samples, moment_of, newest_row, passing, selected, selected_windows, series_window}
+use Rattle.promql_meaning.specs.Selecting.{AllSeries, Asked, moment_of, selected, selected_windows}
 use Rattle.promql_meaning.specs.declared.given.Given.{Given}
 use Rattle.promql_meaning.specs.declared.given.Given.TheVariants as given
 use Rattle.promql_meaning.specs.declared.given.Stamped.{Stamped}
@@ -34,7 +30,7 @@ use Rattle.parting_laws.specs.LocalLaws.{ElementsAreParted, HaveNoSelector, Left
 use Rattle.parting_laws.specs.PartLaws.{IgnoresName, IsPartOf, over}
 use Rattle.parting_laws.specs.Portions.{ArePortions, GivenParts, IsOfOne, IsParted, LooksAt, Portion, StepParts, samples_in, windows_in}
 use Rattle.parting_laws.specs.Portions as portions_of
-use Rattle.parting_laws.proofs.Chosen.{chosen_all, everywhere, mapped_along}
+use Rattle.parting_laws.proofs.Chosen.{everywhere, mapped_along}
 use Rattle.parting_laws.proofs.Constants.{constants_stay, scalar_given}
 use Rattle.parting_laws.proofs.Declared.{not_among, value_left}
 use Rattle.parting_laws.proofs.Made.{Keeps, row_labels}

@@ -36,7 +36,7 @@ use Rattle.promql_meaning.specs.Selecting.{AllSeries, Asked, Samples, moment_of,
 use Rattle.promql_meaning.specs.declared.given.Given.{Given}
 use Rattle.promql_meaning.specs.declared.given.Given.TheVariants as given
 use Rattle.promql_meaning.specs.declared.given.Stamped.{Stamped}
-use Rattle.parting_laws.specs.Parted.{Engine, Parted, takes}
+use Rattle.parting_laws.specs.Parted.{Engine, takes}
 use Rattle.parting_laws.specs.PartLaws.{IgnoresName, IsPartOf, RangeGivesNothing, RangesJoin, SelectedArePart, SelectorGivesNothing, SelectorsJoin, StampsArePart, TimestampGivesNothing, TimestampsJoin, WindowsArePart, over, owed_at}
 use Rattle.parting_laws.proofs.Chosen.{all_mapped, both_along, chosen_all, chosen_filter, chosen_sorted, everywhere, filter_mapped, filter_turned, mapped_along}
 use Rattle.parting_laws.proofs.Held.{each_one, engines_hold, engines_ignore}
