@@ -1,0 +1,14 @@
+mod Apart
+mod Asking
+mod Calls
+mod Framing
+mod Grouped
+mod Kept
+mod Listing
+mod Lists
+mod Pulls
+mod Readiness
+mod Stepping
+mod Summing
+mod Well
+mod Windowed

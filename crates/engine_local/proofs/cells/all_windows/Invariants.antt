@@ -1,0 +1,7 @@
+use Rattle.std.proofs.Common.{◌≡◌, ◌++◌, map}
+use Rattle.std.specs.Vec.Iter.{into_iter_items}
+use Rattle.step_cells.specs.Owed.{window_cell}
+use Rattle.engine_local.proofs.cells.all_windows.Given as goal
+
+abbrev pub invariant-loop-row : goal.invariant-loop-row
+invariant-loop-row l = l.cells ++ map window_cell (into_iter_items l.row-iterator) ≡ map window_cell (into_iter_items l.initial.row-iterator)

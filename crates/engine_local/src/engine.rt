@@ -1,0 +1,159 @@
+//! The engine.
+ghost use Rattle.engine_local.specs.Local.{seen_of};
+ghost use Rattle.remote_api.specs.Seen.{EngineSeen, HasAsked, HasDeclared, HasLoaded, HasPulled, IsBegun, IsCleared, MayAsk, MayDeclare, MayLoad, MayPull};
+ghost use Rattle.std.specs.Prelude.{◌≡◌, ◌≤◌, [], None, Some, false};
+
+use crate::asks::{OwnAsk, add_ask};
+use crate::pulling::next_frame;
+use label_set::Labels;
+use match_rule::Patterns;
+use remote_api::{Engine, EngineFail, Frame, Part, Pulled};
+use sample_store::Store;
+use std::alloc::{AllocError, Global};
+use std::marker::Model;
+use ticks::{Grid, Ms, Walk, walks_are_listed};
+use xfrac::Held;
+
+/// An engine over samples of its own. It tells all that it holds, gives just what it owes, and never fails; the only error is want of
+/// memory.
+#[derive(Drop)]
+pub struct LocalEngine {
+    alloc: Global,
+    store: Store,
+    declared: Option<Labels>,
+    asks: Vec<OwnAsk>,
+    spent: bool,
+}
+
+impl Model for LocalEngine {
+    ghost use Rattle.engine_local.specs.Local.{AreAllowed, Local};
+    ghost use Rattle.promql_ast.specs.contracts.tree.Expr as expr;
+    ghost use Rattle.promql_ast.specs.contracts.tree.Node as node;
+    ghost use Rattle.std.specs.Coded.{codes};
+    ghost use Rattle.ticks.specs.contracts.walk.Walk as walk;
+
+    ghost Value = { Local };
+
+    ghost coded = { Prim.hlevel (codes, expr.the_row.coded, node.the_row.coded, walk.the_row.coded) };
+
+    ghost view = { λ e. record { samples = e.store; declared = e.declared; asks = e.asks.items; spent = e.spent } };
+
+    ghost invariant = { λ e. AreAllowed e.asks.items };
+}
+
+impl LocalEngine {
+    /// An engine without samples, to which no labels are declared and of which nothing was asked. It takes no memory.
+    pub fn new(alloc: Global) -> LocalEngine
+        ensures samples { result.samples ≡ [] }
+        ensures declared { result.declared ≡ None }
+        ensures asks { result.asks ≡ [] }
+        ensures going { result.spent ≡ false }
+    {
+        LocalEngine {
+            alloc,
+            store: Store::new(alloc),
+            declared: None,
+            asks: Vec::new(alloc),
+            spent: false,
+        }
+    }
+}
+
+impl Engine for LocalEngine {
+    ghost seen = { seen_of };
+
+    #[tactic(none)]
+    fn declare(&mut self, labels: &Labels) -> Result<(), EngineFail>
+        requires { MayDeclare (seen_of self.old) }
+        ensures { HasDeclared labels.now result (seen_of self.old) (seen_of self.new) }
+    {
+        match labels.copy() {
+            Ok(labels) => {
+                self.declared = Some(labels);
+                Ok(())
+            }
+            Err(AllocError) => Err(EngineFail::Memory),
+        }
+    }
+
+    #[tactic(none)]
+    fn load(&mut self, labels: &Labels, at: Ms, held: &Held) -> Result<(), EngineFail>
+        requires { MayLoad labels.now at held.now (seen_of self.old) }
+        ensures { HasLoaded labels.now at held.now result (seen_of self.old) (seen_of self.new) }
+    {
+        match self.store.append(labels, at, held) {
+            Ok(()) => {}
+            Err(_) => return Err(EngineFail::Memory),
+        }
+        Ok(())
+    }
+
+    #[tactic(none)]
+    fn clear(&mut self)
+        requires { (seen_of self.old).asks ≡ [] }
+        ensures { IsCleared (seen_of self.old) (seen_of self.new) }
+    {
+        self.store.clear();
+    }
+
+    #[tactic(none)]
+    fn begin(&mut self)
+        ensures { IsBegun (seen_of self.old) (seen_of self.new) }
+    {
+        self.asks.clear();
+        self.spent = false;
+    }
+
+    #[tactic(none)]
+    fn ask(
+        &mut self,
+        part: &Part,
+        walk: &Walk,
+        span: &Grid,
+        patterns: &mut Patterns<'_>,
+    ) -> Result<usize, EngineFail>
+        requires { MayAsk part.now walk.now span.now patterns.old (seen_of self.old) }
+        ensures same { patterns.new ≡ patterns.old }
+        ensures asked { HasAsked part.now walk.now span.now patterns.old result (seen_of self.old) (seen_of self.new) }
+    {
+        walks_are_listed();
+        match add_ask(&mut self.asks, self.alloc, part, walk, span, patterns) {
+            Ok(place) => Ok(place),
+            Err(AllocError) => {
+                self.spent = true;
+                Err(EngineFail::Memory)
+            }
+        }
+    }
+
+    #[tactic(none)]
+    fn pull(
+        &mut self,
+        ask: usize,
+        most: u32,
+        patterns: &mut Patterns<'_>,
+        frame: &mut Frame,
+    ) -> Result<Pulled, EngineFail>
+        requires may { MayPull ask patterns.old (seen_of self.old) }
+        requires some { 1 ≤ most }
+        requires empty { frame.old.steps ≡ [] }
+        ensures same { patterns.new ≡ patterns.old }
+        ensures pulled { HasPulled ask most frame.new.steps result (seen_of self.old) (seen_of self.new) }
+    {
+        walks_are_listed();
+        if self.asks[ask].is_done() {
+            return Ok(Pulled::End);
+        }
+        match next_frame(self.alloc, &self.store, &self.asks[ask], most, patterns) {
+            Ok(made) => {
+                self.asks[ask].given += made.steps.as_slice().len();
+                *frame = made;
+                Ok(Pulled::Frame)
+            }
+            Err(AllocError) => {
+                self.spent = true;
+                Err(EngineFail::Memory)
+            }
+        }
+    }
+}

@@ -1,0 +1,12 @@
+//! An engine over samples of its own, which tells all that it holds and never fails.
+#![tactic(auto)]
+
+mod asks;
+mod cells;
+mod engine;
+mod groups;
+mod patterns;
+mod pulling;
+mod times;
+
+pub use engine::LocalEngine;
