@@ -1,7 +1,6 @@
 //! The engine.
 ghost use Rattle.engine_local.specs.Local.{seen_of};
-ghost use Rattle.remote_api.specs.Seen.{EngineSeen, HasAsked, HasDeclared, HasLoaded, HasPulled, IsBegun, IsCleared, MayAsk, MayDeclare, MayLoad, MayPull};
-ghost use Rattle.std.specs.Prelude.{◌≡◌, ◌≤◌, [], None, Some, false};
+ghost use Rattle.std.specs.Prelude.{◌≡◌, [], None, false};
 
 use crate::asks::{OwnAsk, add_ask};
 use crate::pulling::next_frame;
@@ -63,10 +62,7 @@ impl Engine for LocalEngine {
     ghost seen = { seen_of };
 
     #[tactic(none)]
-    fn declare(&mut self, labels: &Labels) -> Result<(), EngineFail>
-        requires { MayDeclare (seen_of self.old) }
-        ensures { HasDeclared labels.now result (seen_of self.old) (seen_of self.new) }
-    {
+    fn declare(&mut self, labels: &Labels) -> Result<(), EngineFail> {
         match labels.copy() {
             Ok(labels) => {
                 self.declared = Some(labels);
@@ -77,10 +73,7 @@ impl Engine for LocalEngine {
     }
 
     #[tactic(none)]
-    fn load(&mut self, labels: &Labels, at: Ms, held: &Held) -> Result<(), EngineFail>
-        requires { MayLoad labels.now at held.now (seen_of self.old) }
-        ensures { HasLoaded labels.now at held.now result (seen_of self.old) (seen_of self.new) }
-    {
+    fn load(&mut self, labels: &Labels, at: Ms, held: &Held) -> Result<(), EngineFail> {
         match self.store.append(labels, at, held) {
             Ok(()) => {}
             Err(_) => return Err(EngineFail::Memory),
@@ -89,17 +82,12 @@ impl Engine for LocalEngine {
     }
 
     #[tactic(none)]
-    fn clear(&mut self)
-        requires { (seen_of self.old).asks ≡ [] }
-        ensures { IsCleared (seen_of self.old) (seen_of self.new) }
-    {
+    fn clear(&mut self) {
         self.store.clear();
     }
 
     #[tactic(none)]
-    fn begin(&mut self)
-        ensures { IsBegun (seen_of self.old) (seen_of self.new) }
-    {
+    fn begin(&mut self) {
         self.asks.clear();
         self.spent = false;
     }
@@ -111,11 +99,7 @@ impl Engine for LocalEngine {
         walk: &Walk,
         span: &Grid,
         patterns: &mut Patterns<'_>,
-    ) -> Result<usize, EngineFail>
-        requires { MayAsk part.now walk.now span.now patterns.old (seen_of self.old) }
-        ensures same { patterns.new ≡ patterns.old }
-        ensures asked { HasAsked part.now walk.now span.now patterns.old result (seen_of self.old) (seen_of self.new) }
-    {
+    ) -> Result<usize, EngineFail> {
         walks_are_listed();
         match add_ask(&mut self.asks, self.alloc, part, walk, span, patterns) {
             Ok(place) => Ok(place),
@@ -133,13 +117,7 @@ impl Engine for LocalEngine {
         most: u32,
         patterns: &mut Patterns<'_>,
         frame: &mut Frame,
-    ) -> Result<Pulled, EngineFail>
-        requires may { MayPull ask patterns.old (seen_of self.old) }
-        requires some { 1 ≤ most }
-        requires empty { frame.old.steps ≡ [] }
-        ensures same { patterns.new ≡ patterns.old }
-        ensures pulled { HasPulled ask most frame.new.steps result (seen_of self.old) (seen_of self.new) }
-    {
+    ) -> Result<Pulled, EngineFail> {
         walks_are_listed();
         if self.asks[ask].is_done() {
             return Ok(Pulled::End);
