@@ -1,5 +1,5 @@
 -- What an ask makes of what is seen of the engine.
-use Rattle.std.proofs.Common.{◌≡◌, ◌∙◌, ℕ, zero, suc, ◌+◌, ◌<◌, ◌≤◌, true, false, List, [], ◌∷◌, ◌++◌, length, map, drop, refl, sym, ap, subst, Some, None, Ok, Err, arith}
+use Rattle.std.proofs.Common.{◌≡◌, ◌∙◌, ℕ, ◌+◌, ◌≤◌, true, [], ◌∷◌, ◌++◌, length, drop, refl, sym, ap, subst, Some, Ok, Err, arith}
 use Rattle.std.specs.Prelude.{ℤ, Option}
 use Rattle.std.proofs.lemmas.List.{length-map, map-append}
 use Rattle.promql_ast.specs.declared.tree.Expr.{Expr}
@@ -24,7 +24,7 @@ use Rattle.ticks.specs.declared.grid.Grid.{Grid}
 use Rattle.ticks.specs.declared.moment.Ms.{Ms}
 use Rattle.ticks.specs.declared.walk.Walk.{Walk}
 use Rattle.ticks.specs.declared.walk.WalkMoment.{WalkMoment}
-use Rattle.engine_local.specs.Local.{IsAllowed, IsFresh, Local, asked_of, seen_ask, seen_of}
+use Rattle.engine_local.specs.Local.{IsAllowed, IsFresh, Local, seen_ask, seen_of}
 use Rattle.engine_local.specs.declared.asks.OwnAsk.{OwnAsk}
 use Rattle.engine_local.specs.Windows.{IsWindow}
 use Rattle.engine_local.proofs.Calls.{no_error, no_failure, no_faults}

@@ -1,8 +1,7 @@
 -- What the calls that ask nothing make of what is seen of the engine.
-use Rattle.std.proofs.Common.{◌≡◌, ◌≤◌, false, true, List, [], ◌∷◌, map, refl, sym, ap, Some, Ok, Err, arith}
-use Rattle.std.specs.Prelude.{⊤, Result, IsErrOf}
-use Rattle.edge_io.specs.Causes.{HasCause}
-use Rattle.remote_api.specs.Seen.{AskSeen, HasDeclared, HasFaults, HasLoaded, IsBegun, IsCleared, KeepsAsks, KeepsStrays}
+use Rattle.std.proofs.Common.{◌≡◌, false, List, [], ◌∷◌, map, refl, Some, Ok, Err, arith}
+use Rattle.std.specs.Prelude.{IsErrOf}
+use Rattle.remote_api.specs.Seen.{HasDeclared, HasFaults, HasLoaded, IsBegun, IsCleared}
 use Rattle.remote_api.specs.declared.engine.EngineFail.{EngineFail}
 use Rattle.remote_api.specs.declared.engine.EngineFail.TheVariants as fail
 use Rattle.sample_store.specs.Samples.{with_sample}

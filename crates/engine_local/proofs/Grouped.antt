@@ -1,6 +1,6 @@
 -- The cells of groups are of the kind of their aggregation, under labels of their own.
-use Rattle.std.proofs.Common.{◌≡◌, ◌∙◌, suc, ◌<◌, ◌≤◌, ◌^◌, true, false, cond, List, [], ◌∷◌, length, map, refl, sym, ap, Some, None, ℕ, arith}
-use Rattle.std.specs.Prelude.{⊤, Bool, Option, IfSome, ◌&&◌, ◌||◌, filter, nat_lt, if◌then◌else◌}
+use Rattle.std.proofs.Common.{◌≡◌, ◌∙◌, suc, ◌<◌, ◌≤◌, ◌^◌, true, false, cond, List, [], ◌∷◌, length, map, refl, sym, ap, Some, None, arith}
+use Rattle.std.specs.Prelude.{Bool, Option, IfSome, ◌&&◌, ◌||◌, filter, nat_lt, if◌then◌else◌}
 use Rattle.std.specs.BTreeMap.{is_at}
 use Rattle.std.specs.List.{AllByRecursion, cons_option, filter_map, list_all, list_any}
 use Rattle.std.specs.Map.{keys_of, values_of}

@@ -1,5 +1,5 @@
 -- A pattern out of its two parts.
-use Rattle.std.proofs.Common.{◌≡◌, ℕ, Bool, List, Some, None, ap}
+use Rattle.std.proofs.Common.{◌≡◌, ℕ, Bool, List, Some, None}
 use Rattle.std.specs.Prelude.{Option}
 use Rattle.std.specs.Option.{option_map}
 

@@ -1,5 +1,5 @@
 -- All instants of a walk, one after another.
-use Rattle.std.proofs.Common.{◌≡◌, ◌∙◌, ℕ, zero, suc, ◌+◌, ◌<◌, ◌≤◌, ◌^◌, refl, sym, subst, ap, arith, List, [], ◌∷◌, ◌++◌, length, take, slice_get, Some, None, add-one}
+use Rattle.std.proofs.Common.{◌≡◌, ◌∙◌, ℕ, ◌+◌, ◌<◌, ◌^◌, sym, subst, ap, arith, List, [], ◌∷◌, ◌++◌, length, take, slice_get, Some, None}
 use Rattle.std.specs.Prelude.{pos, ◌-ℤ◌, ◌<ℤ◌, Option, IfSome, unsigned_abs}
 use Rattle.std.proofs.lemmas.Int.{ints}
 use Rattle.engine_local.proofs.Lists.{all_taken, length_more, taken_more}

@@ -1,6 +1,6 @@
 -- What was allowed when an ask was made is ready at each of its instants.
-use Rattle.std.proofs.Common.{◌≡◌, ◌∙◌, List, [], ◌∷◌, ◌++◌, length, refl, sym, ap, subst, arith}
-use Rattle.std.specs.Prelude.{ℕ, ℤ, Bool}
+use Rattle.std.proofs.Common.{◌≡◌, List, [], ◌∷◌, ◌++◌, length, refl, sym, ap, subst, arith}
+use Rattle.std.specs.Prelude.{ℤ}
 use Rattle.std.specs.List.{AllByRecursion}
 use Rattle.promql_ast.specs.Folds.{fold-Range}
 use Rattle.promql_ast.specs.declared.tree.Expr.{Expr}

@@ -1,10 +1,9 @@
 -- A sum that is formed as its values come, as a cell.
-use Rattle.std.proofs.Common.{◌≡◌, ◌∙◌, ◌<◌, ◌^◌, ◌+◌, true, false, List, length, refl, sym, ap, subst, Some, None, arith}
+use Rattle.std.proofs.Common.{◌≡◌, ◌∙◌, ◌<◌, ◌^◌, true, false, List, length, refl, sym, ap, Some, None, arith}
 use Rattle.std.specs.Prelude.{Bool, Option, IfSome, if◌then◌else◌}
 use Rattle.window_fn.specs.Totals.{HasRoom, KeepsSum}
-use Rattle.xfrac.specs.Sums.{Totals, fits, sum_of, totals, value_of}
+use Rattle.xfrac.specs.Sums.{Totals, fits, totals, value_of}
 use Rattle.xfrac.specs.declared.value.XFrac.{XFrac}
-use Rattle.step_table.specs.declared.cells.Cell.{Cell}
 use Rattle.step_table.specs.declared.cells.Cell.TheVariants as cell
 use Rattle.step_cells.specs.Owed.{sum_cell}
 

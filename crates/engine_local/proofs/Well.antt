@@ -1,16 +1,13 @@
 -- What is owed at the instants of an ask is no stray.
-use Rattle.std.proofs.Common.{◌≡◌, ◌∙◌, ℕ, zero, suc, ◌+◌, ◌<◌, ◌≤◌, ◌^◌, true, false, List, [], ◌∷◌, ◌++◌, length, map, take, drop, refl, sym, ap, subst, Some, None, arith}
-use Rattle.std.specs.Prelude.{ℤ, Bool, Option, ◌&&◌, ◌-ℤ◌, if◌then◌else◌}
+use Rattle.std.proofs.Common.{◌≡◌, ◌∙◌, ℕ, zero, suc, ◌+◌, ◌≤◌, true, false, List, [], ◌∷◌, ◌++◌, length, map, take, refl, sym, ap, subst, Some, None, arith}
+use Rattle.std.specs.Prelude.{ℤ, Bool, if◌then◌else◌}
 use Rattle.std.specs.List.{AllByRecursion, list_all}
 use Rattle.std.specs.List.Sorted.{IsStrictlySortedBy}
 use Rattle.std.specs.Ordering.{int_eq}
 use Rattle.std.proofs.lemmas.Bool.Decides.{Decides-int_eq}
-use Rattle.func_table.specs.declared.table.Aggregate.{Aggregate}
 use Rattle.label_set.specs.Labels.{labels_cmp}
-use Rattle.label_set.specs.declared.rules.Grouping.{Grouping}
 use Rattle.promql_ast.specs.Folds.{fold-Range}
-use Rattle.promql_ast.specs.declared.tree.Selector.{Selector}
-use Rattle.promql_meaning.specs.Givens.{no_marks, step_of}
+use Rattle.promql_meaning.specs.Givens.{no_marks}
 use Rattle.promql_meaning.specs.Laws.{MeaningIsWellFormed}
 use Rattle.promql_meaning.specs.Meaning.{meaning, node_meaning}
 use Rattle.promql_meaning.specs.Selecting.{AllSeries, Asked, Samples, asked_over, moment_of, passing, window_rows}
@@ -31,10 +28,9 @@ use Rattle.step_table.specs.declared.step.Row.{Row}
 use Rattle.ticks.specs.Walks.{moment_at}
 use Rattle.ticks.specs.declared.moment.Ms.{Ms}
 use Rattle.remote_api.specs.Seen.{owed}
-use Rattle.remote_api.specs.Strays.{has_kind, is_cell_of, is_well, or_wrong_cell, out_of_step, stray_of, wrong_cell}
+use Rattle.remote_api.specs.Strays.{is_cell_of, is_well, or_wrong_cell, out_of_step, stray_of, wrong_cell}
 use Rattle.remote_api.specs.declared.asks.Ask.{Ask}
 use Rattle.remote_api.specs.declared.asks.Part.{Part}
-use Rattle.remote_api.specs.declared.frame.Stray.{Stray}
 use Rattle.remote_api.specs.declared.frame.Stray.TheVariants.{OutOfStep, WrongCell}
 use Rattle.engine_local.specs.Local.{HasFewRows, IsAllowed}
 use Rattle.engine_local.specs.declared.asks.OwnAsk.{OwnAsk}

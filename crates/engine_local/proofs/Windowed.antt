@@ -1,6 +1,6 @@
 -- The windows of a range selector are windows as they are asked for, under labels of their own.
-use Rattle.std.proofs.Common.{◌≡◌, ◌∙◌, ℕ, true, false, cond, List, [], ◌∷◌, length, map, refl, sym, ap, subst, Some, None, arith, not}
-use Rattle.std.specs.Prelude.{⊤, ℤ, Bool, Option, IfSome, ◌&&◌, ◌==◌, ◌-ℤ◌, filter, int_le, int_lt}
+use Rattle.std.proofs.Common.{◌≡◌, ◌∙◌, true, false, cond, List, [], ◌∷◌, length, map, refl, sym, ap, subst, Some, None, arith, not}
+use Rattle.std.specs.Prelude.{ℤ, Bool, Option, IfSome, ◌==◌, ◌-ℤ◌, filter, int_lt}
 use Rattle.std.specs.List.{AllByRecursion, cons_option, filter_map, list_all}
 use Rattle.std.specs.List.Sorted.{IsStrictlySortedBy}
 use Rattle.std.specs.Map.{keys_of}
@@ -14,16 +14,14 @@ use Rattle.label_set.specs.Labels.{labels_cmp}
 use Rattle.match_rule.specs.Patterns.{labels_pass}
 use Rattle.promql_ast.specs.declared.tree.Selector.{Selector}
 use Rattle.promql_meaning.specs.Givens.{no_marks}
-use Rattle.promql_meaning.specs.Selecting.{AllSeries, Asked, Samples, fresh, fresh_sample, moment_of, passing, sample_times, sample_values, selected_windows, series_window, window, window_row, window_rows}
+use Rattle.promql_meaning.specs.Selecting.{AllSeries, Asked, Samples, fresh, fresh_sample, passing, sample_times, sample_values, series_window, window, window_row, window_rows}
 use Rattle.sample_store.specs.Samples.{IsRising, time_cmp}
-use Rattle.step_batch.specs.LentWindows.{WindowsAt}
 use Rattle.step_cells.specs.Owed.{window_cell, window_cells}
 use Rattle.step_table.specs.Groups.{Names}
 use Rattle.step_table.specs.declared.cells.CellRow.{CellRow}
 use Rattle.step_table.specs.declared.cells.PartKind.{PartKind}
 use Rattle.step_table.specs.declared.cells.PartKind.TheVariants as part_kind
 use Rattle.step_table.specs.declared.windows.WindowRow.{WindowRow}
-use Rattle.ticks.specs.Edges.{is_from}
 use Rattle.ticks.specs.Walks.{moment_at}
 use Rattle.ticks.specs.declared.moment.Ms.{Ms}
 use Rattle.ticks.specs.declared.walk.WalkMoment.{WalkMoment}

@@ -1,5 +1,5 @@
 -- An engine over samples of its own: what it keeps of its asks, and what is seen of it. (This project's own.)
-use Rattle.std.specs.Prelude.{◌≡◌, ◌≤◌, ◌<◌, ◌^◌, ⊤, ℕ, Bool, true, List, [], length, map, drop, Option, None, Some}
+use Rattle.std.specs.Prelude.{◌≡◌, ◌≤◌, ◌<◌, ◌^◌, ⊤, Bool, true, List, [], length, map, drop, Option, None, Some}
 use Rattle.std.specs.List.{AllByRecursion}
 use Rattle.step_table.specs.Groups.{Names}
 use Rattle.step_table.specs.declared.cells.PartKind.{PartKind}

@@ -1,4 +1,4 @@
-use Rattle.std.proofs.Common.{◌≡◌, ◌∙◌, ◌++◌, ◌∷◌, [], List, Bool, ℕ, ap, sym}
+use Rattle.std.proofs.Common.{◌∙◌, ◌++◌, ◌∷◌, [], List, Bool, ℕ, ap, sym}
 use Rattle.engine_local.proofs.Lists.{taken_more}
 use Rattle.engine_local.proofs.patterns.copied.Goals as goal
 

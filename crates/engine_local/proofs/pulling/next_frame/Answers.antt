@@ -1,4 +1,4 @@
-use Rattle.std.proofs.Common.{◌≡◌, ◌∙◌, ap, sym}
+use Rattle.std.proofs.Common.{◌∙◌, ap, sym}
 use Rattle.remote_api.specs.Seen.{owed}
 use Rattle.promql_meaning.specs.Selecting.{asked_over}
 use Rattle.engine_local.proofs.Framing.{gives_owed, next_instants}

@@ -1,4 +1,4 @@
-use Rattle.std.proofs.Common.{◌≡◌, ◌∙◌, ap, sym, subst, get_or, pos}
+use Rattle.std.proofs.Common.{◌∙◌, ap, sym, subst, get_or, pos}
 use Rattle.promql_meaning.specs.Selecting.{asked_over}
 use Rattle.plain_eval.specs.Ready.{IsReady}
 use Rattle.step_cells.specs.Owed.{cells}

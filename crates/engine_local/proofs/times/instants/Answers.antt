@@ -1,4 +1,4 @@
-use Rattle.std.proofs.Common.{◌≡◌, ◌<◌, sym, subst}
+use Rattle.std.proofs.Common.{◌<◌, sym, subst}
 use Rattle.std.specs.Prelude.{Option, IfSome}
 use Rattle.ticks.specs.Walks.{IsInstant}
 use Rattle.ticks.specs.declared.moment.Ms.{Ms}

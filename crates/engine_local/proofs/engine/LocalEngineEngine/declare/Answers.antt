@@ -1,5 +1,4 @@
-use Rattle.std.proofs.Common.{Ok, Err, Some, ap, subst, sym, refl}
-use Rattle.std.specs.Prelude.{Option}
+use Rattle.std.proofs.Common.{Ok, Some, subst, sym, refl}
 use Rattle.remote_api.specs.Seen.{HasDeclared}
 use Rattle.step_table.specs.Groups.{Names}
 use Rattle.engine_local.specs.Local.{Local, seen_of}

@@ -1,4 +1,4 @@
-use Rattle.std.proofs.Common.{◌≡◌, [], Ok, Err, subst, sym, refl}
+use Rattle.std.proofs.Common.{◌≡◌, [], Ok, Err, subst, sym}
 use Rattle.remote_api.specs.Seen.{HasLoaded}
 use Rattle.remote_api.specs.declared.engine.EngineFail.TheVariants as fail
 use Rattle.promql_meaning.specs.Selecting.{AllSeries}

@@ -1,4 +1,4 @@
-use Rattle.std.proofs.Common.{rules, ◌≡◌, ◌∙◌, ◌+◌, ◌<◌, ◌≤◌, ◌^◌, ℕ, [], List, Some, Ok, Err, length, slice_get, slice_set, true, ap, subst, sym, refl, arith}
+use Rattle.std.proofs.Common.{rules, ◌≡◌, ◌∙◌, ◌+◌, ◌<◌, ◌≤◌, ◌^◌, ℕ, List, Some, Ok, Err, length, slice_get, slice_set, true, ap, subst, sym, refl, arith}
 use Rattle.remote_api.specs.Seen.{GivesOwed, HasPulled}
 use Rattle.remote_api.specs.Strays.{wrong_cell}
 use Rattle.remote_api.specs.declared.engine.EngineFail.TheVariants as fail
