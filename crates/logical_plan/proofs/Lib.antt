@@ -8,6 +8,7 @@ pub mod Lowered
 pub mod Lowers
 pub mod PartKept
 pub mod PartLowers
+pub mod PartSteady
 pub mod PartTypes
 pub mod Placements
 pub mod Placing

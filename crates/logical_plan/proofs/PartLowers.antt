@@ -543,6 +543,7 @@ module _ (asked : Asked) (placed : List Placed) where
   level (PlanNode-F.Filter p rules) at whole typed found = absurd (false≢true whole)
   level (PlanNode-F.Ratio p q) at whole typed found = absurd (false≢true whole)
   level (PlanNode-F.Once p) at whole typed found = absurd (false≢true whole)
+  level (PlanNode-F.Gather expr kind engines) at whole typed found = absurd (false≢true whole)
 
   -- ---- every plan
 

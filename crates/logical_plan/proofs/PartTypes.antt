@@ -705,6 +705,7 @@ module _ (kept : Patterns) where
   level (PlanNode-F.Filter p rules) at whole typed = absurd (false≢true whole)
   level (PlanNode-F.Ratio p q) at whole typed = absurd (false≢true whole)
   level (PlanNode-F.Once p) at whole typed = absurd (false≢true whole)
+  level (PlanNode-F.Gather expr kind engines) at whole typed = absurd (false≢true whole)
 
   -- ---- every plan
 

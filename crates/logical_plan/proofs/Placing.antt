@@ -11,7 +11,7 @@ use Rattle.logical_plan.specs.declared.nodes.PlanNode.TheViews.{roll-PlanNode, r
 use Rattle.logical_plan.specs.declared.nodes.PlanNode.TheFolds.{map-PlanNode, fold-PlanNode, fold-Plan, fold-roll-PlanNode, fold-roll-Plan, ind-Plan}
 use Rattle.logical_plan.specs.Lowering.{planned}
 use Rattle.logical_plan.specs.Onces.{Onced, node_over, once_node, once_of, placed_over, placed_plan, with_onces, wrapped}
-use Rattle.logical_plan.specs.PlanFolds.{of-Number, of-Time, of-Select, of-Range, of-Subquery, of-Element, of-Stamp, of-Window, of-Absent, of-Buckets, of-Relabel, of-Sort, of-ScalarOf, of-VectorOf, of-Group, of-Pair, of-Set, of-Filter, of-Ratio, of-Once}
+use Rattle.logical_plan.specs.PlanFolds.{of-Number, of-Time, of-Select, of-Range, of-Subquery, of-Element, of-Stamp, of-Window, of-Absent, of-Buckets, of-Relabel, of-Sort, of-ScalarOf, of-VectorOf, of-Group, of-Pair, of-Set, of-Filter, of-Ratio, of-Once, of-Gather}
 use Rattle.logical_plan.specs.PlanMeaning.{Meant, node_meant, plan_meaning}
 use Rattle.logical_plan.specs.Steadiness.{Checked, OncesAreSteady, all_good, all_of, both, checked, constant, is_once, is_steady, known, node_checked, node_facts, still_if}
 
@@ -94,6 +94,7 @@ module _ {A B : Type 0} (node_step : PlanNode-F A B → A) (plan_step : Plan-F A
   over_same (PlanNode-F.Ratio l r) at inside =
       of-Ratio node_step plan_step at ((once_of l.0).plan inside) ((once_of r.0).plan inside) ∙ ap₂ (λ x z. at_place at (PlanNode-F.Ratio x z)) (l.1 inside) (r.1 inside)
   over_same (PlanNode-F.Once p) at inside = of-Once node_step plan_step at ((once_of p.0).plan inside) ∙ ap (λ x. at_place at (PlanNode-F.Once x)) (p.1 inside)
+  over_same (PlanNode-F.Gather expr kind engines) at inside = of-Gather node_step plan_step at expr kind engines
 
   under_same : (y : Layer) (at : ℕ) (inside : Bool) → of (placed_over (onced y) at inside) ≡ at_place at (folded y)
   under_same y at inside =
@@ -122,6 +123,7 @@ module _ {A B : Type 0} (node_step : PlanNode-F A B → A) (plan_step : Plan-F A
   level (PlanNode-F.Filter p rules) at inside = under_same (PlanNode-F.Filter p rules) at inside
   level (PlanNode-F.Ratio l r) at inside = under_same (PlanNode-F.Ratio l r) at inside
   level (PlanNode-F.Once p) at inside = p.1 inside ∙ sym (nothing at (of p.0))
+  level (PlanNode-F.Gather expr kind engines) at inside = under_same (PlanNode-F.Gather expr kind engines) at inside
 
   node_kept : (y : Layer) → IsKeptNode (roll-PlanNode (bare y))
   node_kept y at inside =
@@ -193,6 +195,7 @@ module _ {A B : Type 0} (node_step : PlanNode-F A B → A) (plan_step : Plan-F A
   level_told (PlanNode-F.Filter p rules) = ap (λ (f : Facts). record f { own = false }) p.1
   level_told (PlanNode-F.Ratio l r) = ap₂ both l.1 r.1
   level_told (PlanNode-F.Once p) = p.1
+  level_told (PlanNode-F.Gather expr kind engines) = refl
 
   node_told : (y : ToldLayer) → IsToldNode (roll-PlanNode (bare_told y))
   node_told y at =
@@ -345,6 +348,8 @@ node_fits (PlanNode-F.Ratio l r) =
     kind_good (PlanNode-F.Ratio l r) (λ at. refl) (λ at b. good_of _ _ (of-Ratio node_checked (λ p. p.node) at _ _) (and_true _ _ (l.1 b) (r.1 b)))
 node_fits (PlanNode-F.Once p) =
     λ at inside. ap (λ (f : ℕ → Onced). (checked ((f at).plan inside)).good) (fold-roll-PlanNode (ℕ → Onced) Onced once_node (λ p. p.node p.at) (PlanNode-F.Once p.0)) ∙ p.1 inside
+node_fits (PlanNode-F.Gather expr kind engines) =
+    kind_good (PlanNode-F.Gather expr kind engines) (λ at. refl) (λ at b. good_of _ _ (of-Gather node_checked (λ p. p.node) at expr kind engines) refl)
 
 plan_fits : (at : ℕ) (n : PlanNode) → IsGoodNode n → IsGood (roll-Plan (record { at = at; node = n }))
 plan_fits at n good inside = ap (λ (o : Onced). (checked (o.plan inside)).good) (fold-roll-Plan (ℕ → Onced) Onced once_node (λ p. p.node p.at) (record { at = at; node = n })) ∙ good at inside

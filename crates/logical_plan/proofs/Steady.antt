@@ -1,12 +1,8 @@
 -- A steady plan means the same at each instant.
-use Rattle.std.proofs.Common.{◌≡◌, ◌∙◌, ℕ, List, [], ◌∷◌, map, ap, ap₂, sym, refl, subst, Bool, true, false, Some, None}
-use Rattle.std.specs.Prelude.{ℤ, ◌&&◌, ◌-ℤ◌, Option}
+use Rattle.std.proofs.Common.{◌≡◌, ◌∙◌, ℕ, List, [], ◌∷◌, map, ap, ap₂, sym, refl, subst, true, false}
+use Rattle.std.specs.Prelude.{ℤ}
 use Rattle.func_table.specs.declared.table.Window.{Window as WindowFunction}
 use Rattle.func_table.specs.declared.table.Window.TheVariants as window
-use Rattle.promql_ast.specs.declared.tree.Fixed.{Fixed}
-use Rattle.promql_ast.specs.declared.tree.Fixed.TheVariants as fixed
-use Rattle.promql_ast.specs.declared.tree.Moment.{Moment}
-use Rattle.window_fn.specs.Increases.{increase, layout_of, rate}
 use Rattle.xfrac.specs.declared.value.XFrac.{XFrac}
 use Rattle.step_table.specs.Sets.{combined}
 use Rattle.step_table.specs.Unions.{united}
@@ -15,9 +11,8 @@ use Rattle.step_table.specs.declared.step.Step.{Step}
 use Rattle.promql_meaning.specs.Buckets.{bucket_quantiles}
 use Rattle.promql_meaning.specs.Givens.{by_value, no_marks, step_of, value_in, with_scalar}
 use Rattle.promql_meaning.specs.Meaning.{as_scalar, operation, step_at, windowed_by, zero_number}
-use Rattle.promql_meaning.specs.Ranges.{windowed}
-use Rattle.promql_meaning.specs.Selecting.{Asked, base_of, moment_of, newest_rows, passing, window_rows}
-use Rattle.promql_meaning.specs.Steadiness.{has_fixed, steady_window}
+use Rattle.promql_meaning.specs.Selecting.{Asked, newest_rows, passing, window_rows}
+use Rattle.promql_meaning.specs.Steadiness.{steady_window}
 use Rattle.promql_meaning.specs.Subqueries.{points_of}
 use Rattle.promql_meaning.specs.declared.given.Given.{Given}
 use Rattle.promql_meaning.specs.declared.given.Given.TheVariants as given
@@ -31,57 +26,9 @@ use Rattle.logical_plan.specs.declared.nodes.PlanNode.TheFolds.{map-PlanNode, fo
 use Rattle.logical_plan.specs.PlanMeaning.{Meant, element_given, givens_at, group_given, node_meant, plan_meant, relabel_given, window_given}
 use Rattle.logical_plan.specs.PlanRules.{absent_under, filtered, newest_of, ratio, stamp}
 use Rattle.logical_plan.specs.Steadiness.{SteadyPlanStays, all_of, both, constant, known, node_facts, still_if}
-
--- ---- conditions of parts
-
-left_of : (a b : Bool) → (a && b) ≡ true → a ≡ true
-left_of true b h = refl
-left_of false b h = absurd (cc)
-
-right_of : (a b : Bool) → (a && b) ≡ true → b ≡ true
-right_of true b h = h
-right_of false b h = absurd (cc)
-
-together : (a b : Bool) → a ≡ true → b ≡ true → (a && b) ≡ true
-together true b h i = i
-together false b h i = absurd (cc)
-
-record IsStill (f : Facts) : Type 0 where
-  fixed : f.fixed ≡ true
-  still : f.still ≡ true
-
-left_still : (a b : Facts) → IsStill (both a b) → IsStill a
-left_still a b s = record { fixed = left_of a.fixed b.fixed s.fixed; still = left_of a.still b.still s.still }
-
-right_still : (a b : Facts) → IsStill (both a b) → IsStill b
-right_still a b s = record { fixed = right_of a.fixed b.fixed s.fixed; still = right_of a.still b.still s.still }
-
-first_still : (f : Facts) (fs : List Facts) → IsStill (all_of f fs) → IsStill f
-first_still f [] s = s
-first_still f (g ∷ gs) s = left_still f g (first_still (both f g) gs s)
+use Rattle.logical_plan.proofs.PartSteady.{IsStill, first_still, gathers_stay, left_of, left_still, moment_stays, own_false, right_of, right_still, windowed_stays}
 
 -- ---- functions of windows
-
-windowed_stays : (f : WindowFunction) (t u : ℤ) (arg : XFrac) (w : Windows) → steady_window f ≡ true → windowed f t arg w ≡ windowed f u arg w
-unfolding rate increase layout_of
-windowed_stays window.Rate t u arg w h = refl
-windowed_stays window.Increase t u arg w h = refl
-windowed_stays window.Delta t u arg w h = refl
-windowed_stays window.Irate t u arg w h = refl
-windowed_stays window.Idelta t u arg w h = refl
-windowed_stays window.Deriv t u arg w h = refl
-windowed_stays window.PredictLinear t u arg w h = absurd (cc)
-windowed_stays window.Changes t u arg w h = refl
-windowed_stays window.Resets t u arg w h = refl
-windowed_stays window.AvgOver t u arg w h = refl
-windowed_stays window.MinOver t u arg w h = refl
-windowed_stays window.MaxOver t u arg w h = refl
-windowed_stays window.SumOver t u arg w h = refl
-windowed_stays window.CountOver t u arg w h = refl
-windowed_stays window.StdvarOver t u arg w h = refl
-windowed_stays window.QuantileOver t u arg w h = refl
-windowed_stays window.LastOver t u arg w h = refl
-windowed_stays window.PresentOver t u arg w h = refl
 
 by_stays : (f : WindowFunction) (t u : ℤ) (scalar : Step) (w : Windows) → steady_window f ≡ true → windowed_by f t scalar w ≡ windowed_by f u scalar w
 by_stays window.Rate t u scalar w h = windowed_stays window.Rate t u zero_number w h
@@ -113,15 +60,6 @@ given_stays f t u arguments (given.Windows w) h = by_stays f t u (step_at argume
 given_stays f t u arguments (given.Words text) h = refl
 
 module _ (asked : Asked) where
-  moment_stays : (moment : Moment) (t u : ℤ) → has_fixed moment.fixed ≡ true → moment_of asked moment t ≡ moment_of asked moment u
-  moment_stays moment t u h = by moment.fixed h
-    where
-      by : (o : Option Fixed) → has_fixed o ≡ true → base_of asked.start asked.end t o -ℤ moment.offset.0 ≡ base_of asked.start asked.end u o -ℤ moment.offset.0
-      by None h = absurd (cc)
-      by (Some (fixed.At at)) h = refl
-      by (Some fixed.Start) h = refl
-      by (Some fixed.End) h = refl
-
   -- what is still means the same at each instant; the samples' own times are known as such
   record Stays (f : Facts) (m : Meant) : Type 0 where
     gives : IsStill f → (t u : ℤ) → m.gives t ≡ m.gives u
@@ -165,10 +103,6 @@ module _ (asked : Asked) where
       let own : IsStill (known p.0) = right_still f (known p.0) (first_still (both f (known p.0)) (facts_of ps) s) in
       ap₂ (λ x xs. x ∷ xs) (p.1.gives own t u) (arguments_stay (both f (known p.0)) ps t u s)
 
-  own_false : (f : Facts) (fs : List Facts) → f.own ≡ false → (all_of f fs).own ≡ false
-  own_false f [] h = h
-  own_false f (g ∷ gs) h = own_false (both f g) gs refl
-
   -- one part
   over : (p : Staying) (h : Given → Given) → Stays (both constant (known p.0)) (record { own = false; gives = λ t. h ((plan_meant asked p.0).gives t) })
   over p h = others _ _ refl (λ s t u. ap h (p.1.gives (right_still constant (known p.0) s) t u))
@@ -186,14 +120,14 @@ module _ (asked : Asked) where
       no_time : (false ≡ true) → ⊥
       no_time h = absurd (cc)
   level (PlanNode-F.Select rules moment stamped) = record {
-    gives = λ s t u. ap (λ m. given.Vector (newest_of stamped (newest_rows moment.closed m (passing asked.samples asked.kept rules)))) (moment_stays moment t u s.fixed);
+    gives = λ s t u. ap (λ m. given.Vector (newest_of stamped (newest_rows moment.closed m (passing asked.samples asked.kept rules)))) (moment_stays asked moment t u s.fixed);
     own = refl;
     stamped = λ h. refl;
   }
   level (PlanNode-F.Range rules moment range) =
-      others _ _ refl (λ s t u. ap (λ m. given.Windows (record { moment = record { 0 = m }; range = range; rules = []; rows = window_rows moment.closed m range.0 (passing asked.samples asked.kept rules); marks = no_marks })) (moment_stays moment t u s.fixed))
+      others _ _ refl (λ s t u. ap (λ m. given.Windows (record { moment = record { 0 = m }; range = range; rules = []; rows = window_rows moment.closed m range.0 (passing asked.samples asked.kept rules); marks = no_marks })) (moment_stays asked moment t u s.fixed))
   level (PlanNode-F.Subquery p range step moment) =
-      others _ _ refl (λ s t u. ap (λ m. given.Windows (points_of moment.closed (λ v. step_of ((plan_meant asked p.0).gives v)) range step m)) (moment_stays moment t u s.fixed))
+      others _ _ refl (λ s t u. ap (λ m. given.Windows (points_of moment.closed (λ v. step_of ((plan_meant asked p.0).gives v)) range step m)) (moment_stays asked moment t u s.fixed))
   level (PlanNode-F.Element f p ps) =
       others _ _ (own_false (both constant (known p.0)) (facts_of ps) refl)
       (λ s t u. ap₂ (element_given f) (arguments_stay (both constant (known p.0)) ps t u s) (p.1.gives (right_still constant (known p.0) (first_still (both constant (known p.0)) (facts_of ps) s)) t u))
@@ -234,6 +168,7 @@ module _ (asked : Asked) where
       others _ _ refl (λ s t u. ap (filtered asked.kept rules) (p.1.gives (record { fixed = s.fixed; still = s.still }) t u))
   level (PlanNode-F.Ratio l r) = over_both l r (λ a b. given.Vector (ratio (step_of a) (step_of b)))
   level (PlanNode-F.Once p) = p.1
+  level (PlanNode-F.Gather expr kind engines) = others _ _ refl (λ s t u. gathers_stay asked expr kind engines (record { fixed = s.fixed; still = s.still }) t u)
 
   node_stays : (y : Layer) → NodeStays (roll-PlanNode (bare y))
   node_stays y =

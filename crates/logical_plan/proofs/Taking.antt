@@ -101,6 +101,7 @@ module _ (kept : Kept) where
   form (PlanNode-F.Filter p rules) at e is whole other = absurd (false≢true whole)
   form (PlanNode-F.Ratio p q) at e is whole other = inr refl
   form (PlanNode-F.Once p) at e is whole other = absurd (false≢true whole)
+  form (PlanNode-F.Gather expr kind engines) at e is whole other = absurd (false≢true whole)
 
   taken : (longest latest : ℕ) (p : Plan) → IsAskable longest latest kept p → is_number (typing p).kind ≡ true → IsTaken kept (expression_of kept p)
   taken longest latest p part number =

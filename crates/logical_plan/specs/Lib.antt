@@ -1,3 +1,4 @@
+pub mod Gathers
 pub mod Laws
 pub mod Lowering
 pub mod Onces

@@ -33,6 +33,7 @@ node_over of (PlanNode-F.Set op left right pairing) = node.Set op (of left) (of 
 node_over of (PlanNode-F.Filter base rules) = node.Filter (of base) rules
 node_over of (PlanNode-F.Ratio sum count) = node.Ratio (of sum) (of count)
 node_over of (PlanNode-F.Once inner) = node.Once (of inner)
+node_over of (PlanNode-F.Gather expr kind engines) = node.Gather expr kind engines
 
 -- what is known of a plan, and the plan with its Once nodes, below a Once node or not
 pub record Onced : Type 0 where

@@ -69,8 +69,8 @@ abbrev pub group_arguments : AggregateFunction → ℕ → List Expr → List �
 group_arguments CountValues at arguments label = worded at label ∷ arguments
 group_arguments f at arguments label = arguments
 
--- One node at a place, over the expressions of its children. Where a node has no expression of its own, that of its first child stands
--- for it in parentheses.
+-- One node at a place, over the expressions of its children. Where a node has no expression of its own, that of its first child, or the
+-- one that engines are asked for, stands for it in parentheses.
 abbrev pub node_expression : Kept → PlanNode-F (ℕ → Expr) Expr → ℕ → Node
 node_expression kept (PlanNode-F.Number value) at = Number value
 node_expression kept PlanNode-F.Time at = Call func.Time []
@@ -92,6 +92,7 @@ node_expression kept (PlanNode-F.Set op left right pairing) at = Set op left rig
 node_expression kept (PlanNode-F.Filter base rules) at = Paren base
 node_expression kept (PlanNode-F.Ratio sum count) at = Paren sum
 node_expression kept (PlanNode-F.Once inner) at = Paren inner
+node_expression kept (PlanNode-F.Gather expr kind engines) at = Paren expr
 
 abbrev pub expression_step : Kept → PlanNode-F (ℕ → Expr) Expr → ℕ → Expr
 expression_step kept y at = expressed at (node_expression kept y at)
@@ -108,9 +109,10 @@ node_expressible (PlanNode-F.Absent labels inner) = false
 node_expressible (PlanNode-F.Filter base rules) = false
 node_expressible (PlanNode-F.Ratio sum count) = false
 node_expressible (PlanNode-F.Once inner) = false
+node_expressible (PlanNode-F.Gather expr kind engines) = false
 node_expressible y = all_hold (children y)
 
--- a plan has no Absent, Filter, Ratio or Once node
+-- a plan has no Absent, Filter, Ratio, Once or Gather node
 abbrev pub is_expressible : Plan → Bool
 is_expressible = fold-Plan Bool Bool node_expressible (λ p. p.node)
 

@@ -8,8 +8,10 @@ use Rattle.func_table.specs.declared.table.SetOp.{SetOp}
 use Rattle.label_set.specs.declared.rules.Grouping.{Grouping}
 use Rattle.label_set.specs.declared.rules.Pairing.{Pairing}
 use Rattle.label_set.specs.declared.rules.Rule.{Rule}
+use Rattle.promql_ast.specs.declared.tree.Expr.{Expr}
 use Rattle.promql_ast.specs.declared.tree.Moment.{Moment}
 use Rattle.step_table.specs.Groups.{Names}
+use Rattle.step_table.specs.declared.cells.PartKind.{PartKind}
 use Rattle.ticks.specs.declared.moment.Ms.{Ms}
 use Rattle.xfrac.specs.declared.value.PairOp.{PairOp}
 use Rattle.xfrac.specs.declared.value.XFrac.{XFrac}
@@ -18,7 +20,7 @@ use Rattle.label_set.specs.declared.rules.Relabel.{Relabel as Relabelling}
 use Rattle.logical_plan.specs.declared.nodes.PlanNode.{PlanNode}
 use Rattle.logical_plan.specs.declared.nodes.PlanNode.TheVariants as node
 use Rattle.logical_plan.specs.declared.nodes.PlanNode.TheOpen.{PlanNode-F, Plan-F}
-use Rattle.logical_plan.specs.declared.nodes.PlanNode.TheViews.{out-PlanNode, roll-Plan, outs-Number, outs-Time, outs-Select, outs-Range, outs-Subquery, outs-Element, outs-Stamp, outs-Window, outs-Absent, outs-Buckets, outs-Relabel, outs-Sort, outs-ScalarOf, outs-VectorOf, outs-Group, outs-Pair, outs-Set, outs-Filter, outs-Ratio, outs-Once}
+use Rattle.logical_plan.specs.declared.nodes.PlanNode.TheViews.{out-PlanNode, roll-Plan, outs-Number, outs-Time, outs-Select, outs-Range, outs-Subquery, outs-Element, outs-Stamp, outs-Window, outs-Absent, outs-Buckets, outs-Relabel, outs-Sort, outs-ScalarOf, outs-VectorOf, outs-Group, outs-Pair, outs-Set, outs-Filter, outs-Ratio, outs-Once, outs-Gather}
 use Rattle.logical_plan.specs.declared.nodes.PlanNode.TheFolds.{fold-Plan, fold-PlanNode, fold_out-Plan, fold_out-PlanNode, map-PlanNode, fold-roll-Plan}
 
 module _ {A B : Type 0} (node_step : PlanNode-F A B → A) (plan_step : Plan-F A B → B) where
@@ -102,3 +104,6 @@ module _ {A B : Type 0} (node_step : PlanNode-F A B → A) (plan_step : Plan-F A
 
   pub of-Once : (at : ℕ) (inner : Plan) → of (roll-Plan (record { at = at; node = node.Once inner })) ≡ made at (node_step (PlanNode-F.Once (of inner)))
   of-Once at inner = rolled at (node.Once inner) ∙ ap (made at) (fold_out-PlanNode A B node_step plan_step (node.Once inner) ∙ rw outs-Once refl)
+
+  pub of-Gather : (at : ℕ) (expr : Expr) (kind : PartKind) (engines : List ℕ) → of (roll-Plan (record { at = at; node = node.Gather expr kind engines })) ≡ made at (node_step (PlanNode-F.Gather expr kind engines))
+  of-Gather at expr kind engines = rolled at (node.Gather expr kind engines) ∙ ap (made at) (fold_out-PlanNode A B node_step plan_step (node.Gather expr kind engines) ∙ rw outs-Gather refl)

@@ -23,6 +23,7 @@ use Rattle.step_table.specs.declared.step.Step.{Step}
 use Rattle.logical_plan.specs.declared.nodes.Plan.{Plan}
 use Rattle.logical_plan.specs.declared.nodes.PlanNode.TheOpen.{PlanNode-F}
 use Rattle.logical_plan.specs.declared.nodes.PlanNode.TheFolds.{fold-Plan}
+use Rattle.logical_plan.specs.Gathers.{gathered}
 use Rattle.logical_plan.specs.PlanRules.{absent_under, filtered, newest_of, pattern_text, ratio, selector_of, stamp}
 
 -- what a plan gives at each instant, and whether the values of its rows are the samples' own times
@@ -90,6 +91,7 @@ node_meant asked (PlanNode-F.Set op left right pairing) =
 node_meant asked (PlanNode-F.Filter base rules) = plain (λ t. filtered asked.kept rules (base.gives t))
 node_meant asked (PlanNode-F.Ratio sum count) = plain (λ t. given.Vector (ratio (step_of (sum.gives t)) (step_of (count.gives t))))
 node_meant asked (PlanNode-F.Once inner) = inner
+node_meant asked (PlanNode-F.Gather expr kind engines) = plain (gathered asked expr kind engines)
 
 abbrev pub plan_meant : Asked → Plan → Meant
 plan_meant asked = fold-Plan Meant Meant (node_meant asked) (λ p. p.node)

@@ -1,6 +1,7 @@
 -- What a plan gives, and which plans are typed: each node stands over children that give what it takes. (The kinds are those of the
 -- Prometheus querying documentation, "Operators" and "Functions".)
-use Rattle.std.specs.Prelude.{◌≡◌, ℕ, ◌+◌, Bool, true, false, not, ◌&&◌, ◌||◌, List, [], ◌∷◌, ◌++◌, map, length, Option, None, Some}
+use Rattle.std.specs.Prelude.{◌≡◌, ℕ, ◌+◌, ◌==◌, bytes_eq, Bool, true, false, not, ◌&&◌, ◌||◌, List, [], ◌∷◌, ◌++◌, map, length, Option, None, Some}
+use Rattle.std.specs.List.{list_all}
 use Rattle.func_table.specs.declared.table.Func.TheVariants as func
 use Rattle.func_table.specs.declared.table.Element.{Element as ElementFunction}
 use Rattle.func_table.specs.declared.table.Element.TheVariants.{Neg}
@@ -12,15 +13,25 @@ use Rattle.label_set.specs.declared.rules.Pairing.{Pairing}
 use Rattle.label_set.specs.declared.rules.Relabel.{Relabel as Relabelling}
 use Rattle.label_set.specs.declared.rules.Relabel.TheVariants as relabel
 use Rattle.promql_ast.specs.declared.refusal.QueryRefusal.{QueryRefusal}
+use Rattle.promql_ast.specs.declared.tree.Expr.{Expr}
+use Rattle.promql_ast.specs.declared.tree.Node.TheOpen.{Node-F}
+use Rattle.promql_ast.specs.declared.tree.Node.TheViews.{out-Node}
+use Rattle.promql_type.specs.Answers.{refusals_of}
+use Rattle.promql_type.specs.Judging.{judged}
 use Rattle.promql_type.specs.Kinds.{both, is_kind, is_number}
 use Rattle.promql_type.specs.Rules.{comparison_refusals, matching_refusals}
+use Rattle.promql_type.specs.Settled.{kind_of}
 use Rattle.promql_type.specs.Signatures.{Signature, argument, is_count, signature}
 use Rattle.promql_type.specs.Templates.{is_named}
 use Rattle.promql_type.specs.declared.kind.Kind.{Kind}
 use Rattle.promql_type.specs.declared.kind.Kind.TheVariants.{Scalar, Vector, Windows, Words}
 use Rattle.promql_type.specs.declared.kind.Operand.{Operand}
+use Rattle.promql_type.specs.declared.replace.Replacement.{Replacement}
 use Rattle.promql_type.specs.declared.signature.Callee.{Callee}
 use Rattle.promql_type.specs.declared.signature.Callee.TheVariants.{Function, Aggregation}
+use Rattle.step_cells.specs.Owed.{is_partial}
+use Rattle.step_table.specs.declared.cells.PartKind.{PartKind}
+use Rattle.step_table.specs.declared.cells.PartKind.TheVariants as part
 use Rattle.xfrac.specs.declared.value.PairOp.{PairOp}
 use Rattle.logical_plan.specs.declared.nodes.Plan.{Plan}
 use Rattle.logical_plan.specs.declared.nodes.PlanNode.TheOpen.{PlanNode-F}
@@ -38,6 +49,12 @@ pub record Typing : Type 0 where
 abbrev pub element_kind : ElementFunction → Kind → Kind
 element_kind Neg given = both given given
 element_kind f given = Vector
+
+-- a part that engines are asked for
+abbrev pub part_gives : PartKind → Kind
+part_gives part.Rows = Vector
+part_gives part.Windows = Windows
+part_gives (part.Partial f by) = Vector
 
 abbrev pub node_kind : {A : Type 0} → PlanNode-F A Typing → Kind
 node_kind (PlanNode-F.Number value) = Scalar
@@ -60,6 +77,7 @@ node_kind (PlanNode-F.Set op left right pairing) = Vector
 node_kind (PlanNode-F.Filter base rules) = base.kind
 node_kind (PlanNode-F.Ratio sum count) = Vector
 node_kind (PlanNode-F.Once inner) = inner.kind
+node_kind (PlanNode-F.Gather expr kind engines) = part_gives kind
 
 -- ---- selectors and their stamps
 
@@ -151,6 +169,29 @@ is_pair op pairing left right =
     is_number left && is_number right && has_none (matching_refusals pairing (operand_of left) (operand_of right))
     && has_none (comparison_refusals op (operand_of left) (operand_of right) 0)
 
+-- ---- parts that engines are asked for
+
+abbrev pub is_range : {A B : Type 0} → Node-F A B → Bool
+is_range (Node-F.Range selector range) = true
+is_range y = false
+
+-- label_replace calls at one place have one text
+abbrev pub agree : Replacement → Replacement → Bool
+agree a b = not (a.at == b.at) || bytes_eq a.text b.text
+
+abbrev pub all_agree : List Replacement → Bool
+all_agree calls = list_all (λ (call : Replacement). list_all (agree call) calls) calls
+
+-- an expression that isn't refused, and gives a vector
+abbrev pub is_vector : Expr → Bool
+is_vector expr = has_none (refusals_of expr) && is_kind Vector (kind_of expr) && all_agree (judged expr).replacements
+
+-- windows are those of a range selector, rows those of a vector, and engines group a vector by the aggregations that they know
+abbrev pub is_part : PartKind → Expr → Bool
+is_part part.Rows expr = is_vector expr
+is_part part.Windows expr = is_range (out-Node expr.node)
+is_part (part.Partial f by) expr = is_partial f && is_vector expr
+
 -- ---- typed plans
 
 abbrev pub node_typed : {A : Type 0} → PlanNode-F A Typing → Bool
@@ -174,6 +215,7 @@ node_typed (PlanNode-F.Set op left right pairing) = is_of Vector left && is_of V
 node_typed (PlanNode-F.Filter base rules) = is_sound base && (is_kind Vector base.kind || is_kind Windows base.kind)
 node_typed (PlanNode-F.Ratio sum count) = is_of Vector sum && is_of Vector count
 node_typed (PlanNode-F.Once inner) = inner.typed
+node_typed (PlanNode-F.Gather expr kind engines) = is_part kind expr
 
 -- a Once node is what stands under it
 abbrev pub node_typing : {A : Type 0} → PlanNode-F A Typing → Typing

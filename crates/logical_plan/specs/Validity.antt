@@ -15,7 +15,7 @@ use Rattle.logical_plan.specs.declared.nodes.Plan.{Plan}
 use Rattle.logical_plan.specs.declared.nodes.PlanNode.TheOpen.{PlanNode-F}
 use Rattle.logical_plan.specs.declared.nodes.PlanNode.TheFolds.{fold-Plan}
 use Rattle.logical_plan.specs.Onces.{with_onces}
-use Rattle.logical_plan.specs.PlanTypes.{IsTyped}
+use Rattle.logical_plan.specs.PlanTypes.{IsTyped, has_none}
 
 -- The rules, moments and lengths of time of a plan; the patterns of its label_replace nodes, each with the node's place; whether its
 -- subqueries have few enough points inside of subqueries that have so many together; and how deep it is.
@@ -46,6 +46,7 @@ children (PlanNode-F.Set op left right pairing) = left ∷ right ∷ []
 children (PlanNode-F.Filter base rules) = base ∷ []
 children (PlanNode-F.Ratio sum count) = sum ∷ count ∷ []
 children (PlanNode-F.Once inner) = inner ∷ []
+children (PlanNode-F.Gather expr kind engines) = []
 
 -- ---- what a node has of its own
 
@@ -53,6 +54,7 @@ abbrev pub own_parts : {A B : Type 0} → PlanNode-F A B → List Part
 own_parts (PlanNode-F.Select rules moment stamped) = Part.of_rules rules ∷ Part.of_moment moment ∷ []
 own_parts (PlanNode-F.Range rules moment range) = Part.of_rules rules ∷ Part.of_moment moment ∷ Part.of_length range ∷ []
 own_parts (PlanNode-F.Subquery inner range step moment) = Part.of_moment moment ∷ Part.of_length range ∷ Part.of_length step ∷ []
+own_parts (PlanNode-F.Gather expr kind engines) = parts_of expr
 own_parts _ = []
 
 abbrev pub own_replaced : {A B : Type 0} → PlanNode-F A B → ℕ → List (ℕ × PatternId)
@@ -72,17 +74,19 @@ abbrev pub are_few : List Measure → ℕ → Bool
 are_few [] around = true
 are_few (m ∷ ms) around = m.few around && are_few ms around
 
--- a subquery has its points for each of those around it
+-- a subquery has its points for each of those around it, also in an expression that engines are asked for
 abbrev pub node_few : {A : Type 0} → PlanNode-F A Measure → ℕ → Bool
 node_few (PlanNode-F.Subquery inner range step moment) around =
     not (nat_lt most_points (around * points range step)) && inner.few (around * points range step)
+node_few (PlanNode-F.Gather expr kind engines) around = has_none (crowded expr around)
 node_few y around = are_few (children y) around
 
--- filters, ratios and Once nodes aren't counted
+-- filters, ratios and Once nodes aren't counted, and a gather is as deep as its expression
 abbrev pub node_depth : {A : Type 0} → PlanNode-F A Measure → ℕ
 node_depth (PlanNode-F.Filter base rules) = base.depth
 node_depth (PlanNode-F.Ratio sum count) = greatest (sum.depth ∷ count.depth ∷ [])
 node_depth (PlanNode-F.Once inner) = inner.depth
+node_depth (PlanNode-F.Gather expr kind engines) = depth expr
 node_depth y = 1 + greatest (map (λ (m : Measure). m.depth) (children y))
 
 abbrev pub node_measure : {A : Type 0} → PlanNode-F A Measure → ℕ → Measure

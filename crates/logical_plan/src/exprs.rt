@@ -4,23 +4,25 @@ ghost use Rattle.logical_plan.specs.PlanMeaning.{plan_meaning};
 ghost use Rattle.logical_plan.specs.PlanRules.{pattern_text, selector_of};
 ghost use Rattle.logical_plan.specs.Shown.{shown};
 ghost use Rattle.func_table.specs.declared.table.Func.TheVariants.{HistogramQuantile, LabelJoin};
-ghost use Rattle.promql_ast.specs.declared.tree.Node.TheVariants.{Aggregate as Aggregated, Call as Called, Paren};
+ghost use Rattle.promql_ast.specs.declared.tree.Node.TheVariants.{Aggregate as Aggregated, Call as Called, Pair as Paired, Paren, Range as Ranging, Select as Selecting, Set as Combined};
 ghost use Rattle.promql_meaning.specs.Meaning.{meaning};
 ghost use Rattle.promql_meaning.specs.Selecting.{Asked};
 ghost use Rattle.std.specs.Prelude.{◌≡◌, ◌∷◌, ◌++◌, ◌⊎◌, [], ℕ, ℤ, map, IfOk};
 
 use crate::nodes::{Plan, PlanNode};
-use func_table::{Aggregate, Element, Func, Window};
+use func_table::{Aggregate, Element, Func, SetOp, Window};
 use holders::{Boxed, Items, Text};
-use label_set::{Grouping, PatternId, Relabel, Rule};
+use label_set::{Grouping, Pairing, PatternId, Relabel, Rule};
 use match_rule::Patterns;
 use promql_ast::{Expr, Moment, Node, Selector};
 use std::alloc::{AllocError, Global};
+use ticks::Ms;
+use xfrac::PairOp;
 
 /// The expression of a plan, which an engine is asked for: a node for each of its nodes, at their places, and the text of each
 /// pattern. It means what the plan means, rows, notes and marks, on every list of samples, at every instant and under every grid, and
 /// it is a range selector or an expression that `check` takes with these patterns. That holds of a valid plan without Absent, Filter,
-/// Ratio and Once nodes that is no subquery itself and whose patterns are kept. The only error is want of memory. (This project's
+/// Ratio, Once and Gather nodes that is no subquery itself and whose patterns are kept. The only error is want of memory. (This project's
 /// own.)
 pub fn part_expr(alloc: Global, p: &Plan, patterns: &Patterns<'_>) -> Result<Expr, AllocError>
     ensures expr { IfOk result (λ e. e ≡ expression_of patterns.now p.now) }
@@ -78,14 +80,12 @@ fn expression(alloc: Global, p: &Plan, patterns: &Patterns<'_>) -> Result<Expr, 
     match &p.node {
         PlanNode::Number(value) => Ok(at_place(at, Node::Number(*value))),
         PlanNode::Time => Ok(at_place(at, Node::Call(Func::Time, Items::new(alloc)))),
-        PlanNode::Select { rules, moment, .. } => {
-            Ok(at_place(at, Node::Select(selector(rules, *moment)?)))
-        }
+        PlanNode::Select { rules, moment, .. } => instant_selector(at, rules, *moment),
         PlanNode::Range {
             rules,
             moment,
             range,
-        } => Ok(at_place(at, Node::Range(selector(rules, *moment)?, *range))),
+        } => range_selector(at, rules, *moment, *range),
         PlanNode::Subquery {
             inner,
             range,
@@ -102,62 +102,214 @@ fn expression(alloc: Global, p: &Plan, patterns: &Patterns<'_>) -> Result<Expr, 
             Ok(at_place(at, node))
         }
         PlanNode::Element(f, inner, more) => {
-            let first = expression(alloc, inner.get(), patterns)?;
-            element(alloc, at, *f, first, all(alloc, more, patterns)?)
+            let more = all(alloc, more, patterns)?;
+            element_over(alloc, at, *f, inner, more, patterns)
         }
-        PlanNode::Stamp(inner) => {
-            let first = expression(alloc, inner.get(), patterns)?;
-            call(alloc, at, Func::Timestamp, first)
-        }
+        PlanNode::Stamp(inner) => call_over(alloc, at, Func::Timestamp, inner, patterns),
         PlanNode::Window(f, inner, more) => {
-            let windows = expression(alloc, inner.get(), patterns)?;
-            window(at, *f, windows, all(alloc, more, patterns)?)
+            let more = all(alloc, more, patterns)?;
+            window_over(alloc, at, *f, inner, more, patterns)
         }
         PlanNode::Buckets(quantile, inner) => {
-            let quantile = expression(alloc, quantile.get(), patterns)?;
             let inner = expression(alloc, inner.get(), patterns)?;
-            buckets(alloc, at, quantile, inner)
+            buckets_over(alloc, at, quantile, inner, patterns)
         }
-        PlanNode::Relabel(rule, inner) => {
-            let first = expression(alloc, inner.get(), patterns)?;
-            relabelled(alloc, at, rule, first, patterns)
-        }
+        PlanNode::Relabel(rule, inner) => relabel_over(alloc, at, rule, inner, patterns),
         PlanNode::Sort { down, inner } => {
-            let first = expression(alloc, inner.get(), patterns)?;
-            call(alloc, at, sort_function(*down), first)
+            call_over(alloc, at, sort_function(*down), inner, patterns)
         }
-        PlanNode::ScalarOf(inner) => {
-            let first = expression(alloc, inner.get(), patterns)?;
-            call(alloc, at, Func::Scalar, first)
-        }
-        PlanNode::VectorOf(inner) => {
-            let first = expression(alloc, inner.get(), patterns)?;
-            call(alloc, at, Func::Vector, first)
-        }
+        PlanNode::ScalarOf(inner) => call_over(alloc, at, Func::Scalar, inner, patterns),
+        PlanNode::VectorOf(inner) => call_over(alloc, at, Func::Vector, inner, patterns),
         PlanNode::Group(f, by, plans, label) => {
             group(alloc, at, *f, by, all(alloc, plans, patterns)?, label)
         }
         PlanNode::Pair(op, left, right, pairing) => {
-            let left = boxed(alloc, left, patterns)?;
             let right = boxed(alloc, right, patterns)?;
-            Ok(at_place(at, Node::Pair(*op, left, right, pairing.copy()?)))
+            pair_over(alloc, at, *op, left, right, pairing, patterns)
         }
         PlanNode::Set(op, left, right, pairing) => {
-            let left = boxed(alloc, left, patterns)?;
             let right = boxed(alloc, right, patterns)?;
-            Ok(at_place(at, Node::Set(*op, left, right, pairing.copy()?)))
+            set_over(alloc, at, *op, left, right, pairing, patterns)
         }
-        PlanNode::Absent { inner, .. } => {
-            Ok(at_place(at, Node::Paren(boxed(alloc, inner, patterns)?)))
-        }
-        PlanNode::Filter { base, .. } => {
-            Ok(at_place(at, Node::Paren(boxed(alloc, base, patterns)?)))
-        }
-        PlanNode::Ratio { sum, .. } => {
-            Ok(at_place(at, Node::Paren(boxed(alloc, sum, patterns)?)))
-        }
-        PlanNode::Once(inner) => Ok(at_place(at, Node::Paren(boxed(alloc, inner, patterns)?))),
+        PlanNode::Absent { inner, .. }
+        | PlanNode::Filter { base: inner, .. }
+        | PlanNode::Ratio { sum: inner, .. }
+        | PlanNode::Once(inner) => in_parentheses(alloc, at, inner, patterns),
+        PlanNode::Gather { expr, .. } => copy_in_parentheses(alloc, at, expr),
     }
+}
+
+#[cycle(expressing)]
+fn element_over(
+    alloc: Global,
+    at: u32,
+    f: Element,
+    inner: &Boxed<Plan>,
+    more: Items<Expr>,
+    patterns: &Patterns<'_>,
+) -> Result<Expr, AllocError>
+    ensures { IfOk result (λ e. e ≡ expressed at (element_expression f (expression_of patterns.now inner.now) more)) }
+{
+    let first = expression(alloc, inner.get(), patterns)?;
+    element(alloc, at, f, first, more)
+}
+
+#[cycle(expressing)]
+fn window_over(
+    alloc: Global,
+    at: u32,
+    f: Window,
+    inner: &Boxed<Plan>,
+    more: Items<Expr>,
+    patterns: &Patterns<'_>,
+) -> Result<Expr, AllocError>
+    ensures { IfOk result (λ e. e ≡ expressed at (window_expression f (expression_of patterns.now inner.now) more)) }
+{
+    let windows = expression(alloc, inner.get(), patterns)?;
+    window(at, f, windows, more)
+}
+
+#[cycle(expressing)]
+fn buckets_over(
+    alloc: Global,
+    at: u32,
+    quantile: &Boxed<Plan>,
+    inner: Expr,
+    patterns: &Patterns<'_>,
+) -> Result<Expr, AllocError>
+    ensures { IfOk result (λ e. e ≡ expressed at (Called HistogramQuantile (expression_of patterns.now quantile.now ∷ inner ∷ []))) }
+{
+    let quantile = expression(alloc, quantile.get(), patterns)?;
+    buckets(alloc, at, quantile, inner)
+}
+
+#[cycle(expressing)]
+fn pair_over(
+    alloc: Global,
+    at: u32,
+    op: PairOp,
+    left: &Boxed<Plan>,
+    right: Boxed<Expr>,
+    pairing: &Pairing,
+    patterns: &Patterns<'_>,
+) -> Result<Expr, AllocError>
+    ensures { IfOk result (λ e. e ≡ expressed at (Paired op (expression_of patterns.now left.now) right pairing.now)) }
+{
+    let left = boxed(alloc, left, patterns)?;
+    pair(at, op, left, right, pairing)
+}
+
+#[cycle(expressing)]
+fn set_over(
+    alloc: Global,
+    at: u32,
+    op: SetOp,
+    left: &Boxed<Plan>,
+    right: Boxed<Expr>,
+    pairing: &Pairing,
+    patterns: &Patterns<'_>,
+) -> Result<Expr, AllocError>
+    ensures { IfOk result (λ e. e ≡ expressed at (Combined op (expression_of patterns.now left.now) right pairing.now)) }
+{
+    let left = boxed(alloc, left, patterns)?;
+    set(at, op, left, right, pairing)
+}
+
+/// A call of a function of one argument.
+#[cycle(expressing)]
+fn call_over(
+    alloc: Global,
+    at: u32,
+    f: Func,
+    inner: &Boxed<Plan>,
+    patterns: &Patterns<'_>,
+) -> Result<Expr, AllocError>
+    ensures { IfOk result (λ e. e ≡ expressed at (Called f (expression_of patterns.now inner.now ∷ []))) }
+{
+    let first = expression(alloc, inner.get(), patterns)?;
+    call(alloc, at, f, first)
+}
+
+/// A change of labels as a call.
+#[cycle(expressing)]
+fn relabel_over(
+    alloc: Global,
+    at: u32,
+    rule: &Relabel,
+    inner: &Boxed<Plan>,
+    patterns: &Patterns<'_>,
+) -> Result<Expr, AllocError>
+    ensures { IfOk result (λ e. e ≡ expressed at (relabel_expression patterns.now rule.now at (expression_of patterns.now inner.now))) }
+{
+    let first = expression(alloc, inner.get(), patterns)?;
+    relabelled(alloc, at, rule, first, patterns)
+}
+
+#[cycle(expressing)]
+fn in_parentheses(
+    alloc: Global,
+    at: u32,
+    inner: &Boxed<Plan>,
+    patterns: &Patterns<'_>,
+) -> Result<Expr, AllocError>
+    ensures { IfOk result (λ e. e ≡ expressed at (Paren (expression_of patterns.now inner.now))) }
+{
+    let inner = boxed(alloc, inner, patterns)?;
+    Ok(at_place(at, Node::Paren(inner)))
+}
+
+fn copy_in_parentheses(alloc: Global, at: u32, e: &Expr) -> Result<Expr, AllocError>
+    ensures { IfOk result (λ copy. copy ≡ expressed at (Paren e.now)) }
+{
+    let inner = Boxed::new(alloc, e.copy()?)?;
+    Ok(at_place(at, Node::Paren(inner)))
+}
+
+fn instant_selector(at: u32, rules: &Items<Rule>, moment: Moment) -> Result<Expr, AllocError>
+    ensures { IfOk result (λ e. e ≡ expressed at (Selecting (selector_of rules.now moment))) }
+{
+    let selector = selector(rules, moment)?;
+    Ok(at_place(at, Node::Select(selector)))
+}
+
+fn range_selector(
+    at: u32,
+    rules: &Items<Rule>,
+    moment: Moment,
+    range: Ms,
+) -> Result<Expr, AllocError>
+    ensures { IfOk result (λ e. e ≡ expressed at (Ranging (selector_of rules.now moment) range)) }
+{
+    let selector = selector(rules, moment)?;
+    Ok(at_place(at, Node::Range(selector, range)))
+}
+
+/// An arithmetic operation or a comparison.
+fn pair(
+    at: u32,
+    op: PairOp,
+    left: Boxed<Expr>,
+    right: Boxed<Expr>,
+    pairing: &Pairing,
+) -> Result<Expr, AllocError>
+    ensures { IfOk result (λ e. e ≡ expressed at (Paired op left right pairing.now)) }
+{
+    let pairing = pairing.copy()?;
+    Ok(at_place(at, Node::Pair(op, left, right, pairing)))
+}
+
+/// A set operation.
+fn set(
+    at: u32,
+    op: SetOp,
+    left: Boxed<Expr>,
+    right: Boxed<Expr>,
+    pairing: &Pairing,
+) -> Result<Expr, AllocError>
+    ensures { IfOk result (λ e. e ≡ expressed at (Combined op left right pairing.now)) }
+{
+    let pairing = pairing.copy()?;
+    Ok(at_place(at, Node::Set(op, left, right, pairing)))
 }
 
 #[cycle(expressing)]

@@ -4,8 +4,9 @@ ghost use Rattle.std.specs.Prelude.{◌≡◌, IfOk};
 use func_table::{Aggregate, Element, SetOp, Window};
 use holders::{Boxed, Items, Text};
 use label_set::{Grouping, Labels, Pairing, Relabel, Rule};
-use promql_ast::Moment;
+use promql_ast::{Expr, Moment};
 use std::alloc::AllocError;
+use step_table::PartKind;
 use ticks::Ms;
 use xfrac::{PairOp, XFrac};
 
@@ -18,8 +19,8 @@ pub struct Plan {
 }
 
 /// What a plan computes at each instant. Durations are in milliseconds. A node for each node of an expression, by the
-/// Prometheus querying documentation; filters and ratios come of rewriting, by the optimisers of thanos-io/promql-engine;
-/// that a part is computed once is this project's own.
+/// Prometheus querying documentation; filters, ratios and gathers come of rewriting, by the optimisers of
+/// thanos-io/promql-engine; that a part is computed once is this project's own.
 #[cycle(tree)]
 #[derive(Drop)]
 pub enum PlanNode {
@@ -89,4 +90,11 @@ pub enum PlanNode {
     },
     /// A part that gives the same at each instant, and is computed at the first one alone.
     Once(Boxed<Plan>),
+    /// A part of the query that engines are asked for, each over the samples that it holds: what they give is joined by the
+    /// kind of the part. The engines stand by their numbers, counted from 0, in the order in which they are asked.
+    Gather {
+        expr: Expr,
+        kind: PartKind,
+        asked: Items<u32>,
+    },
 }

@@ -143,6 +143,9 @@ fn placed(alloc: Global, p: Plan, inside: bool) -> Result<Plan, AllocError>
             wrapped(alloc, once, at, PlanNode::Ratio { sum, count })
         }
         PlanNode::Once(inner) => placed(alloc, inner.into_inner(), inside),
+        PlanNode::Gather { expr, kind, asked } => {
+            wrapped(alloc, once, at, PlanNode::Gather { expr, kind, asked })
+        }
     }
 }
 

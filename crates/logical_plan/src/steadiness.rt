@@ -1,16 +1,17 @@
 //! What decides where a part of a plan is computed once.
 ghost use Rattle.logical_plan.specs.Onces.{Onced, once_of};
-ghost use Rattle.logical_plan.specs.Steadiness.{all_of, both as both_of, constant as constant_of, is_once, is_steady as is_steady_of, selected as selected_at, still_if as still_where};
+ghost use Rattle.logical_plan.specs.Steadiness.{all_of, both as both_of, constant as constant_of, is_once, is_selector_first, is_steady as is_steady_of, is_still_call as is_still_call_of, is_table as is_table_of, known_part as known_part_of, selected as selected_at, still_if as still_where};
 ghost use Rattle.promql_meaning.specs.Steadiness.{has_fixed as is_fixed, steady_window};
-ghost use Rattle.std.specs.Prelude.{◌≡◌, map};
+ghost use Rattle.std.specs.Prelude.{◌≡◌, false, map};
 
 use crate::nodes::{Plan, PlanNode};
-use func_table::Window;
-use promql_ast::Moment;
+use func_table::{Element, Func, Window};
+use promql_ast::{Expr, Moment, Node};
+use step_table::PartKind;
 
 /// What a part of a plan is: whether it gives numbers or a vector, and no windows; whether it has a selector; whether each of
 /// its selectors and subqueries has a fixed time, or stands in a subquery of it that has one; whether nothing in it reads the
-/// instant; and whether its rows are its samples' own times.
+/// instant; and whether its rows are its samples' own times. An expression is known by the same, and whether it is a selector.
 #[derive(Clone, Copy, Debug, PartialEq, Eq)]
 pub struct Facts {
     pub table: bool,
@@ -156,6 +157,7 @@ pub fn known(p: &Plan) -> Facts
             }
         }
         PlanNode::Once(inner) => known(inner.get()),
+        PlanNode::Gather { expr, kind, .. } => gathered(known_part(expr), kind),
     }
 }
 
@@ -168,4 +170,92 @@ fn all_known(first: Facts, plans: &[Plan]) -> Facts
         found = both(found, known(p));
     }
     found
+}
+
+fn is_table(kind: &PartKind) -> bool
+    ensures { result ≡ is_table_of kind.now }
+{
+    match kind {
+        PartKind::Windows => false,
+        PartKind::Rows | PartKind::Partial(_, _) => true,
+    }
+}
+
+/// What a part is that engines are asked for, of what its expression is.
+fn gathered(facts: Facts, kind: &PartKind) -> Facts
+    ensures { result ≡ record facts { table = is_table_of kind.now; own = false } }
+{
+    Facts {
+        table: is_table(kind),
+        selects: facts.selects,
+        fixed: facts.fixed,
+        still: facts.still,
+        own: false,
+    }
+}
+
+/// What an expression is. It takes no memory.
+#[cycle(asking)]
+fn known_part(e: &Expr) -> Facts
+    ensures { result ≡ known_part_of e.now }
+{
+    match &e.node {
+        Node::Number(_) | Node::Words(_) => constant(),
+        Node::Paren(inner) => known_part(inner.get()),
+        Node::Negate(inner) => both(constant(), known_part(inner.get())),
+        Node::Select(selector) => selected(&selector.moment, true, true),
+        Node::Range(selector, _) => selected(&selector.moment, false, false),
+        Node::Subquery { inner, moment, .. } => {
+            let inner = known_part(inner.get());
+            Facts {
+                table: false,
+                selects: inner.selects,
+                fixed: has_fixed(moment),
+                still: inner.still,
+                own: false,
+            }
+        }
+        Node::Call(f, arguments) => {
+            let still = is_still_call(*f, arguments.as_slice());
+            still_if(still, all_parts_known(arguments.as_slice()))
+        }
+        Node::Aggregate(_, _, arguments) => all_parts_known(arguments.as_slice()),
+        Node::Pair(_, a, b, _) => both(known_part(a.get()), known_part(b.get())),
+        Node::Set(_, a, b, _) => both(known_part(a.get()), known_part(b.get())),
+    }
+}
+
+#[cycle(asking)]
+fn all_parts_known(parts: &[Expr]) -> Facts
+    ensures { result ≡ all_of constant_of (map known_part_of parts.now) }
+{
+    let mut found = constant();
+    for e in parts {
+        found = both(found, known_part(e));
+    }
+    found
+}
+
+/// Whether a call doesn't read the instant.
+#[cycle(asking)]
+fn is_still_call(f: Func, arguments: &[Expr]) -> bool
+    ensures { result ≡ is_still_call_of f (map known_part_of arguments.now) }
+{
+    match f {
+        Func::Element(Element::Calendar(_)) => !arguments.is_empty(),
+        Func::Window(f) => is_still(f),
+        Func::Time => false,
+        Func::Timestamp => is_selector_first(arguments),
+        _ => true,
+    }
+}
+
+#[cycle(asking)]
+fn is_selector_first(arguments: &[Expr]) -> bool
+    ensures { result ≡ is_selector_first (map known_part_of arguments.now) }
+{
+    match arguments.get(0) {
+        Some(e) => known_part(e).own,
+        None => false,
+    }
 }

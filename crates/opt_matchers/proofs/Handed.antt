@@ -170,6 +170,7 @@ module _ (asked : Asked) where
       by (PlanNode-F.Filter base rules) e = absurd (cc)
       by (PlanNode-F.Ratio sum count) e = absurd (cc)
       by (PlanNode-F.Once inner) e = absurd (cc)
+      by (PlanNode-F.Gather expr kind engines) e = absurd (cc)
 
   module _ (rows_pass : MoreRulesFilterRows) (sets : HaveLabelSets asked) where
     module _ (op : ArithOp) (left right : Plan) (pairing : Pairing) where
@@ -230,4 +231,5 @@ module _ (asked : Asked) where
   rules_handed rows_pass sets at (PlanNode-F.Filter base rules) = refl
   rules_handed rows_pass sets at (PlanNode-F.Ratio sum count) = refl
   rules_handed rows_pass sets at (PlanNode-F.Once inner) = refl
+  rules_handed rows_pass sets at (PlanNode-F.Gather expr kind engines) = refl
   rules_handed rows_pass sets at (PlanNode-F.Select rules moment stamped) = refl

@@ -97,3 +97,4 @@ module _ (asked : Asked) where
   orders_kept order at (PlanNode-F.Filter base rules) = refl
   orders_kept order at (PlanNode-F.Ratio sum count) = refl
   orders_kept order at (PlanNode-F.Once inner) = refl
+  orders_kept order at (PlanNode-F.Gather expr kind engines) = refl

@@ -68,6 +68,7 @@ module _ (rows_pass : MoreRulesFilterRows) (windows_pass : MoreRulesFilterWindow
     filter_stays (PlanNode-F.Filter below rules) is = kept
     filter_stays (PlanNode-F.Ratio sum count) is = kept
     filter_stays (PlanNode-F.Once inner) is = kept
+    filter_stays (PlanNode-F.Gather expr kind engines) is = kept
 
   pub pushed_kept : KeepsMeaning asked push_filter
   pushed_kept at (PlanNode-F.Filter base rules) = filter_stays base rules (out-PlanNode base.node) refl
@@ -90,3 +91,4 @@ module _ (rows_pass : MoreRulesFilterRows) (windows_pass : MoreRulesFilterWindow
   pushed_kept at (PlanNode-F.Set op left right pairing) = refl
   pushed_kept at (PlanNode-F.Ratio sum count) = refl
   pushed_kept at (PlanNode-F.Once inner) = refl
+  pushed_kept at (PlanNode-F.Gather expr kind engines) = refl

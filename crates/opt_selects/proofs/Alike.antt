@@ -130,3 +130,4 @@ same_change some others same i at y = each at y i
     each at (PlanNode-F.Filter base rules) = refl
     each at (PlanNode-F.Ratio sum count) = refl
     each at (PlanNode-F.Once inner) = refl
+    each at (PlanNode-F.Gather expr kind engines) = refl

@@ -63,3 +63,4 @@ module _ (rows_pass : MoreRulesFilterRows) (windows_pass : MoreRulesFilterWindow
   merge_kept at (PlanNode-F.Filter base rules) = refl
   merge_kept at (PlanNode-F.Ratio sum count) = refl
   merge_kept at (PlanNode-F.Once inner) = refl
+  merge_kept at (PlanNode-F.Gather expr kind engines) = refl

@@ -11,6 +11,10 @@ use Rattle.promql_type.specs.Kinds.{both, is_kind, is_number}
 use Rattle.promql_type.specs.declared.kind.Kind.{Kind}
 use Rattle.promql_type.specs.declared.kind.Kind.TheVariants.{Scalar, Vector, Windows, Words}
 use Rattle.xfrac.specs.declared.value.PairOp.{PairOp}
+use Rattle.step_table.specs.declared.cells.PartKind.{PartKind}
+use Rattle.step_table.specs.declared.cells.PartKind.TheVariants as part
+use Rattle.step_table.specs.declared.cells.StepCells.{StepCells}
+use Rattle.step_table.specs.declared.marks.Marks.{Marks}
 use Rattle.step_table.specs.declared.step.Step.{Step}
 use Rattle.promql_meaning.specs.Givens.{step_of}
 use Rattle.promql_meaning.specs.Meaning.{negation, operation}
@@ -23,10 +27,11 @@ use Rattle.logical_plan.specs.declared.nodes.PlanNode.{PlanNode}
 use Rattle.logical_plan.specs.declared.nodes.PlanNode.TheOpen.{PlanNode-F, Plan-F}
 use Rattle.logical_plan.specs.declared.nodes.PlanNode.TheViews.{roll-PlanNode, roll-Plan}
 use Rattle.logical_plan.specs.declared.nodes.PlanNode.TheFolds.{fold-PlanNode, fold-Plan, fold-roll-PlanNode, fold-roll-Plan, ind-Plan, map-PlanNode}
-use Rattle.logical_plan.specs.PlanFolds.{of-Number, of-Time, of-Select, of-Range, of-Subquery, of-Element, of-Stamp, of-Window, of-Absent, of-Buckets, of-Relabel, of-Sort, of-ScalarOf, of-VectorOf, of-Group, of-Pair, of-Set, of-Filter, of-Ratio, of-Once}
+use Rattle.logical_plan.specs.Gathers.{joined}
+use Rattle.logical_plan.specs.PlanFolds.{of-Number, of-Time, of-Select, of-Range, of-Subquery, of-Element, of-Stamp, of-Window, of-Absent, of-Buckets, of-Relabel, of-Sort, of-ScalarOf, of-VectorOf, of-Group, of-Pair, of-Set, of-Filter, of-Ratio, of-Once, of-Gather}
 use Rattle.logical_plan.specs.PlanMeaning.{Meant, element_given, givens_at, group_given, node_meant, plain, plan_meaning, plan_meant, relabel_given, window_given}
 use Rattle.logical_plan.specs.PlanRules.{filtered}
-use Rattle.logical_plan.specs.PlanTypes.{IsTyped, Typing, are_sound, element_kind, is_element, is_group, is_of, is_pair, is_relabel, is_sound, is_stamped, is_unstamped, is_window, kinds_of, node_kind, node_typed, node_typing, typing}
+use Rattle.logical_plan.specs.PlanTypes.{IsTyped, Typing, are_sound, element_kind, is_element, is_group, is_of, is_pair, is_relabel, is_sound, is_stamped, is_unstamped, is_window, kinds_of, node_kind, node_typed, node_typing, part_gives, typing}
 use Rattle.opt_selects.specs.Trimming.{trim, trim_node, trimmed}
 
 left : (a b : Bool) → (a && b) ≡ true → a ≡ true
@@ -185,6 +190,11 @@ module _ (asked : Asked) where
   relabel_fits (relabel.Join target separator sources) g e = (_, refl)
   relabel_fits (relabel.Filter rules) g e = absurd (cc)
 
+  gathered_fits : (kind : PartKind) (t : ℤ) (steps : List StepCells) (marks : Marks) (none : WindowsGiven) → Fits (part_gives kind) (joined kind t steps marks none)
+  gathered_fits part.Rows t steps marks none = (_, refl)
+  gathered_fits part.Windows t steps marks none = (_, refl)
+  gathered_fits (part.Partial f by) t steps marks none = (_, refl)
+
   left_number : (op : PairOp) (pairing : Pairing) (j k : Kind) → is_pair op pairing j k ≡ true → is_number j ≡ true
   left_number op pairing j k e = left (is_number j) (is_number k) (left (is_number j && is_number k) _ (left _ _ e))
 
@@ -277,6 +287,9 @@ module _ (asked : Asked) where
     whole = of-Once (node_meant asked) (λ p. p.node) at (trimmed c.0 true) ∙ (c.1 e).whole;
     bare = λ t. ap (λ (m : Meant). m.gives t) (of-Once (node_meant asked) (λ p. p.node) at (trimmed c.0 false)) ∙ (c.1 e).bare t;
   }
+  level at (PlanNode-F.Gather expr kind engines) e =
+      let whole = of-Gather (node_meant asked) (λ p. p.node) at expr kind engines in
+      record { fits = λ t. gathered_fits kind t _ _ _; whole = whole; bare = λ t. ap (λ (m : Meant). m.gives t) whole }
 
   node_fine : (y : Layer) → IsFineNode (roll-PlanNode (plans y))
   node_fine y at e =

@@ -12,7 +12,7 @@ abbrev pub all_selectors : List (List Found) → List Found
 all_selectors [] = []
 all_selectors (found ∷ rest) = found ++ all_selectors rest
 
--- from left to right; a selector whose own times a timestamp reads is left out
+-- from left to right; a selector whose own times a timestamp reads is left out, and so is what engines are asked for
 abbrev pub node_selectors : PlanNode-F (ℕ → List Found) (List Found) → ℕ → List Found
 node_selectors (PlanNode-F.Number value) at = []
 node_selectors PlanNode-F.Time at = []
@@ -35,6 +35,7 @@ node_selectors (PlanNode-F.Set op left right pairing) at = left ++ right
 node_selectors (PlanNode-F.Filter base rules) at = base
 node_selectors (PlanNode-F.Ratio sum count) at = sum ++ count
 node_selectors (PlanNode-F.Once inner) at = inner
+node_selectors (PlanNode-F.Gather expr kind engines) at = []
 
 abbrev pub selectors : Plan → List Found
 selectors = fold-Plan (ℕ → List Found) (List Found) node_selectors (λ p. p.node p.at)

@@ -26,7 +26,7 @@ fn find(found: &mut Vec<Found>, p: &Plan) -> Result<(), AllocError>
     ensures { OnOk result (found.new.items ≡ found.old.items ++ selectors p.now) }
 {
     match &p.node {
-        PlanNode::Number(_) | PlanNode::Time => Ok(()),
+        PlanNode::Number(_) | PlanNode::Time | PlanNode::Gather { .. } => Ok(()),
         PlanNode::Select {
             rules,
             moment,

@@ -143,6 +143,9 @@ fn trimmed(alloc: Global, p: Plan, keeps: bool) -> Result<Plan, AllocError>
             let inner = trimmed_boxed(alloc, inner, keeps)?;
             Ok(planned(at, PlanNode::Once(inner)))
         }
+        PlanNode::Gather { expr, kind, asked } => {
+            Ok(planned(at, PlanNode::Gather { expr, kind, asked }))
+        }
     }
 }
 

@@ -296,3 +296,4 @@ module _ (asked : Asked) where
   average_kept at (PlanNode-F.Filter base rules) = refl
   average_kept at (PlanNode-F.Ratio sum count) = refl
   average_kept at (PlanNode-F.Once inner) = refl
+  average_kept at (PlanNode-F.Gather expr kind engines) = refl

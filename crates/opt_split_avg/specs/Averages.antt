@@ -41,6 +41,7 @@ node_nested (PlanNode-F.Set op left right pairing) = max left right
 node_nested (PlanNode-F.Filter base rules) = base
 node_nested (PlanNode-F.Ratio sum count) = min most_nested (max sum count + 1)
 node_nested (PlanNode-F.Once inner) = inner
+node_nested (PlanNode-F.Gather expr kind engines) = 0
 
 abbrev pub nested : Plan → ℕ
 nested = fold-Plan ℕ ℕ node_nested (λ p. p.node)

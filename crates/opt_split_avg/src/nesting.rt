@@ -28,8 +28,8 @@ fn nested(p: &Plan) -> u32
     ensures { result ≡ nested p.now }
 {
     match &p.node {
-        PlanNode::Number(_) | PlanNode::Time | PlanNode::Select { .. } | PlanNode::Range { .. } =>
-            0,
+        PlanNode::Number(_) | PlanNode::Time => 0,
+        PlanNode::Select { .. } | PlanNode::Range { .. } | PlanNode::Gather { .. } => 0,
         PlanNode::Subquery { inner, .. }
         | PlanNode::Stamp(inner)
         | PlanNode::Absent { inner, .. }

@@ -63,6 +63,7 @@ level (PlanNode-F.Set op l r pairing) = ap₂ both l.1 r.1
 level (PlanNode-F.Filter p rules) = ap (λ (f : Facts). record f { own = false }) p.1
 level (PlanNode-F.Ratio s c) = ap₂ both s.1 c.1
 level (PlanNode-F.Once p) = p.1
+level (PlanNode-F.Gather expr kind engines) = refl
 
 node_told : (y : Layer) → IsToldNode (roll-PlanNode (bare y))
 node_told y =

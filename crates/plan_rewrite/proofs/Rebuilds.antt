@@ -61,6 +61,7 @@ module _ (asked : Asked) (change : Change) where
   level (PlanNode-F.Filter base rules) = ap (λ x. node_meant asked (PlanNode-F.Filter x rules)) base.1
   level (PlanNode-F.Ratio sum count) = ap₂ (λ x y. node_meant asked (PlanNode-F.Ratio x y)) sum.1 count.1
   level (PlanNode-F.Once inner) = ap (λ x. node_meant asked (PlanNode-F.Once x)) inner.1
+  level (PlanNode-F.Gather expr kind engines) = refl
 
   node_kept : (y : Layer) → IsKeptNode (roll-PlanNode (bare y))
   node_kept y =

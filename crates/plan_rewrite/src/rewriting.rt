@@ -156,6 +156,9 @@ fn rebuild<R: Rewrite>(alloc: Global, rewrite: &R, p: Plan) -> Result<Plan, Allo
             let inner = rebuild_boxed(alloc, rewrite, inner)?;
             changed(alloc, rewrite, at, PlanNode::Once(inner))
         }
+        PlanNode::Gather { expr, kind, asked } => {
+            changed(alloc, rewrite, at, PlanNode::Gather { expr, kind, asked })
+        }
     }
 }
 

@@ -1,6 +1,6 @@
 -- The lines that explain a plan: one for each node, behind two blanks for each node above it, and those of its children below it.
 -- (This project's own. The selectors, operators and groupings on them are those of a query's canonical text.)
-use Rattle.std.specs.Prelude.{ℕ, Bool, true, false, if◌then◌else◌, List, [], ◌∷◌, ◌++◌, map, codes}
+use Rattle.std.specs.Prelude.{ℕ, ◌+◌, Bool, true, false, if◌then◌else◌, List, [], ◌∷◌, ◌++◌, map, codes, decimal}
 use Rattle.func_table.specs.Naming.{aggregate_name, function_name}
 use Rattle.func_table.specs.declared.table.Aggregate.{Aggregate as AggregateFunction}
 use Rattle.func_table.specs.declared.table.Func.{Func}
@@ -16,9 +16,12 @@ use Rattle.logical_plan.specs.declared.nodes.Plan.{Plan}
 use Rattle.logical_plan.specs.declared.nodes.PlanNode.{PlanNode}
 use Rattle.logical_plan.specs.declared.nodes.PlanNode.TheOpen.{Plan-F, PlanNode-F}
 use Rattle.logical_plan.specs.declared.nodes.PlanNode.TheFolds.{fold-Plan, fold-PlanNode}
-use Rattle.promql_print.specs.Canonical.{number_text, range_text, select_text, steps_text}
+use Rattle.promql_ast.specs.declared.tree.Expr.{Expr}
+use Rattle.promql_print.specs.Canonical.{canonical, number_text, range_text, select_text, steps_text}
 use Rattle.promql_print.specs.Labels.{braced_rules, in_parens, pattern_text}
 use Rattle.promql_print.specs.Operators.{grouping_words, pair_words, pairing_words, set_word}
+use Rattle.step_table.specs.declared.cells.PartKind.{PartKind}
+use Rattle.step_table.specs.declared.cells.PartKind.TheVariants as part
 
 -- ---- the words of a node
 
@@ -47,6 +50,29 @@ relabel_words kept (relabel.Filter rules) = filter_words kept rules
 
 abbrev pub aggregate_words : AggregateFunction → Grouping → List ℕ
 aggregate_words f grouping = codes "aggregate " ++ (aggregate_name f ++ grouping_words grouping)
+
+-- rows, windows, or an aggregation as engines do it in part
+abbrev pub part_words : PartKind → List ℕ
+part_words part.Rows = codes "rows"
+part_words part.Windows = codes "windows"
+part_words (part.Partial f grouping) = aggregate_name f ++ grouping_words grouping
+
+-- engines are counted from 1
+abbrev pub engine_text : ℕ → List ℕ
+engine_text engine = decimal (engine + 1)
+
+abbrev pub more_engines : List ℕ → List ℕ
+more_engines [] = []
+more_engines (engine ∷ engines) = codes "," ++ (engine_text engine ++ more_engines engines)
+
+abbrev pub engines_text : List ℕ → List ℕ
+engines_text [] = codes "none"
+engines_text (engine ∷ engines) = engine_text engine ++ more_engines engines
+
+-- what engines are asked for
+abbrev pub gather_words : List (Bool × List ℕ) → Expr → PartKind → List ℕ → List ℕ
+gather_words kept expr kind engines =
+    codes "gather " ++ (part_words kind ++ (codes " from " ++ (engines_text engines ++ (codes ": " ++ canonical kept expr))))
 
 -- ---- lines
 
@@ -103,6 +129,7 @@ node_told kept (PlanNode-F.Set op left right pairing) = over (codes "binary " ++
 node_told kept (PlanNode-F.Filter base rules) = over (filter_words kept rules) base
 node_told kept (PlanNode-F.Ratio sum count) = over (codes "ratio") (both sum count)
 node_told kept (PlanNode-F.Once inner) = over (codes "once") inner
+node_told kept (PlanNode-F.Gather expr kind engines) = alone (gather_words kept expr kind engines)
 
 -- a node's line, and those below it
 abbrev pub plan_lines : Plan-F Told Lines → Lines

@@ -65,7 +65,7 @@ fn append_below(
 {
     match node {
         PlanNode::Number(_) | PlanNode::Time => Ok(()),
-        PlanNode::Select { .. } | PlanNode::Range { .. } => Ok(()),
+        PlanNode::Select { .. } | PlanNode::Range { .. } | PlanNode::Gather { .. } => Ok(()),
         PlanNode::Element(_, inner, arguments) => {
             append_lines(inner.get(), patterns, front, into)?;
             append_all(arguments, patterns, front, into)

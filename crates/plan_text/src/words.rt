@@ -1,20 +1,23 @@
 //! The words of a plan's nodes.
 ghost use Rattle.label_set.specs.LabelText.{quoted};
-ghost use Rattle.plan_text.specs.PlanLines.{aggregate_words, call_words, filter_words, relabel_words, selector_word, sort_function, strings_text, takes_scalar_first, told};
+ghost use Rattle.plan_text.specs.PlanLines.{aggregate_words, call_words, engine_text, engines_text, filter_words, gather_words, more_engines, part_words, relabel_words, selector_word, sort_function, strings_text, takes_scalar_first, told};
 ghost use Rattle.promql_print.specs.Labels.{parted};
 ghost use Rattle.promql_print.specs.Operators.{pair_words, pairing_words, set_word};
 ghost use Rattle.std.specs.Prelude.{◌≡◌, ◌++◌, ◌∷◌, [], true, codes, map, OnOk};
 
 use func_table::{Aggregate, Func, SetOp, Window, aggregate_name, name};
 use holders::{Items, Text};
+use itoa::Buffer;
 use label_set::{Grouping, Pairing, Relabel, Rule, append_quoted};
 use logical_plan::PlanNode;
 use match_rule::Patterns;
+use promql_ast::Expr;
 use promql_print::{
     append_grouping, append_number, append_pair_operator, append_range, append_rules_in_braces,
-    append_select, append_set_operator, append_steps, pattern_text,
+    append_select, append_set_operator, append_steps, pattern_text, print,
 };
 use std::alloc::AllocError;
+use step_table::PartKind;
 use xfrac::PairOp;
 
 fn append_call(f: Func, into: &mut Vec<u8>) -> Result<(), AllocError>
@@ -170,6 +173,68 @@ fn append_set(op: SetOp, pairing: &Pairing, into: &mut Vec<u8>) -> Result<(), Al
     append_set_operator(op, pairing, into)
 }
 
+fn append_part(kind: &PartKind, into: &mut Vec<u8>) -> Result<(), AllocError>
+    ensures { OnOk result (into.new.items ≡ into.old.items ++ part_words kind.now) }
+{
+    match kind {
+        PartKind::Rows => into.extend_from_slice(b"rows"),
+        PartKind::Windows => into.extend_from_slice(b"windows"),
+        PartKind::Partial(f, grouping) => {
+            into.extend_from_slice(aggregate_name(f).as_bytes())?;
+            append_grouping(grouping, into)
+        }
+    }
+}
+
+/// Appends the number of an engine, counted from 1.
+fn append_engine(engine: u32, into: &mut Vec<u8>) -> Result<(), AllocError>
+    ensures { OnOk result (into.new.items ≡ into.old.items ++ engine_text engine) }
+{
+    let mut buffer = Buffer::new();
+    into.extend_from_slice(buffer.format(u64::from(engine) + 1).as_bytes())
+}
+
+/// Appends the numbers of engines, each behind a comma.
+fn append_more_engines(engines: &[u32], into: &mut Vec<u8>) -> Result<(), AllocError>
+    ensures { OnOk result (into.new.items ≡ into.old.items ++ more_engines engines.now) }
+{
+    for engine in engines {
+        into.extend_from_slice(b",")?;
+        append_engine(*engine, into)?;
+    }
+    Ok(())
+}
+
+fn append_engines(engines: &[u32], into: &mut Vec<u8>) -> Result<(), AllocError>
+    ensures { OnOk result (into.new.items ≡ into.old.items ++ engines_text engines.now) }
+{
+    match engines {
+        [] => into.extend_from_slice(b"none"),
+        [engine, more @ ..] => {
+            append_engine(*engine, into)?;
+            append_more_engines(more, into)
+        }
+    }
+}
+
+/// Appends what engines are asked for.
+fn append_gather(
+    expr: &Expr,
+    kind: &PartKind,
+    engines: &[u32],
+    patterns: &Patterns<'_>,
+    into: &mut Vec<u8>,
+) -> Result<(), AllocError>
+    ensures { OnOk result (into.new.items ≡ into.old.items ++ gather_words patterns.now expr.now kind.now engines.now) }
+{
+    into.extend_from_slice(b"gather ")?;
+    append_part(kind, into)?;
+    into.extend_from_slice(b" from ")?;
+    append_engines(engines, into)?;
+    into.extend_from_slice(b": ")?;
+    print(expr, patterns, into)
+}
+
 /// Appends the words of a node. The only error is want of memory; then a part may be appended.
 pub fn append_words(
     node: &PlanNode,
@@ -224,5 +289,8 @@ pub fn append_words(
         PlanNode::Filter { rules, .. } => append_filter(rules.as_slice(), patterns, into),
         PlanNode::Ratio { .. } => into.extend_from_slice(b"ratio"),
         PlanNode::Once(_) => into.extend_from_slice(b"once"),
+        PlanNode::Gather { expr, kind, asked } => {
+            append_gather(expr, kind, asked.as_slice(), patterns, into)
+        }
     }
 }

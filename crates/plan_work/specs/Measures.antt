@@ -23,7 +23,7 @@ module _ {X : Type 0} (m : Measure X) where
   all_of [] = m.none
   all_of (part ∷ parts) = m.beside part (all_of parts)
 
-  -- a node, by its children
+  -- a node, by its children; what engines are asked for is theirs to add up
   abbrev pub node_measure : PlanNode-F X X → X
   node_measure (PlanNode-F.Number value) = m.none
   node_measure PlanNode-F.Time = m.none
@@ -45,6 +45,7 @@ module _ {X : Type 0} (m : Measure X) where
   node_measure (PlanNode-F.Filter base rules) = base
   node_measure (PlanNode-F.Ratio sum count) = m.beside sum count
   node_measure (PlanNode-F.Once inner) = m.once inner
+  node_measure (PlanNode-F.Gather expr kind engines) = m.none
 
   -- a plan
   abbrev pub plan_measure : Plan → X

@@ -27,15 +27,17 @@ Samples = List (Ms × Held)
 abbrev pub AllSeries : Type 0
 AllSeries = List (Names × Samples)
 
--- what a query is asked over: the samples, the patterns by their numbers, and the ends of the query's own grid
+-- what a query is asked over: the samples, the patterns by their numbers, and the ends of the query's own grid; and where engines hold
+-- the samples in parts, what each of them holds
 pub record Asked : Type 0 where
   pub samples : AllSeries
   pub kept : List (Bool × List ℕ)
   pub start : ℤ
   pub end : ℤ
+  pub engines : List AllSeries
 
 abbrev pub asked_over : AllSeries → List (Bool × List ℕ) → Grid → Asked
-asked_over samples kept grid = record { samples = samples; kept = kept; start = grid.start.0; end = grid.end.0 }
+asked_over samples kept grid = record { samples = samples; kept = kept; start = grid.start.0; end = grid.end.0; engines = [] }
 
 -- ---- the moment
 

@@ -171,6 +171,7 @@ module _ (longest latest : ℕ) where
   levels at (PlanNode-F.Filter c rules) = filtered c at rules
   levels at (PlanNode-F.Ratio c d) = beside (c ∷ d ∷ [])
   levels at (PlanNode-F.Once c) = c.kept
+  levels at (PlanNode-F.Gather expr kind engines) = itself _
 
   -- a sum divided by a count has what its average has, twice
   ratio : (at : ℕ) (grouping : Grouping) (ms : List Measure) (label : List ℕ)

@@ -140,6 +140,7 @@ levels (PlanNode-F.Set op c d pairing) = node _ _ (both_alike _ _ _ _ c.loose.al
 levels (PlanNode-F.Filter c rules) = node _ _ (record { fixed = c.loose.alike.fixed; still = c.loose.alike.still }) (λ e. c.loose.good e) refl
 levels (PlanNode-F.Ratio c d) = node _ _ (both_alike _ _ _ _ c.loose.alike d.loose.alike) (two_good c d) refl
 levels (PlanNode-F.Once c) = node _ _ c.kept.loose.alike (once_good c.before c.whole c.kept.loose) c.kept.own
+levels (PlanNode-F.Gather expr kind engines) = same _ _ refl
 
 twice : (b : Bool) → (b && b) ≡ b
 twice true = refl
@@ -212,6 +213,7 @@ module _ (at : ℕ) (base : Plan) (more : List Rule) where
   pushes_into (PlanNode-F.Filter below rules) is = stays
   pushes_into (PlanNode-F.Ratio sum count) is = stays
   pushes_into (PlanNode-F.Once inner) is = stays
+  pushes_into (PlanNode-F.Gather expr kind engines) is = stays
 
 pushes : (at : ℕ) (y : PlanNode-F PlanNode Plan) → Kept (facts (planned at (roll-PlanNode y))) (facts (planned at (push_filter at y)))
 pushes at (PlanNode-F.Filter base more) = pushes_into at base more (out-PlanNode base.node) refl
@@ -234,6 +236,7 @@ pushes at (PlanNode-F.Pair op l r pairing) = same _ _ refl
 pushes at (PlanNode-F.Set op l r pairing) = same _ _ refl
 pushes at (PlanNode-F.Ratio sum count) = same _ _ refl
 pushes at (PlanNode-F.Once inner) = same _ _ refl
+pushes at (PlanNode-F.Gather expr kind engines) = same _ _ refl
 
 -- ---- each rewrite
 

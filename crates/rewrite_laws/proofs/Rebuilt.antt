@@ -111,6 +111,7 @@ module _ {A B : Type 0} (node_step : PlanNode-F A B → A) (plan_step : Plan-F A
   level at (PlanNode-F.Filter c rules) = follows.levels at (PlanNode-F.Filter (child c) rules)
   level at (PlanNode-F.Ratio c d) = follows.levels at (PlanNode-F.Ratio (child c) (child d))
   level at (PlanNode-F.Once c) = follows.levels at (PlanNode-F.Once (child c))
+  level at (PlanNode-F.Gather expr kind engines) = follows.levels at (PlanNode-F.Gather expr kind engines)
 
   node_kept : (y : Layer) → IsKeptNode (roll-PlanNode (plans y))
   node_kept y at =

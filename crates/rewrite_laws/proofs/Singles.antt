@@ -65,6 +65,7 @@ module _ {A B : Type 0} (node_step : PlanNode-F A B → A) (plan_step : Plan-F A
   orders kept at (PlanNode-F.Filter base rules) = follows.itself _
   orders kept at (PlanNode-F.Ratio sum count) = follows.itself _
   orders kept at (PlanNode-F.Once inner) = follows.itself _
+  orders kept at (PlanNode-F.Gather expr kind engines) = follows.itself _
 
   pub ordered_follows : (kept : List (Bool × List ℕ)) (p : Plan) → Kept (F p) (F (rebuilt (order_rules kept) p))
   ordered_follows kept = every node_step plan_step Loose Kept follows (order_rules kept) (orders kept)
@@ -98,6 +99,7 @@ module _ {A B : Type 0} (node_step : PlanNode-F A B → A) (plan_step : Plan-F A
       by (PlanNode-F.Filter base rules) e = absurd (cc)
       by (PlanNode-F.Ratio sum count) e = absurd (cc)
       by (PlanNode-F.Once inner) e = absurd (cc)
+      by (PlanNode-F.Gather expr kind engines) e = absurd (cc)
 
   -- a side with more rules
   abbrev C : Type 0
@@ -162,6 +164,7 @@ module _ {A B : Type 0} (node_step : PlanNode-F A B → A) (plan_step : Plan-F A
   hands at (PlanNode-F.Filter base rules) = follows.itself _
   hands at (PlanNode-F.Ratio sum count) = follows.itself _
   hands at (PlanNode-F.Once inner) = follows.itself _
+  hands at (PlanNode-F.Gather expr kind engines) = follows.itself _
 
   pub handed_follows : (p : Plan) → Kept (F p) (F (rebuilt hand_rules p))
   handed_follows = every node_step plan_step Loose Kept follows hand_rules hands
@@ -206,6 +209,7 @@ module _ {A B : Type 0} (node_step : PlanNode-F A B → A) (plan_step : Plan-F A
   merges p at (PlanNode-F.Filter base rules) = follows.itself _
   merges p at (PlanNode-F.Ratio sum count) = follows.itself _
   merges p at (PlanNode-F.Once inner) = follows.itself _
+  merges p at (PlanNode-F.Gather expr kind engines) = follows.itself _
 
   pub merged_follows : (p : Plan) → Kept (F p) (F (rebuilt (merge_selects (ordered (selectors p))) p))
   merged_follows p = every node_step plan_step Loose Kept follows (merge_selects (ordered (selectors p))) (merges p) p
@@ -252,6 +256,7 @@ module _ {A B : Type 0} (node_step : PlanNode-F A B → A) (plan_step : Plan-F A
   splits at (PlanNode-F.Filter base rules) = follows.itself _
   splits at (PlanNode-F.Ratio sum count) = follows.itself _
   splits at (PlanNode-F.Once inner) = follows.itself _
+  splits at (PlanNode-F.Gather expr kind engines) = follows.itself _
 
   pub split_follows : (p : Plan) → Kept (F p) (F (rebuilt split_average p))
   split_follows = every node_step plan_step Loose Kept follows split_average splits

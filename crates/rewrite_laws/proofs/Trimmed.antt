@@ -6,7 +6,7 @@ use Rattle.logical_plan.specs.declared.nodes.PlanNode.TheOpen.{PlanNode-F, Plan-
 use Rattle.logical_plan.specs.declared.nodes.PlanNode.TheViews.{roll-PlanNode, roll-Plan}
 use Rattle.logical_plan.specs.declared.nodes.PlanNode.TheFolds.{ind-Plan, map-PlanNode}
 use Rattle.logical_plan.specs.Lowering.{planned}
-use Rattle.logical_plan.specs.PlanFolds.{of-Number, of-Time, of-Select, of-Range, of-Subquery, of-Element, of-Stamp, of-Window, of-Absent, of-Buckets, of-Relabel, of-Sort, of-ScalarOf, of-VectorOf, of-Group, of-Pair, of-Set, of-Filter, of-Ratio, of-Once}
+use Rattle.logical_plan.specs.PlanFolds.{of-Number, of-Time, of-Select, of-Range, of-Subquery, of-Element, of-Stamp, of-Window, of-Absent, of-Buckets, of-Relabel, of-Sort, of-ScalarOf, of-VectorOf, of-Group, of-Pair, of-Set, of-Filter, of-Ratio, of-Once, of-Gather}
 use Rattle.opt_selects.specs.Trimming.{trim, trim_node, trimmed}
 use Rattle.rewrite_laws.proofs.Follows.{Child, Follows, bares, befores}
 use Rattle.rewrite_laws.proofs.Rebuilt.{folded, made, of, over_lists, rolled}
@@ -106,6 +106,7 @@ module _ {A B : Type 0} (node_step : PlanNode-F A B → A) (plan_step : Plan-F A
     loose = subst (Loose (M at (PlanNode-F.Once (F c.0)))) (sym (of-Once node_step plan_step at (trimmed c.0 false))) (follows.bare_once at (child c));
     kept = subst (Kept (M at (PlanNode-F.Once (F c.0)))) (sym (of-Once node_step plan_step at (trimmed c.0 true))) (follows.levels at (PlanNode-F.Once (child c)));
   }
+  level at (PlanNode-F.Gather expr kind engines) = one _ _ _ (of-Gather node_step plan_step at expr kind engines) (follows.levels at (PlanNode-F.Gather expr kind engines))
 
   node_fine : (y : Layer) → IsFineNode (roll-PlanNode (plans y))
   node_fine y at =

@@ -144,6 +144,7 @@ node_stays (PlanNode-F.Ratio c d) e = record { loose = record { kind = refl; typ
 node_stays (PlanNode-F.Once c) e =
     let k = c.kept e in
     record { loose = record { kind = k.loose.kind; typed = k.loose.typed; unstamped = λ u. k.loose.unstamped u }; stamped = λ s. k.stamped s }
+node_stays (PlanNode-F.Gather expr kind engines) e = record { loose = record { kind = refl; typed = e; unstamped = λ u. u }; stamped = λ s. s }
 
 is_vector : (k : Kind) → is_kind Vector k ≡ true → k ≡ Vector
 is_vector Scalar e = absurd (cc)
