@@ -1,0 +1,16 @@
+mod Agreeing
+mod Ands
+mod Descends
+mod Ending
+mod Fewer
+mod Framed
+mod Functions
+mod Keeping
+mod Measures
+mod Nodes
+mod Overflows
+mod Sets
+mod Sides
+mod Steadies
+mod Types
+mod ValidParts
