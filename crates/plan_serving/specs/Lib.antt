@@ -1,0 +1,4 @@
+pub mod Filters
+pub mod Serving
+pub mod ServingLaws
+pub mod Stays
