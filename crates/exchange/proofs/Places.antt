@@ -65,6 +65,11 @@ all_own kept es own seen ps e all = subst (λ l. AllStand kept es l ps) (sym e) 
 pub place_same : (own seen : List Place) (k : ℕ) (place old : Place) → own ≡ seen → slice_get own k ≡ Some old → slice_get seen k ≡ Some place → place ≡ old
 place_same own seen k place old e at place_at = same_at own k place old (ap (λ l. slice_get l k) e ∙ place_at) at
 
+pub asks_own : (own seen : List Place) (k : ℕ) (place old new one : Place) → own ≡ seen → slice_get own k ≡ Some old → slice_get seen k ≡ Some place → slice_get (slice_set own k new) k ≡ Some one → new.asks ≡ old.asks → one.asks ≡ place.asks
+asks_own own seen k place old new one e at place_at one_at asks =
+    let here : one ≡ new = same_at (slice_set own k new) k one new one_at (get_set_same own k new (get_within own k old at)) in
+    ap (λ (x : Place). x.asks) here ∙ asks ∙ ap (λ (x : Place). x.asks) (sym (place_same own seen k place old e at place_at))
+
 on_ok : {T E : Type 0} (r : Result T E) (P Q : Type 0) → (P → Q) → OnOk r P → OnOk r Q
 on_ok (Ok x) P Q f h = f h
 on_ok (Err x) P Q f h = tt

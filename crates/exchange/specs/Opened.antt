@@ -63,3 +63,7 @@ pub record IsOpened (span : Grid) (kept : Kept) (es fs : List EngineSeen) (r : R
 abbrev pub AreOpened : Grid → Kept → List EngineSeen → List EngineSeen → List Request → List Place → Type 0
 AreOpened span kept es fs requests places =
     (k : ℕ) (r : Request) (place : Place) → slice_get requests k ≡ Some r → slice_get places k ≡ Some place → IsOpened span kept es fs r place
+
+-- the asks of each gather are of its request's engines, in their order
+abbrev pub AskTheirEngines : List Request → List Place → Type 0
+AskTheirEngines requests places = (k : ℕ) (r : Request) (place : Place) → slice_get requests k ≡ Some r → slice_get places k ≡ Some place → engines_of place.asks ≡ r.engines

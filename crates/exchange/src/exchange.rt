@@ -2,6 +2,7 @@
 ghost use Rattle.exchange.specs.Asked.{AreAsked, AreOwed, MayOpen};
 ghost use Rattle.exchange.specs.Calls.{AskStays, Each, Grows, HasSameAsks};
 ghost use Rattle.exchange.specs.Faults.{Blames, Faulted, IsAskedAt, IsAskedFor, IsNoStray};
+ghost use Rattle.exchange.specs.Opened.{AskTheirEngines};
 ghost use Rattle.exchange.specs.Requests.{AreRising};
 ghost use Rattle.exchange.specs.Standing.{AllStand, AllTell, GivesSteps, IsApartFrom, LendsAt, MayAdvance, Progress, gone_on};
 ghost use Rattle.exchange.specs.declared.place.Asking.{Asking};
@@ -108,6 +109,7 @@ impl Exchange {
         ensures owed { (ps : List Progress) × AreOwed span.now patterns.old (map (λ b. seen b) engines.old) self.old.requests ps }
         ensures stand { (ps : List Progress) → AreOwed span.now patterns.old (map (λ b. seen b) engines.old) self.old.requests ps → OnOk result (AllStand patterns.old (map (λ b. seen b) engines.new) self.new.places ps) }
         ensures asked { OnOk result (AreAsked span.now patterns.old self.old.requests (map (λ b. seen b) engines.old) (map (λ b. seen b) engines.new)) }
+        ensures asks { OnOk result (AskTheirEngines self.old.requests self.new.places) }
         ensures calm { Each KeepsStrays (map (λ b. seen b) engines.old) (map (λ b. seen b) engines.new) }
         ensures grown { Each Grows (map (λ b. seen b) engines.old) (map (λ b. seen b) engines.new) }
         ensures fault { Faulted result (map (λ b. seen b) engines.old) (map (λ b. seen b) engines.new) }
@@ -146,6 +148,7 @@ impl Exchange {
         ensures told { (ps : List Progress) (p : Progress) (place : Place) (t : Ms) → AllStand patterns.old (map (λ b. seen b) engines.old) self.old.places ps → slice_get ps gather ≡ Some p → slice_get self.old.places gather ≡ Some place → slice_get p.all p.taken ≡ Some t → AllTell place.asks (map (λ b. seen b) engines.old)
             → OnOk result (LendsAt self.new.places gather p.kind t (steps_at p.taken p.owed)) }
         ensures others { (k : ℕ) → (k ≡ gather → ⊥) → slice_get self.new.places k ≡ slice_get self.old.places k }
+        ensures asks { (place one : Place) → slice_get self.old.places gather ≡ Some place → slice_get self.new.places gather ≡ Some one → one.asks ≡ place.asks }
         ensures idle { (place : Place) → slice_get self.old.places gather ≡ Some place → is_ready place.gather ≡ true → engines.new ≡ engines.old }
         ensures alone { (place : Place) (b : Asking) → slice_get self.old.places gather ≡ Some place → IsApartFrom place.asks b → OnOk result (AskStays b (map (λ b. seen b) engines.old) (map (λ b. seen b) engines.new)) }
         ensures calm { OnOk result (Each KeepsStrays (map (λ b. seen b) engines.old) (map (λ b. seen b) engines.new)) }

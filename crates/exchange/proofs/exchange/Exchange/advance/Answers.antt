@@ -6,7 +6,7 @@ use Rattle.exchange.specs.Faults.{Blames, IsAskedAt}
 use Rattle.exchange.specs.Standing.{IsApartFrom}
 use Rattle.exchange.specs.declared.place.Place.{Place}
 use Rattle.exchange.proofs.Lists.{get_set_other}
-use Rattle.exchange.proofs.Places.{all_own, gone_on_own, lends_own, lends_told_own, place_same, place_stands_own, place_within_own}
+use Rattle.exchange.proofs.Places.{all_own, asks_own, gone_on_own, lends_own, lends_told_own, place_same, place_stands_own, place_within_own}
 use Rattle.exchange.proofs.exchange.Exchange.advance.Goals as goal
 
 pub index_mut-place-requires : goal.index_mut-place-requires
@@ -97,3 +97,13 @@ returns-clause-blame g c =
     let old = c.index_mut-place.result.now in
     let at : slice_get own c.args.gather ≡ Some old = slice_get_read own (length own) c.args.gather old refl within c.index_mut-place.ensures.value in
     λ place place_at. subst (λ (x : Place). Blames (IsAskedAt x.asks) c.advance_place.result) (sym (place_same own c.args.self.now.places c.args.gather place old e at place_at)) c.advance_place.ensures.blame
+
+pub returns-clause-asks : goal.returns-clause-asks
+returns-clause-asks g c =
+    let own = c.self.inside.places.items in
+    let e : own ≡ c.args.self.now.places = ap (λ (x : Exchanging). x.places) c.self.view_is in
+    let within : c.args.gather < length own = place_within_own c.args.gather _ _ own c.args.self.now.places e c.requires in
+    let old = c.index_mut-place.result.now in
+    let at : slice_get own c.args.gather ≡ Some old = slice_get_read own (length own) c.args.gather old refl within c.index_mut-place.ensures.value in
+    let new = c.advance_place.new.place in
+    λ place one place_at one_at. asks_own own c.args.self.now.places c.args.gather place old new one e at place_at one_at c.advance_place.ensures.asks
