@@ -1,6 +1,6 @@
 -- What an ask makes of what is seen of the engine.
 use Rattle.std.proofs.Common.{◌≡◌, ◌∙◌, ℕ, ◌+◌, ◌≤◌, true, [], ◌∷◌, ◌++◌, length, drop, refl, sym, ap, subst, Some, Ok, Err, arith}
-use Rattle.std.specs.Prelude.{ℤ, Option}
+use Rattle.std.specs.Prelude.{ℤ, Option, slice_get}
 use Rattle.std.proofs.lemmas.List.{length-map, map-append}
 use Rattle.promql_ast.specs.declared.tree.Expr.{Expr}
 use Rattle.promql_ast.specs.declared.tree.Node.TheOpen.{Node-F}
@@ -24,8 +24,8 @@ use Rattle.ticks.specs.declared.grid.Grid.{Grid}
 use Rattle.ticks.specs.declared.moment.Ms.{Ms}
 use Rattle.ticks.specs.declared.walk.Walk.{Walk}
 use Rattle.ticks.specs.declared.walk.WalkMoment.{WalkMoment}
-use Rattle.engine_local.specs.Local.{IsAllowed, IsFresh, Local, seen_ask, seen_of}
-use Rattle.engine_local.specs.declared.asks.OwnAsk.{OwnAsk}
+use Rattle.engine_local.specs.Local.{IsAllowed, IsFresh, Local, seen_ask, seen_of, times_of}
+use Rattle.engine_local.specs.declared.own.OwnAsk.{OwnAsk}
 use Rattle.engine_local.specs.Windows.{IsWindow}
 use Rattle.engine_local.proofs.Calls.{no_error, no_failure, no_faults}
 use Rattle.engine_local.proofs.Pulls.{with_asks}
@@ -91,7 +91,7 @@ module _ (part : Part) (walk : Walk) (span : Grid) (kept : Kept) (one : OwnAsk) 
 
   pub fresh_allowed : (e : EngineSeen) → MayAsk part walk span kept e → IsAllowed one
   fresh_allowed e may = record {
-    times = subst (λ (w : Walk). IsListed w one.times) (sym fresh.ask.walk_is) fresh.times;
+    times = subst (λ (w : Walk). IsListed w (times_of one)) (sym fresh.ask.walk_is) fresh.times;
     within = within may.times.0 may.times.1 may.times.2;
     kind = fresh.ask.kind_is ∙ ap (λ (p : Part). p.kind) (sym fresh.part_is);
     window = subst (λ (p : Part). p.kind ≡ part_kind.Windows → IsWindowOf one.span p.expr one.ask) (sym fresh.part_is)
@@ -101,7 +101,8 @@ module _ (part : Part) (walk : Walk) (span : Grid) (kept : Kept) (one : OwnAsk) 
         subst (λ (a : Asked). AreMet a (needs_of a one.part.expr t.0)) (λ i. asked_over [] (sym fresh.kept_are i) (sym fresh.span_is i))
         (subst (λ (p : Part). AreMet (asked_over [] kept span) (needs_of (asked_over [] kept span) p.expr t.0)) (sym fresh.part_is)
         (may.needs t (subst (λ (w : Walk). IsInstant w t.0) fresh.ask.walk_is here)));
-    given = subst (λ (n : ℕ). n ≤ length one.times) (sym fresh.given) (omega arith);
+    given = subst (λ (n : ℕ). n ≤ length (times_of one)) (sym fresh.given) (omega arith);
+    next = fresh.next ∙ ap (slice_get (times_of one)) (sym fresh.given);
   }
 
   pub fresh_asked : (samples : AllSeries) (declared : Option Names) → ListsAreOne → IsAsked part walk span kept (Some (record { declared = declared; samples = samples })) (seen_ask samples one)
@@ -110,7 +111,7 @@ module _ (part : Part) (walk : Walk) (span : Grid) (kept : Kept) (one : OwnAsk) 
     ask = fresh.ask;
     kept_are = fresh.kept_are;
     given = fresh.given;
-    left = λ times listed. λ i. owed (asked_over samples (fresh.kept_are i) (fresh.span_is i)) (fresh.part_is i) (drop (fresh.given i) (lists walk one.times times fresh.times listed i));
+    left = λ times listed. λ i. owed (asked_over samples (fresh.kept_are i) (fresh.span_is i)) (fresh.part_is i) (drop (fresh.given i) (lists walk (times_of one) times fresh.times listed i));
   }
 
   pub asked : (e : Local) → ListsAreOne → HasAsked part walk span kept (Ok (length e.asks)) (seen_of e) (seen_of (with_asks (e.asks ++ one ∷ []) e))

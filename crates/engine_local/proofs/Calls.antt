@@ -10,7 +10,7 @@ use Rattle.promql_meaning.specs.Selecting.{AllSeries}
 use Rattle.ticks.specs.declared.moment.Ms.{Ms}
 use Rattle.xfrac.specs.declared.value.Held.{Held}
 use Rattle.engine_local.specs.Local.{Local, seen_ask, seen_of}
-use Rattle.engine_local.specs.declared.asks.OwnAsk.{OwnAsk}
+use Rattle.engine_local.specs.declared.own.OwnAsk.{OwnAsk}
 
 -- ---- the engine never fails
 

@@ -1,14 +1,13 @@
 mod Apart
 mod Asking
 mod Calls
-mod Framing
+mod Fronts
 mod Grouped
+mod Instants
 mod Kept
-mod Listing
 mod Lists
 mod Pulls
 mod Readiness
-mod Stepping
 mod Summing
 mod Well
 mod Windowed

@@ -14,21 +14,11 @@ module _ {X : Type 0} where
       by (y ∷ ys) zero h = cc
       by (y ∷ ys) (suc n) h = ap (λ zs. y ∷ zs) (by ys n h)
 
-  pub all_taken : (xs : List X) (k : ℕ) → slice_get xs k ≡ None → take k xs ≡ xs
-  all_taken [] zero e = refl
-  all_taken [] (suc k) e = refl
-  all_taken (x ∷ xs) zero e = absurd (cc)
-  all_taken (x ∷ xs) (suc k) e = ap (λ ys. x ∷ ys) (all_taken xs k e)
-
   pub all_dropped : (n : ℕ) (xs : List X) → length xs ≤ n → drop n xs ≡ []
   all_dropped zero [] w = refl
   all_dropped zero (x ∷ xs) w = absurd (omega (arith, w))
   all_dropped (suc n) [] w = refl
   all_dropped (suc n) (x ∷ xs) w = all_dropped n xs (omega (arith, w))
-
-  pub length_more : (xs : List X) (x : X) → length (xs ++ x ∷ []) ≡ length xs + 1
-  length_more [] x = refl
-  length_more (y ∷ xs) x = let h = length_more xs x in omega (arith, h)
 
   pub drop_length : (n : ℕ) (xs : List X) → n ≤ length xs → n + length (drop n xs) ≡ length xs
   drop_length zero xs w = omega arith
@@ -45,6 +35,24 @@ module _ {X : Type 0} where
   taken_most xs ys e = let h : length xs ≡ length (take (length xs) ys) = ap length e in let m = short (length xs) ys in omega (arith, h, m)
 
   -- ---- an item at a place
+
+  pub past : (xs : List X) (i : ℕ) → slice_get xs i ≡ None → length xs ≤ i
+  past [] i e = omega arith
+  past (x ∷ xs) zero e = absurd (cc)
+  past (x ∷ xs) (suc i) e = let h = past xs i e in omega (arith, h)
+
+  pub get_dropped : (n : ℕ) (xs : List X) (i : ℕ) → slice_get (drop n xs) i ≡ slice_get xs (n + i)
+  get_dropped zero xs i = let e : i ≡ 0 + i = omega arith in ap (slice_get xs) e
+  get_dropped (suc n) [] i = refl
+  get_dropped (suc n) (x ∷ xs) i = let e : suc n + i ≡ suc (n + i) = omega arith in get_dropped n xs i ∙ sym (ap (slice_get (x ∷ xs)) e)
+
+  behind : (x y : X) (xs : List X) → Contains xs y → Contains (x ∷ xs) y
+  behind x y xs (k, w, e) = (suc k, omega arith, e)
+
+  pub member_at : (xs : List X) (i : ℕ) (x : X) → slice_get xs i ≡ Some x → Contains xs x
+  member_at [] i x e = absurd (cc)
+  member_at (y ∷ xs) zero x e = (0, omega arith, cc)
+  member_at (y ∷ xs) (suc i) x e = behind y x xs (member_at xs i x e)
 
   pub inside : (xs : List X) (i : ℕ) (x : X) → slice_get xs i ≡ Some x → i < length xs
   inside [] i x e = absurd (cc)
@@ -67,19 +75,6 @@ module _ {X : Type 0} where
     pub members : (xs : List X) → ((x : X) → Contains xs x → P x) → AllByRecursion P xs
     members [] h = tt
     members (x ∷ xs) h = (h x (0, omega arith, refl), members xs (λ y c. h y (behind x y xs c)))
-      where
-        behind : (x y : X) (xs : List X) → Contains xs y → Contains (x ∷ xs) y
-        behind x y xs (k, w, e) = (suc k, omega arith, e)
-
-    pub all_take : (n : ℕ) (xs : List X) → AllByRecursion P xs → AllByRecursion P (take n xs)
-    all_take zero xs a = tt
-    all_take (suc n) [] a = tt
-    all_take (suc n) (x ∷ xs) a = (a.0, all_take n xs a.1)
-
-    pub all_drop : (n : ℕ) (xs : List X) → AllByRecursion P xs → AllByRecursion P (drop n xs)
-    all_drop zero xs a = a
-    all_drop (suc n) [] a = tt
-    all_drop (suc n) (x ∷ xs) a = all_drop n xs a.1
 
     pub all_at : (xs : List X) (i : ℕ) (x : X) → slice_get xs i ≡ Some x → AllByRecursion P xs → P x
     all_at [] i x e a = absurd (cc)
@@ -95,6 +90,10 @@ module _ {X : Type 0} where
     pub all_more : (xs : List X) (x : X) → P x → AllByRecursion P xs → AllByRecursion P (xs ++ x ∷ [])
     all_more [] x p a = (p, tt)
     all_more (y ∷ xs) x p a = (a.0, all_more xs x p a.1)
+
+  pub all_weaker : (P Q : X → Type 0) → ((x : X) → P x → Q x) → (xs : List X) → AllByRecursion P xs → AllByRecursion Q xs
+  all_weaker P Q to [] a = tt
+  all_weaker P Q to (x ∷ xs) a = (to x a.0, all_weaker P Q to xs a.1)
 
 -- ---- what is made of each item
 

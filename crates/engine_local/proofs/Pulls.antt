@@ -1,6 +1,6 @@
 -- What a pull makes of what is seen of the engine.
-use Rattle.std.proofs.Common.{◌≡◌, ◌∙◌, ℕ, ◌+◌, ◌≤◌, List, [], length, map, drop, slice_get, slice_set, refl, sym, ap, subst, Some, None, Ok, Err, true, arith}
-use Rattle.std.specs.Prelude.{Option}
+use Rattle.std.proofs.Common.{◌≡◌, ◌∙◌, ℕ, ◌+◌, ◌≤◌, List, [], length, map, drop, slice_get, slice_set, refl, sym, ap, subst, Some, None, Ok, Err, true, ◌<◌, ◌^◌, arith}
+use Rattle.std.specs.Prelude.{Bool, false, not, Option, IsSome, is_some}
 use Rattle.std.proofs.lemmas.List.{drop-drop, drop-map, length-map, map-set}
 use Rattle.remote_api.specs.Seen.{AskSeen, CountsStray, GivesOwed, HasGiven, HasPulled, MayPull, after_steps, owed}
 use Rattle.remote_api.specs.Strays.{early_end, stray_of, wrong_cell}
@@ -13,11 +13,13 @@ use Rattle.promql_meaning.specs.Selecting.{AllSeries}
 use Rattle.step_cells.specs.Owed.{cells}
 use Rattle.promql_type.specs.Replacements.{Kept}
 use Rattle.ticks.specs.Listed.{ListsAreOne}
+use Rattle.ticks.specs.Near.{InstantsAreTimes}
 use Rattle.ticks.specs.declared.moment.Ms.{Ms}
-use Rattle.engine_local.specs.Local.{IsAllowed, Local, asked_of, seen_ask, seen_of}
-use Rattle.engine_local.specs.declared.asks.OwnAsk.{OwnAsk}
+use Rattle.engine_local.specs.Local.{IsAllowed, Local, asked_of, seen_ask, seen_of, times_of, went_on}
+use Rattle.engine_local.specs.declared.own.OwnAsk.{OwnAsk}
 use Rattle.engine_local.proofs.Calls.{no_error, no_failure, no_faults}
-use Rattle.engine_local.proofs.Lists.{all_dropped, drop_length, made_at, same_set, taken_most}
+use Rattle.engine_local.proofs.Instants.{few_instants}
+use Rattle.engine_local.proofs.Lists.{all_dropped, drop_length, made_at, past, same_set, taken_most}
 use Rattle.engine_local.proofs.Well.{no_stray}
 
 -- ---- one ask
@@ -37,26 +39,34 @@ found e place kept may =
 pub found_in : (v e : Local) (place : ℕ) (kept : Kept) → v ≡ e → MayPull place kept (seen_of e) → Found v.asks place kept
 found_in v e place kept same may = found v place kept (subst (λ (l : Local). MayPull place kept (seen_of l)) (sym same) may)
 
--- an ask of which so many steps more were given
-abbrev pub given_more : ℕ → OwnAsk → OwnAsk
-given_more n one = record one { given = one.given + n }
+left_after : (samples : AllSeries) (one : OwnAsk) (n : ℕ)
+    → owed (asked_of samples one) one.part (drop (one.given + n) (times_of one)) ≡ drop n (owed (asked_of samples one) one.part (drop one.given (times_of one)))
+left_after samples one n =
+    ap (owed (asked_of samples one) one.part) (sym (drop-drop n one.given (times_of one))) ∙ sym (drop-map _ n (drop one.given (times_of one)))
 
-left_after : (samples : AllSeries) (one : OwnAsk) (n : ℕ) → owed (asked_of samples one) one.part (drop (one.given + n) one.times) ≡ drop n (owed (asked_of samples one) one.part (drop one.given one.times))
-left_after samples one n = ap (owed (asked_of samples one) one.part) (sym (drop-drop n one.given one.times)) ∙ sym (drop-map _ n (drop one.given one.times))
-
-pub ask_after : (samples : AllSeries) (one : OwnAsk) (steps : List StepCells) → seen_ask samples (given_more (length steps) one) ≡ after_steps steps (seen_ask samples one)
-ask_after samples one steps = ap (λ (left : List StepCells). record { part = one.part; ask = one.ask; kept = one.kept; given = one.given + length steps; left = left }) (left_after samples one (length steps))
+pub ask_after : (samples : AllSeries) (one : OwnAsk) (steps : List StepCells) (next : Option Ms) → seen_ask samples (went_on (length steps) next one) ≡ after_steps steps (seen_ask samples one)
+ask_after samples one steps next =
+    ap (λ (left : List StepCells). record { part = one.part; ask = one.ask; kept = one.kept; given = one.given + length steps; left = left }) (left_after samples one (length steps))
 
 -- what is given lies within the instants
-pub within_times : (samples : AllSeries) (one : OwnAsk) (most : ℕ) (steps : List StepCells) → IsAllowed one → GivesOwed most pulled.Frame steps (seen_ask samples one) → one.given + length steps ≤ length one.times
+pub within_times : (samples : AllSeries) (one : OwnAsk) (most : ℕ) (steps : List StepCells) → IsAllowed one → GivesOwed most pulled.Frame steps (seen_ask samples one)
+    → one.given + length steps ≤ length (times_of one)
 within_times samples one most steps allowed gives =
-    let few = taken_most steps (owed (asked_of samples one) one.part (drop one.given one.times)) gives.0 in
-    let long = length-map (drop one.given one.times) (λ (t : Ms). cells one.part.kind t (meaning (asked_of samples one) one.part.expr t.0)) in
-    let whole = drop_length one.given one.times allowed.given in
+    let few = taken_most steps (owed (asked_of samples one) one.part (drop one.given (times_of one))) gives.0 in
+    let long = length-map (drop one.given (times_of one)) (λ (t : Ms). cells one.part.kind t (meaning (asked_of samples one) one.part.expr t.0)) in
+    let whole = drop_length one.given (times_of one) allowed.given in
     omega (arith, few, long, whole)
 
-pub allowed_more : (one : OwnAsk) (n : ℕ) → IsAllowed one → one.given + n ≤ length one.times → IsAllowed (given_more n one)
-allowed_more one n allowed within = record {
+-- so their number is one that a counter holds
+pub few_given : InstantsAreTimes → (samples : AllSeries) (one : OwnAsk) (most : ℕ) (steps : List StepCells) → IsAllowed one → GivesOwed most pulled.Frame steps (seen_ask samples one)
+    → one.given + length steps < 2 ^ 64
+few_given law samples one most steps allowed gives =
+    let within = within_times samples one most steps allowed gives in
+    let few = few_instants law one.ask.walk (times_of one) allowed.within.walk allowed.times in
+    omega (arith, within, few)
+
+pub allowed_on : (one : OwnAsk) (n : ℕ) (next : Option Ms) → IsAllowed one → one.given + n ≤ length (times_of one) → next ≡ slice_get (times_of one) (one.given + n) → IsAllowed (went_on n next one)
+allowed_on one n next allowed within behind = record {
   times = allowed.times;
   within = allowed.within;
   kind = allowed.kind;
@@ -64,7 +74,16 @@ allowed_more one n allowed within = record {
   form = allowed.form;
   needs = allowed.needs;
   given = within;
+  next = behind;
 }
+
+-- whether an instant comes next, as it is tested
+pub none_next : (next : Option Ms) (test : Bool) → is_some next ≡ not test → test ≡ true → next ≡ None
+none_next None test is held = refl
+none_next (Some t) test is held = let clash : true ≡ false = is ∙ ap not held in absurd (cc)
+
+pub some_next : (next : Option Ms) (test : Bool) → is_some next ≡ not test → test ≡ false → IsSome next
+some_next next test is held = is ∙ ap not held
 
 -- ---- the engine
 
@@ -90,20 +109,20 @@ module _ (e : Local) (place most : ℕ) (one : OwnAsk) (here : slice_get e.asks 
       of_some h = ap get h
 
   -- steps that are owed
-  pub gave : (steps : List StepCells) → GivesOwed most pulled.Frame steps (own one) → wrong_cell one.ask steps ≡ None
-      → HasPulled place most steps (Ok pulled.Frame) (seen_of e) (seen_of (with_asks (slice_set e.asks place (given_more (length steps) one)) e))
-  gave steps gives well =
-      let new = with_asks (slice_set e.asks place (given_more (length steps) one)) e in
-      let left = no_stray (asked_of e.samples one) one.part one.ask (drop one.given one.times) steps gives.0 gives.1 well in
+  pub gave : (steps : List StepCells) (next : Option Ms) → GivesOwed most pulled.Frame steps (own one) → wrong_cell one.ask steps ≡ None
+      → HasPulled place most steps (Ok pulled.Frame) (seen_of e) (seen_of (with_asks (slice_set e.asks place (went_on (length steps) next one)) e))
+  gave steps next gives well =
+      let new = with_asks (slice_set e.asks place (went_on (length steps) next one)) e in
+      let left = no_stray (asked_of e.samples one) one.part one.ask (drop one.given (times_of one)) steps gives.0 gives.1 well in
       record {
         faults = no_faults _ e new (no_error pulled.Frame fail.Failed);
         holding = refl;
         given = λ a there. subst (HasGiven place most pulled.Frame steps (seen_of e) (seen_of new)) (same_ask a there) (record {
-          asks = map-set own e.asks place (given_more (length steps) one) ∙ ap (slice_set (map own e.asks) place) (ask_after e.samples one steps);
+          asks = map-set own e.asks place (went_on (length steps) next one) ∙ ap (slice_set (map own e.asks) place) (ask_after e.samples one steps next);
           going = refl;
           gives = gives;
           stray = λ all listed. subst (λ (s : Option Stray). CountsStray s (seen_of e) (seen_of new))
-              (sym (ap (λ (ts : List Ms). stray_of one.ask (drop one.given ts) steps) (lists one.ask.walk all one.times listed allowed.times) ∙ left))
+              (sym (ap (λ (ts : List Ms). stray_of one.ask (drop one.given ts) steps) (lists one.ask.walk all (times_of one) listed allowed.times) ∙ left))
               (record { strays = refl; stray = refl });
           true_to_form = record { strays = refl; stray = refl };
         });
@@ -113,9 +132,9 @@ module _ (e : Local) (place most : ℕ) (one : OwnAsk) (here : slice_get e.asks 
       }
 
   -- the end, where none is left
-  pub ended : length one.times ≤ one.given → HasPulled place most [] (Ok pulled.End) (seen_of e) (seen_of e)
+  pub ended : one.next ≡ None → HasPulled place most [] (Ok pulled.End) (seen_of e) (seen_of e)
   ended done =
-      let none = all_dropped one.given one.times done in
+      let none = all_dropped one.given (times_of one) (past (times_of one) one.given (sym allowed.next ∙ done)) in
       record {
         faults = no_faults _ e e (no_error pulled.End fail.Failed);
         holding = refl;
@@ -124,7 +143,7 @@ module _ (e : Local) (place most : ℕ) (one : OwnAsk) (here : slice_get e.asks 
           going = refl;
           gives = (ap (owed (asked_of e.samples one) one.part) none, refl);
           stray = λ all listed. subst (λ (s : Option Stray). CountsStray s (seen_of e) (seen_of e))
-              (sym (ap (λ (ts : List Ms). early_end (drop one.given ts)) (lists one.ask.walk all one.times listed allowed.times) ∙ ap early_end none))
+              (sym (ap (λ (ts : List Ms). early_end (drop one.given ts)) (lists one.ask.walk all (times_of one) listed allowed.times) ∙ ap early_end none))
               (record { strays = refl; stray = refl });
           true_to_form = record { strays = refl; stray = refl };
         });

@@ -19,7 +19,7 @@ use Rattle.ticks.specs.Walks.{IsInstant}
 use Rattle.ticks.specs.declared.grid.Grid.{Grid}
 use Rattle.ticks.specs.declared.moment.Ms.{Ms}
 use Rattle.engine_local.specs.Local.{IsAllowed}
-use Rattle.engine_local.specs.declared.asks.OwnAsk.{OwnAsk}
+use Rattle.engine_local.specs.declared.own.OwnAsk.{OwnAsk}
 
 -- ---- needs don't depend on the samples
 
@@ -70,7 +70,7 @@ form_checked law kept e part_kind.Windows h =
     }
 form_checked law kept e (part_kind.Partial f by) h = checked law kept e h.0
 
-ready_at : CheckedPatternsAreKept → (samples : AllSeries) (kept : Kept) (one : OwnAsk) (t : Ms) → IsAllowed one → one.kept ≡ kept → IsInstant one.ask.walk t.0 → IsReady (asked_over samples kept one.span) one.part.expr t.0
+pub ready_at : CheckedPatternsAreKept → (samples : AllSeries) (kept : Kept) (one : OwnAsk) (t : Ms) → IsAllowed one → one.kept ≡ kept → IsInstant one.ask.walk t.0 → IsReady (asked_over samples kept one.span) one.part.expr t.0
 ready_at law samples kept one t allowed same here =
     let form = form_checked law one.kept one.part.expr one.part.kind allowed.form in
     subst (λ (k : Kept). IsReady (asked_over samples k one.span) one.part.expr t.0) same
@@ -79,13 +79,3 @@ ready_at law samples kept one t allowed same here =
       typed = form.typed;
       patterns = form.patterns;
     })
-
--- ---- at each of some of its instants
-
-abbrev pub AreInstants : OwnAsk → List Ms → Type 0
-AreInstants one times = AllByRecursion (λ (t : Ms). IsInstant one.ask.walk t.0) times
-
-pub all_ready : CheckedPatternsAreKept → (samples : AllSeries) (kept : Kept) (one : OwnAsk) (times : List Ms) → IsAllowed one → one.kept ≡ kept → AreInstants one times
-    → AllByRecursion (λ (t : Ms). IsReady (asked_over samples kept one.span) one.part.expr t.0) times
-all_ready law samples kept one [] allowed same here = tt
-all_ready law samples kept one (t ∷ times) allowed same here = (ready_at law samples kept one t allowed same here.0, all_ready law samples kept one times allowed same here.1)

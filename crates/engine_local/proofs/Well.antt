@@ -1,6 +1,6 @@
 -- What is owed at the instants of an ask is no stray.
-use Rattle.std.proofs.Common.{◌≡◌, ◌∙◌, ℕ, zero, suc, ◌+◌, ◌≤◌, true, false, List, [], ◌∷◌, ◌++◌, length, map, take, refl, sym, ap, subst, Some, None, arith}
-use Rattle.std.specs.Prelude.{ℤ, Bool, if◌then◌else◌}
+use Rattle.std.proofs.Common.{◌≡◌, ◌∙◌, ℕ, zero, suc, ◌+◌, ◌≤◌, true, false, List, [], ◌∷◌, ◌++◌, length, map, take, refl, sym, ap, subst, Some, None, Ok, Err, arith}
+use Rattle.std.specs.Prelude.{ℤ, Bool, Result, IfOk, OnOk, if◌then◌else◌}
 use Rattle.std.specs.List.{AllByRecursion, list_all}
 use Rattle.std.specs.List.Sorted.{IsStrictlySortedBy}
 use Rattle.std.specs.Ordering.{int_eq}
@@ -33,7 +33,7 @@ use Rattle.remote_api.specs.declared.asks.Ask.{Ask}
 use Rattle.remote_api.specs.declared.asks.Part.{Part}
 use Rattle.remote_api.specs.declared.frame.Stray.TheVariants.{OutOfStep, WrongCell}
 use Rattle.engine_local.specs.Local.{HasFewRows, IsAllowed}
-use Rattle.engine_local.specs.declared.asks.OwnAsk.{OwnAsk}
+use Rattle.engine_local.specs.declared.own.OwnAsk.{OwnAsk}
 use Rattle.engine_local.proofs.Apart.{apart, labels_in}
 use Rattle.engine_local.proofs.Grouped.{both_true, groups_well}
 use Rattle.engine_local.proofs.Windowed.{passing_rise, passing_sorted, windows_well}
@@ -56,7 +56,7 @@ rows_well ask s kind table =
 
 -- ---- one step more
 
-more_well : (ask : Ask) (steps : List StepCells) (step : StepCells) → wrong_cell ask steps ≡ None → is_well ask step ≡ true → wrong_cell ask (steps ++ step ∷ []) ≡ None
+pub more_well : (ask : Ask) (steps : List StepCells) (step : StepCells) → wrong_cell ask steps ≡ None → is_well ask step ≡ true → wrong_cell ask (steps ++ step ∷ []) ≡ None
 more_well ask [] step none well = ap (λ (b : Bool). if b then None else Some (WrongCell step.at)) well
 more_well ask (s ∷ steps) step none well = by (is_well ask s) none (λ rest. more_well ask steps step rest well)
   where
@@ -96,12 +96,10 @@ module _ (laws : MeaningIsWellFormed) (moments : WalkMomentIsMoment) (samples : 
   cells_well : HasFewRows one.part.kind value → is_well one.ask (cells one.part.kind t value) ≡ true
   cells_well few = of_kind one.part.kind refl few
 
-  -- behind steps without a wrong cell stands one more
-  pub step_well : (steps more : List StepCells) (step : StepCells) (g : Given) → more ≡ steps ++ step ∷ [] → step ≡ cells one.part.kind t g → g ≡ value → HasFewRows one.part.kind g
-      → wrong_cell one.ask steps ≡ None → wrong_cell one.ask more ≡ None
-  step_well steps more step g is made same few none =
-      let well : is_well one.ask step ≡ true = ap (is_well one.ask) (made ∙ ap (cells one.part.kind t) same) ∙ cells_well (subst (HasFewRows one.part.kind) same few) in
-      subst (λ (all : List StepCells). wrong_cell one.ask all ≡ None) (sym is) (more_well one.ask steps step none well)
+  pub made_well : {E : Type 0} (g : Given) (result : Result StepCells E) → g ≡ value → IfOk result (λ step. step ≡ cells one.part.kind t g) → OnOk result (HasFewRows one.part.kind g)
+      → IfOk result (λ step. is_well one.ask step ≡ true)
+  made_well g (Ok step) same made few = ap (is_well one.ask) (made ∙ ap (cells one.part.kind t) same) ∙ cells_well (subst (HasFewRows one.part.kind) same few)
+  made_well g (Err e) same made few = tt
 
 -- ---- the steps of an ask
 

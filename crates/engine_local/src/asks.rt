@@ -1,36 +1,23 @@
-//! What is kept of an ask.
-ghost use Rattle.engine_local.specs.Local.{IsFresh};
+//! How asks are made, and how they go on.
+ghost use Rattle.engine_local.specs.Local.{IsFresh, went_on};
 ghost use Rattle.engine_local.specs.Windows.{IsWindow};
-ghost use Rattle.engine_local.specs.declared.asks.OwnAsk.{OwnAsk};
+ghost use Rattle.engine_local.specs.declared.own.OwnAsk.{OwnAsk};
 ghost use Rattle.promql_ast.specs.declared.tree.Node.TheVariants.{Range};
 ghost use Rattle.promql_ast.specs.declared.tree.Selector.{Selector};
 ghost use Rattle.promql_meaning.specs.Selecting.{asked_over};
 ghost use Rattle.promql_meaning.specs.WalkMoments.{IsMomentOf, fixed_time};
 ghost use Rattle.remote_api.specs.Seen.{HasForm};
-ghost use Rattle.std.specs.Prelude.{◌≡◌, ◌≤◌, ◌<◌, ◌^◌, [], ◌∷◌, ◌++◌, length, IsTrue, IsFalse, IfOk, OnOk, OnErr};
+ghost use Rattle.std.specs.Prelude.{◌≡◌, ◌+◌, ◌<◌, ◌^◌, [], ◌∷◌, ◌++◌, length, IfOk, OnOk, OnErr};
 ghost use Rattle.ticks.specs.Walks.{LeadsToTimes};
 ghost use Rattle.ticks.specs.declared.moment.Ms.{Ms};
 
+use crate::own::OwnAsk;
 use crate::patterns::copied;
-use crate::times::instants;
-use label_set::{Items, Text};
 use match_rule::Patterns;
 use promql_ast::{Expr, Fixed, Moment, Node};
 use remote_api::{Ask, Part};
 use std::alloc::{AllocError, Global};
-use ticks::{Grid, Ms, Walk, WalkMoment};
-
-/// An ask: its part, what its steps have to be, the grid of its query, the patterns that were kept when it was made, the instants of
-/// its walk, and how many of their steps were given.
-#[derive(Drop)]
-pub struct OwnAsk {
-    pub part: Part,
-    pub ask: Ask,
-    pub span: Grid,
-    pub kept: Items<(bool, Text)>,
-    pub times: Items<Ms>,
-    pub given: usize,
-}
+use ticks::{Grid, Ms, Walk, WalkMoment, walks_are_listed};
 
 impl OwnAsk {
     /// An ask of which nothing was given. The only error is want of memory.
@@ -45,23 +32,24 @@ impl OwnAsk {
         requires form { HasForm patterns.now part.now.expr part.now.kind }
         ensures { IfOk result (IsFresh part.now walk.now span.now patterns.now) }
     {
+        walks_are_listed();
         Ok(OwnAsk {
             part: part.copy()?,
             ask: ask_of(part, walk, span)?,
             span: *span,
             kept: copied(alloc, patterns)?,
-            times: instants(alloc, walk)?,
             given: 0,
+            next: walk.first(),
         })
     }
 
-    /// Whether the steps of all its instants were given.
-    pub(crate) fn is_done(&self) -> bool
-        ensures done { IsTrue result → length self.now.times ≤ self.now.given }
-        ensures left { IsFalse result → self.now.given < length self.now.times }
-        ensures few { length self.now.times < 2 ^ 64 }
+    /// Counts steps that are given, behind which an instant of the walk comes next; there is none behind the last one.
+    pub(crate) fn go_on(&mut self, count: usize, next: Option<Ms>)
+        requires few { self.old.given + count < 2 ^ 64 }
+        ensures { self.new ≡ went_on count next self.old }
     {
-        self.times.as_slice().len() <= self.given
+        self.given += count;
+        self.next = next;
     }
 }
 

@@ -2,15 +2,16 @@
 ghost use Rattle.engine_local.specs.Local.{seen_of};
 ghost use Rattle.std.specs.Prelude.{◌≡◌, [], None, false};
 
-use crate::asks::{OwnAsk, add_ask};
-use crate::pulling::next_frame;
+use crate::asks::add_ask;
+use crate::own::OwnAsk;
+use crate::pulling::{Front, next_steps};
 use label_set::Labels;
 use match_rule::Patterns;
 use remote_api::{Engine, EngineFail, Frame, Part, Pulled};
 use sample_store::Store;
 use std::alloc::{AllocError, Global};
 use std::marker::Model;
-use ticks::{Grid, Ms, Walk, walks_are_listed};
+use ticks::{Grid, Ms, Walk, walks_are_listed, walks_keep_to_times};
 use xfrac::Held;
 
 /// An engine over samples of its own. It tells all that it holds, gives just what it owes, and never fails; the only error is want of
@@ -119,13 +120,15 @@ impl Engine for LocalEngine {
         frame: &mut Frame,
     ) -> Result<Pulled, EngineFail> {
         walks_are_listed();
-        if self.asks[ask].is_done() {
+        walks_keep_to_times();
+        if self.asks[ask].next.is_none() {
             return Ok(Pulled::End);
         }
-        match next_frame(self.alloc, &self.store, &self.asks[ask], most, patterns) {
-            Ok(made) => {
-                self.asks[ask].given += made.steps.as_slice().len();
-                *frame = made;
+        match next_steps(self.alloc, &self.store, &self.asks[ask], most, patterns) {
+            Ok(front) => {
+                let Front { steps, next } = front;
+                self.asks[ask].go_on(steps.as_slice().len(), next);
+                *frame = Frame { steps };
                 Ok(Pulled::Frame)
             }
             Err(AllocError) => {

@@ -5,8 +5,8 @@ mod asks;
 mod cells;
 mod engine;
 mod groups;
+mod own;
 mod patterns;
 mod pulling;
-mod times;
 
 pub use engine::LocalEngine;

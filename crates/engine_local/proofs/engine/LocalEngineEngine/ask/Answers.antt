@@ -3,7 +3,7 @@ use Rattle.remote_api.specs.Seen.{HasAsked}
 use Rattle.remote_api.specs.declared.engine.EngineFail.TheVariants as fail
 use Rattle.ticks.specs.Walks.{LeadsToTimes}
 use Rattle.engine_local.specs.Local.{AreAllowed, IsAllowed, Local, seen_of}
-use Rattle.engine_local.specs.declared.asks.OwnAsk.{OwnAsk}
+use Rattle.engine_local.specs.declared.own.OwnAsk.{OwnAsk}
 use Rattle.engine_local.proofs.Asking.{asked, fresh_allowed, spent_asked}
 use Rattle.engine_local.proofs.Lists.{all_more}
 use Rattle.engine_local.proofs.Pulls.{with_asks}

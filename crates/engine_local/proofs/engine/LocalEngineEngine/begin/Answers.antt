@@ -1,7 +1,7 @@
 use Rattle.std.proofs.Common.{false, List, subst, sym}
 use Rattle.remote_api.specs.Seen.{IsBegun}
 use Rattle.engine_local.specs.Local.{AreAllowed, Local, seen_of}
-use Rattle.engine_local.specs.declared.asks.OwnAsk.{OwnAsk}
+use Rattle.engine_local.specs.declared.own.OwnAsk.{OwnAsk}
 use Rattle.engine_local.proofs.Calls.{begun}
 use Rattle.engine_local.proofs.engine.LocalEngineEngine.begin.Goals as goal
 
