@@ -1,4 +1,3 @@
 pub mod Couriers
-pub mod Parted
 pub mod Seen
 pub mod Strays
