@@ -4,6 +4,7 @@ use Prim.Native.Nat.{◌∣◌}
 use Rattle.std.specs.Prelude.{ℤ}
 use Rattle.std.proofs.Math.Nat.{mul-div_cancel_left, div_self, dvd-mul_left, dvd_antisymm}
 use Rattle.std.proofs.lemmas.Nat.Gcd.{dvd_refl}
+use Rattle.xfrac.specs.AnySize.{AloneStandsForAny}
 use Rattle.xfrac.specs.Divisors.{lcm}
 use Rattle.xfrac.specs.Fractions.{with_sign}
 use Rattle.xfrac.specs.Sums.{Totals, totals, joined, alone, with_part, upper, lower, part_above, part_below, denominator_of}
@@ -68,8 +69,11 @@ joined_split t f s m d k n same pn is pd goes =
 pub joined_stands : JoinedStandsForBoth
 joined_stands a b xs ys pa pb is also = joined_totals xs ys a b is also pa pb
 
+pub any_stands : AloneStandsForAny
+any_stands x has = sym (totals-single x has)
+
 pub alone_stands : AloneStandsForOne
-alone_stands (Fin f) is = sym (totals-single (Fin f) is.positive)
-alone_stands PosInf is = sym (totals-single PosInf (omega arith))
-alone_stands NegInf is = sym (totals-single NegInf (omega arith))
-alone_stands NaN is = sym (totals-single NaN (omega arith))
+alone_stands (Fin f) is = any_stands (Fin f) is.positive
+alone_stands PosInf is = any_stands PosInf (omega arith)
+alone_stands NegInf is = any_stands NegInf (omega arith)
+alone_stands NaN is = any_stands NaN (omega arith)

@@ -12,13 +12,15 @@ use Rattle.xfrac.proofs.Totalling.{none_from_choice}
 use Rattle.std.proofs.lemmas.List.Elements.{All-weaker}
 use Rattle.std.proofs.lemmas.List.Sorted.{sum_by-IsPermutation, list_any-IsPermutation, length_permutation}
 use Rattle.std.proofs.Math.Nat.{div-mul_cancel, le_of_dvd, lt_of_mul-lt-mul_right, mul-lt-mul_of_pos_right, le-mul_of_pos_right}
+use Rattle.xfrac.specs.AnySize.{AnySumIgnoresOrder, AnyTotalsNeverFall, AnyPartOverflowsWhole, AreLowest, EqualLowestIsSame, LessOfAnyIsTransitive, LowestHasDenominator, NumberIsLowest, WholeIsLowest}
 use Rattle.xfrac.specs.Divisors.{gcd, lcm}
-use Rattle.xfrac.specs.Fractions.{IsReduced, limit, lowest}
+use Rattle.xfrac.specs.Fractions.{limit, lowest}
 use Rattle.xfrac.specs.Near.{is_near, difference, joint_magnitude}
 use Rattle.xfrac.specs.Order.{total_order}
 use Rattle.xfrac.specs.Kinds.{is_not_a_number, is_positive_infinity, is_negative_infinity}
 use Rattle.xfrac.specs.Sums.{Totals, totals, joined, fits, value_of, sum_of, multiple_of, above_over, below_over}
 use Rattle.xfrac.specs.Laws.{IsNumber}
+use Rattle.xfrac.specs.Reduced.{IsGcd-one}
 use Rattle.xfrac.specs.declared.value.XFrac.{XFrac}
 use Rattle.xfrac.specs.declared.value.XFrac.TheVariants.{Fin, PosInf, NegInf, NaN}
 use Rattle.xfrac.specs.Gcds.{product_positive, gcd-is, gcd_positive, reduced_apart, lowest_unique}
@@ -73,6 +75,26 @@ near_symmetric PosInf b = elim b as (λ v. is_near PosInf v ≡ is_near v PosInf
 near_symmetric NegInf b = elim b as (λ v. is_near NegInf v ≡ is_near v NegInf) [ Fin f ↦ refl | PosInf ↦ refl | NegInf ↦ refl | NaN ↦ refl ]
 near_symmetric NaN b = elim b as (λ v. is_near NaN v ≡ is_near v NaN) [ Fin f ↦ refl | PosInf ↦ refl | NegInf ↦ refl | NaN ↦ refl ]
 
+-- ---- which values are in lowest terms
+
+pub number_is_lowest : NumberIsLowest
+number_is_lowest (Fin f) h = record { positive = h.positive; lowest = h.lowest }
+number_is_lowest PosInf h = tt
+number_is_lowest NegInf h = tt
+number_is_lowest NaN h = tt
+
+pub whole_is_lowest : WholeIsLowest
+whole_is_lowest (Fin f) h = subst (λ d. AreLowest (unsigned_abs f.0) d) (sym h) (record { positive = omega arith; lowest = IsGcd-one (unsigned_abs f.0) })
+whole_is_lowest PosInf h = absurd h
+whole_is_lowest NegInf h = absurd h
+whole_is_lowest NaN h = absurd h
+
+pub lowest_has_denominator : LowestHasDenominator
+lowest_has_denominator (Fin f) h = h.positive
+lowest_has_denominator PosInf h = omega arith
+lowest_has_denominator NegInf h = omega arith
+lowest_has_denominator NaN h = omega arith
+
 -- ---- sums
 
 number_has_positive : (x : XFrac) → IsNumber x → HasPositive x
@@ -97,10 +119,13 @@ totals-permutation xs ys h p =
     (sym (list_any-IsPermutation is_not_a_number xs ys p))
     (length_permutation xs ys p)
 
-pub sum_permutation : (xs ys : List XFrac) → All IsNumber xs → IsPermutation xs ys → sum_of ys ≡ sum_of xs
-sum_permutation xs ys h p =
-    let e : totals ys ≡ totals xs = totals-permutation xs ys (positive_numbers xs h) p in
+pub any_sum_permutation : AnySumIgnoresOrder
+any_sum_permutation xs ys h p =
+    let e : totals ys ≡ totals xs = totals-permutation xs ys h p in
     ap (λ t. if fits t then Some (value_of t) else None) e
+
+pub sum_permutation : (xs ys : List XFrac) → All IsNumber xs → IsPermutation xs ys → sum_of ys ≡ sum_of xs
+sum_permutation xs ys h p = any_sum_permutation xs ys (positive_numbers xs h) p
 
 joined_above : (a b : Totals) → 0 < a.multiple → 0 < b.multiple → (a.multiple ≤ (joined a b).multiple) × (a.above + a.below ≤ (joined a b).above + (joined a b).below)
 joined_above a b h k =
@@ -114,11 +139,12 @@ totals_positive : (xs : List XFrac) → All HasPositive xs → 0 < (totals xs).m
 unfolding totals
 totals_positive xs h = multiple_positive xs h
 
-pub totals_grow : (xs ys : List XFrac) → All IsNumber xs → All IsNumber ys → ((totals xs).multiple ≤ (totals (xs ++ ys)).multiple) × ((totals xs).above + (totals xs).below ≤ (totals (xs ++ ys)).above + (totals (xs ++ ys)).below)
-totals_grow xs ys h k =
-    let p : All HasPositive xs = positive_numbers xs h in
-    let q : All HasPositive ys = positive_numbers ys k in
+pub any_totals_grow : AnyTotalsNeverFall
+any_totals_grow xs ys p q =
     subst (λ t. ((totals xs).multiple ≤ t.multiple) × ((totals xs).above + (totals xs).below ≤ t.above + t.below)) (sym (totals-append xs ys p q)) (joined_above (totals xs) (totals ys) (totals_positive xs p) (totals_positive ys q))
+
+pub totals_grow : (xs ys : List XFrac) → All IsNumber xs → All IsNumber ys → ((totals xs).multiple ≤ (totals (xs ++ ys)).multiple) × ((totals xs).above + (totals xs).below ≤ (totals (xs ++ ys)).above + (totals (xs ++ ys)).below)
+totals_grow xs ys h k = any_totals_grow xs ys (positive_numbers xs h) (positive_numbers ys k)
 
 unfit : (s t : Totals) → s.multiple ≤ t.multiple → s.above + s.below ≤ t.above + t.below → fits s ≡ false → fits t ≡ false
 unfit s t h k e =
@@ -136,10 +162,13 @@ unfit s t h k e =
 no_sum : (t : Totals) → (if fits t then Some (value_of t) else None) ≡ None → fits t ≡ false
 no_sum t e = none_from_choice (fits t) (value_of t) (sym e)
 
-pub part_overflows : (xs ys : List XFrac) → All IsNumber xs → All IsNumber ys → sum_of xs ≡ None → sum_of (xs ++ ys) ≡ None
-part_overflows xs ys h k e =
-    let grow = totals_grow xs ys h k in
+pub any_part_overflows : AnyPartOverflowsWhole
+any_part_overflows xs ys h k e =
+    let grow = any_totals_grow xs ys h k in
     cond-false _ _ _ (unfit (totals xs) (totals (xs ++ ys)) grow.0 grow.1 (no_sum (totals xs) e))
+
+pub part_overflows : (xs ys : List XFrac) → All IsNumber xs → All IsNumber ys → sum_of xs ≡ None → sum_of (xs ++ ys) ≡ None
+part_overflows xs ys h k e = any_part_overflows xs ys (positive_numbers xs h) (positive_numbers ys k) e
 
 -- ---- the order
 
@@ -153,7 +182,7 @@ from_less : (x y : ℤ) → int_lt x y ≡ true → int_cmp x y ≡ Less
 from_less x y h = cond-true _ _ _ h
 
 -- two signed numerators that are equal over each other's denominators, in lowest terms, are the same
-same_fractions : (n m : ℤ) (d e : ℕ) → IsReduced (unsigned_abs n) d → IsReduced (unsigned_abs m) e → n *ℤ pos e ≡ m *ℤ pos d → (n ≡ m) × (d ≡ e)
+same_fractions : (n m : ℤ) (d e : ℕ) → AreLowest (unsigned_abs n) d → AreLowest (unsigned_abs m) e → n *ℤ pos e ≡ m *ℤ pos d → (n ≡ m) × (d ≡ e)
 same_fractions (pos a) (pos b) d e h k eq =
     let both : (a ≡ b) × (d ≡ e) = lowest_unique a d b e h.positive k.positive h.lowest k.lowest (ap unsigned_abs eq) in
     (ap pos both.0, both.1)
@@ -172,25 +201,28 @@ same_fractions (negsuc a) (pos b) d e h k eq =
     apart : (x y : ℕ) → 0 < y → pos x ≡ neg_ℤ (pos y) → ⊥
     apart x y h e = omega (arith, ints)
 
-pub equal_numbers : (a b : XFrac) → IsNumber a → IsNumber b → total_order a b ≡ Equal → a ≡ b
-equal_numbers (Fin a) (Fin b) h k e =
+pub equal_lowest : EqualLowestIsSame
+equal_lowest (Fin a) (Fin b) h k e =
     let both : (a.0 ≡ b.0) × (a.1 ≡ b.1) = same_fractions a.0 b.0 a.1 b.1 h k (equal_ints _ _ e) in
     ap (λ n. Fin (n, a.1)) both.0 ∙ ap (λ d. Fin (b.0, d)) both.1
-equal_numbers (Fin a) PosInf h k e = absurd (cc)
-equal_numbers (Fin a) NegInf h k e = absurd (cc)
-equal_numbers (Fin a) NaN h k e = absurd (cc)
-equal_numbers PosInf (Fin b) h k e = absurd (cc)
-equal_numbers PosInf PosInf h k e = refl
-equal_numbers PosInf NegInf h k e = absurd (cc)
-equal_numbers PosInf NaN h k e = absurd (cc)
-equal_numbers NegInf (Fin b) h k e = absurd (cc)
-equal_numbers NegInf PosInf h k e = absurd (cc)
-equal_numbers NegInf NegInf h k e = refl
-equal_numbers NegInf NaN h k e = absurd (cc)
-equal_numbers NaN (Fin b) h k e = absurd (cc)
-equal_numbers NaN PosInf h k e = absurd (cc)
-equal_numbers NaN NegInf h k e = absurd (cc)
-equal_numbers NaN NaN h k e = refl
+equal_lowest (Fin a) PosInf h k e = absurd (cc)
+equal_lowest (Fin a) NegInf h k e = absurd (cc)
+equal_lowest (Fin a) NaN h k e = absurd (cc)
+equal_lowest PosInf (Fin b) h k e = absurd (cc)
+equal_lowest PosInf PosInf h k e = refl
+equal_lowest PosInf NegInf h k e = absurd (cc)
+equal_lowest PosInf NaN h k e = absurd (cc)
+equal_lowest NegInf (Fin b) h k e = absurd (cc)
+equal_lowest NegInf PosInf h k e = absurd (cc)
+equal_lowest NegInf NegInf h k e = refl
+equal_lowest NegInf NaN h k e = absurd (cc)
+equal_lowest NaN (Fin b) h k e = absurd (cc)
+equal_lowest NaN PosInf h k e = absurd (cc)
+equal_lowest NaN NegInf h k e = absurd (cc)
+equal_lowest NaN NaN h k e = refl
+
+pub equal_numbers : (a b : XFrac) → IsNumber a → IsNumber b → total_order a b ≡ Equal → a ≡ b
+equal_numbers a b h k e = equal_lowest a b (number_is_lowest a h) (number_is_lowest b k) e
 
 less_carries : (m d n e p f : ℕ) → 0 < d → 0 < e → 0 < f → m * e < n * d → n * f < p * e → m * f < p * d
 less_carries m d n e p f hd he hf h k =
@@ -231,34 +263,37 @@ less_fractions (pos a) (negsuc b) p d e f hd he hf h k = absurd (not_pos_below_n
 less_fractions (pos a) (pos b) (negsuc c) d e f hd he hf h k = absurd (not_pos_below_neg (b * f) (suc c * e) k)
 less_fractions (negsuc a) (pos b) (negsuc c) d e f hd he hf h k = absurd (not_pos_below_neg (b * f) (suc c * e) k)
 
-pub less_numbers : (a b c : XFrac) → IsNumber a → IsNumber b → IsNumber c → total_order a b ≡ Less → total_order b c ≡ Less → total_order a c ≡ Less
-less_numbers (Fin a) (Fin b) (Fin c) g h k e f =
+pub less_of_any : LessOfAnyIsTransitive
+less_of_any (Fin a) (Fin b) (Fin c) g h k e f =
     let x : int_lt (a.0 *ℤ pos b.1) (b.0 *ℤ pos a.1) ≡ true = less_ints (a.0 *ℤ pos b.1) (b.0 *ℤ pos a.1) e in
     let y : int_lt (b.0 *ℤ pos c.1) (c.0 *ℤ pos b.1) ≡ true = less_ints (b.0 *ℤ pos c.1) (c.0 *ℤ pos b.1) f in
-    from_less (a.0 *ℤ pos c.1) (c.0 *ℤ pos a.1) (less_fractions a.0 b.0 c.0 a.1 b.1 c.1 g.positive h.positive k.positive x y)
-less_numbers (Fin a) b PosInf g h k e f = refl
-less_numbers (Fin a) b NaN g h k e f = refl
-less_numbers (Fin a) (Fin b) NegInf g h k e f = absurd (cc)
-less_numbers (Fin a) PosInf (Fin c) g h k e f = absurd (cc)
-less_numbers (Fin a) PosInf NegInf g h k e f = absurd (cc)
-less_numbers (Fin a) NegInf c g h k e f = absurd (cc)
-less_numbers (Fin a) NaN (Fin c) g h k e f = absurd (cc)
-less_numbers (Fin a) NaN NegInf g h k e f = absurd (cc)
-less_numbers PosInf (Fin b) c g h k e f = absurd (cc)
-less_numbers PosInf PosInf c g h k e f = absurd (cc)
-less_numbers PosInf NegInf c g h k e f = absurd (cc)
-less_numbers PosInf NaN (Fin c) g h k e f = absurd (cc)
-less_numbers PosInf NaN PosInf g h k e f = absurd (cc)
-less_numbers PosInf NaN NegInf g h k e f = absurd (cc)
-less_numbers PosInf NaN NaN g h k e f = refl
-less_numbers NegInf b (Fin c) g h k e f = refl
-less_numbers NegInf b PosInf g h k e f = refl
-less_numbers NegInf b NaN g h k e f = refl
-less_numbers NegInf NegInf NegInf g h k e f = absurd (cc)
-less_numbers NegInf (Fin b) NegInf g h k e f = absurd (cc)
-less_numbers NegInf PosInf NegInf g h k e f = absurd (cc)
-less_numbers NegInf NaN NegInf g h k e f = absurd (cc)
-less_numbers NaN (Fin b) c g h k e f = absurd (cc)
-less_numbers NaN PosInf c g h k e f = absurd (cc)
-less_numbers NaN NegInf c g h k e f = absurd (cc)
-less_numbers NaN NaN c g h k e f = absurd (cc)
+    from_less (a.0 *ℤ pos c.1) (c.0 *ℤ pos a.1) (less_fractions a.0 b.0 c.0 a.1 b.1 c.1 g h k x y)
+less_of_any (Fin a) b PosInf g h k e f = refl
+less_of_any (Fin a) b NaN g h k e f = refl
+less_of_any (Fin a) (Fin b) NegInf g h k e f = absurd (cc)
+less_of_any (Fin a) PosInf (Fin c) g h k e f = absurd (cc)
+less_of_any (Fin a) PosInf NegInf g h k e f = absurd (cc)
+less_of_any (Fin a) NegInf c g h k e f = absurd (cc)
+less_of_any (Fin a) NaN (Fin c) g h k e f = absurd (cc)
+less_of_any (Fin a) NaN NegInf g h k e f = absurd (cc)
+less_of_any PosInf (Fin b) c g h k e f = absurd (cc)
+less_of_any PosInf PosInf c g h k e f = absurd (cc)
+less_of_any PosInf NegInf c g h k e f = absurd (cc)
+less_of_any PosInf NaN (Fin c) g h k e f = absurd (cc)
+less_of_any PosInf NaN PosInf g h k e f = absurd (cc)
+less_of_any PosInf NaN NegInf g h k e f = absurd (cc)
+less_of_any PosInf NaN NaN g h k e f = refl
+less_of_any NegInf b (Fin c) g h k e f = refl
+less_of_any NegInf b PosInf g h k e f = refl
+less_of_any NegInf b NaN g h k e f = refl
+less_of_any NegInf NegInf NegInf g h k e f = absurd (cc)
+less_of_any NegInf (Fin b) NegInf g h k e f = absurd (cc)
+less_of_any NegInf PosInf NegInf g h k e f = absurd (cc)
+less_of_any NegInf NaN NegInf g h k e f = absurd (cc)
+less_of_any NaN (Fin b) c g h k e f = absurd (cc)
+less_of_any NaN PosInf c g h k e f = absurd (cc)
+less_of_any NaN NegInf c g h k e f = absurd (cc)
+less_of_any NaN NaN c g h k e f = absurd (cc)
+
+pub less_numbers : (a b c : XFrac) → IsNumber a → IsNumber b → IsNumber c → total_order a b ≡ Less → total_order b c ≡ Less → total_order a c ≡ Less
+less_numbers a b c g h k e f = less_of_any a b c (number_has_positive a g) (number_has_positive b h) (number_has_positive c k) e f

@@ -1,3 +1,4 @@
+pub mod AnySize
 pub mod Arithmetic
 pub mod Divisors
 pub mod Formed

@@ -1,4 +1,5 @@
 //! Laws of numbers that users rely on. The functions do nothing: each stands for what its contract says.
+ghost use Rattle.xfrac.specs.AnySize.{AloneStandsForAny, AnyPartOverflowsWhole, AnySumIgnoresOrder, AnyTotalsNeverFall, EqualLowestIsSame, LessOfAnyIsTransitive, LowestHasDenominator, NumberIsLowest, WholeIsLowest};
 ghost use Rattle.xfrac.specs.Laws.{IsNumber, SumIsExact, SumIgnoresOrder, JoinedStandsForBoth, AloneStandsForOne, TotalsNeverFall, PartOverflowsWhole, NearIsSymmetric, EqualIsSame, OrderIsReflexive, OrderIsReversed, LessIsTransitive, LowestIsEqual, LowestIsReduced, LcmIsMultiple, LcmIsLeast, FloorIsWhole, FloorIsNotAbove, FloorIsGreatest, CeilingIsWhole, CeilingIsNotBelow, CeilingIsLeast};
 ghost use Rattle.xfrac.specs.NumberLaws.{NumberHasDenominator, ArithmeticIsNumber, FormedIsNumber, SumIsNumber, MeanIsNumber, CommonDenominatorIsPositive, NegatedIsNumber, MagnitudeIsNumber, FloorIsNumber, CeilingIsNumber, FractionIsFormed, WholeIsNumber, WholeIsFormed};
 
@@ -102,4 +103,26 @@ pub fn small_terms_are_formed()
     ensures fraction { FractionIsFormed }
     ensures whole { WholeIsFormed }
     ensures number { WholeIsNumber }
+{}
+
+/// Numbers and whole numbers of any size are in lowest terms, and what is in lowest terms has a denominator above 0.
+pub fn numbers_are_lowest()
+    ensures number { NumberIsLowest }
+    ensures whole { WholeIsLowest }
+    ensures denominator { LowestHasDenominator }
+{}
+
+/// The laws of sums hold of fractions of any size: a sum doesn't depend on the order of its list, one value's totals
+/// stand for it, and a part that overflows makes the whole overflow.
+pub fn sums_of_any_size()
+    ensures order { AnySumIgnoresOrder }
+    ensures alone { AloneStandsForAny }
+    ensures totals { AnyTotalsNeverFall }
+    ensures overflow { AnyPartOverflowsWhole }
+{}
+
+/// The order of `cmp_total` is total on fractions of any size that are in lowest terms.
+pub fn order_of_any_size()
+    ensures equal { EqualLowestIsSame }
+    ensures transitive { LessOfAnyIsTransitive }
 {}
