@@ -5,11 +5,14 @@ use Rattle.std.specs.Option.{ok_or, option_and_then}
 use Rattle.std.specs.Ordering.{is_gt, is_lt, ordering_reverse}
 use Rattle.std.specs.declared.cmp.Ordering.{Ordering}
 use Rattle.std.specs.declared.cmp.Ordering.TheVariants.{Less, Equal, Greater}
-use Rattle.std.proofs.lemmas.List.Elements.{All-nil}
+use Rattle.std.proofs.lemmas.List.Elements.{All-nil, All-weaker}
+use Rattle.std.specs.List.Sorted.{IsPermutation}
 use Rattle.std.proofs.lemmas.List.Sorted.{length_permutation}
 use Rattle.xfrac.specs.Arithmetic.{quotient, whole_number}
+use Rattle.xfrac.specs.AnySize.{AnySumIgnoresOrder, EqualLowestIsSame, InLowestTerms, LessOfAnyIsTransitive, LowestHasDenominator}
 use Rattle.xfrac.specs.Kinds.{is_not_a_number}
 use Rattle.xfrac.specs.Laws.{IsNumber, EqualIsSame, LessIsTransitive, OrderIsReversed, SumIgnoresOrder}
+use Rattle.xfrac.specs.NumberLaws.{HasDenominator}
 use Rattle.xfrac.specs.Order.{compares, total_order}
 use Rattle.xfrac.specs.Sums.{sum_of}
 use Rattle.xfrac.specs.declared.value.CompareOp.TheVariants.{Lt, Gt}
@@ -17,10 +20,10 @@ use Rattle.xfrac.specs.declared.value.NumFault.TheVariants.{Overflow}
 use Rattle.xfrac.specs.declared.value.XFrac.{XFrac}
 use Rattle.xfrac.specs.declared.value.XFrac.TheVariants.{Fin, PosInf, NegInf, NaN}
 use Rattle.window_fn.specs.Aggregates.{ascending, greater, inserted, interpolated, is_before, lesser, overflow_alone, quantile_of}
-use Rattle.window_fn.specs.Laws.{OrderDoesntMatter}
+use Rattle.window_fn.specs.Laws.{AreAggregatedAlike, OrderDoesntMatter, OrderOfAnyDoesntMatter}
 use Rattle.window_fn.proofs.Insertion.{IsStrictOrder, insertion_is_orderless}
 use Rattle.window_fn.proofs.Permuting.{IsOrderless, fold-permutation}
-use Rattle.window_fn.proofs.Ranking.{before_is_strict, equal_is, less_is, ranked-one_way}
+use Rattle.window_fn.proofs.Ranking.{IsOrdered, before_in_order, equal_is, less_is, lowest_ordered, numbers_ordered, ranked-one_way}
 
 -- the later of two items in an order
 abbrev pub picked : {A : Type 0} → (A → A → Bool) → A → A → A
@@ -102,12 +105,15 @@ lesser_picks NegInf (Fin b) = refl
 lesser_picks NegInf PosInf = refl
 lesser_picks NegInf NegInf = refl
 
-pub after_is_strict : EqualIsSame → OrderIsReversed → LessIsTransitive → IsStrictOrder IsNumber is_after
-after_is_strict equal reversed transitive = record {
+after_in_order : (P : XFrac → Type 0) → IsOrdered P → OrderIsReversed → IsStrictOrder P is_after
+after_in_order P o reversed = record {
   one_way = λ x y px py h. ranked-one_way false false (total_order y x) (total_order x y) (reversed y x) h;
-  carries = λ x y z px py pz h k. ap is_lt (transitive z y x pz py px (less_is (total_order z y) k) (less_is (total_order y x) h));
-  same = λ x y px py h k. equal x y px py (equal_is (total_order x y) (total_order y x) (reversed x y) k h);
+  carries = λ x y z px py pz h k. ap is_lt (o.less z y x pz py px (less_is (total_order z y) k) (less_is (total_order y x) h));
+  same = λ x y px py h k. o.equal x y px py (equal_is (total_order x y) (total_order y x) (reversed x y) k h);
 }
+
+pub after_is_strict : EqualIsSame → OrderIsReversed → LessIsTransitive → IsStrictOrder IsNumber is_after
+after_is_strict equal reversed transitive = after_in_order IsNumber (numbers_ordered equal transitive) reversed
 
 orderless_like : {A : Type 0} (P : A → Type 0) (f g : A → A → A) → ((m x : A) → f m x ≡ g m x) → IsOrderless P P g → IsOrderless P P f
 orderless_like P f g same o = record {
@@ -125,18 +131,27 @@ quantile_alike : (q : XFrac) (xs ys : List XFrac) → ascending ys ≡ ascending
 quantile_alike q xs ys e =
     ap (λ l. cond (is_not_a_number q) (Ok NaN) (cond (compares Lt q (whole_number 0)) (Ok NegInf) (cond (compares Gt q (whole_number 1)) (Ok PosInf) (overflow_alone (interpolated q l))))) e
 
-pub aggregated_alike : EqualIsSame → OrderIsReversed → LessIsTransitive → SumIgnoresOrder → OrderDoesntMatter
-aggregated_alike equal reversed transitive sums xs ys numbers moved =
-    let before = before_is_strict equal reversed transitive in
-    let after = after_is_strict equal reversed transitive in
-    let sum = sums xs ys numbers moved in
+-- of values of a kind whose order is strict, and whose sums don't depend on their order, nothing does
+ordered_alike : (P : XFrac → Type 0) → P NaN → IsOrdered P → OrderIsReversed → ((xs ys : List XFrac) → All P xs → IsPermutation xs ys → sum_of ys ≡ sum_of xs) → (xs ys : List XFrac) → All P xs → IsPermutation xs ys → AreAggregatedAlike xs ys
+ordered_alike P none o reversed sums xs ys all moved =
+    let before = before_in_order P o reversed in
+    let after = after_in_order P o reversed in
+    let sum = sums xs ys all moved in
     let long = length_permutation xs ys moved in
-    let sorted = fold-permutation IsNumber (All IsNumber) (inserted is_before) (insertion_is_orderless IsNumber is_before before) xs ys [] (All-nil IsNumber) numbers moved in
+    let sorted = fold-permutation P (All P) (inserted is_before) (insertion_is_orderless P is_before before) xs ys [] (All-nil P) all moved in
     record {
-      sum = ap (λ o. ok_or o Overflow) sum;
-      avg = ap (λ o. ok_or o Overflow) (mean_from (sum_of ys) (sum_of xs) (length ys) (length xs) sum long);
+      sum = ap (λ v. ok_or v Overflow) sum;
+      avg = ap (λ v. ok_or v Overflow) (mean_from (sum_of ys) (sum_of xs) (length ys) (length xs) sum long);
       count = ap whole_number long;
-      max = fold-permutation IsNumber IsNumber greater (orderless_like IsNumber greater (picked is_before) (greater_picks reversed) (picking_is_orderless IsNumber is_before before)) xs ys NaN tt numbers moved;
-      min = fold-permutation IsNumber IsNumber lesser (orderless_like IsNumber lesser (picked is_after) lesser_picks (picking_is_orderless IsNumber is_after after)) xs ys NaN tt numbers moved;
+      max = fold-permutation P P greater (orderless_like P greater (picked is_before) (greater_picks reversed) (picking_is_orderless P is_before before)) xs ys NaN none all moved;
+      min = fold-permutation P P lesser (orderless_like P lesser (picked is_after) lesser_picks (picking_is_orderless P is_after after)) xs ys NaN none all moved;
       quantiles = λ q. quantile_alike q xs ys sorted;
     }
+
+pub aggregated_alike : EqualIsSame → OrderIsReversed → LessIsTransitive → SumIgnoresOrder → OrderDoesntMatter
+aggregated_alike equal reversed transitive sums = ordered_alike IsNumber tt (numbers_ordered equal transitive) reversed sums
+
+pub any_alike : EqualLowestIsSame → OrderIsReversed → LessOfAnyIsTransitive → LowestHasDenominator → AnySumIgnoresOrder → OrderOfAnyDoesntMatter
+any_alike equal reversed transitive has sums =
+    ordered_alike InLowestTerms tt (lowest_ordered equal has transitive) reversed
+    (λ xs ys all moved. sums xs ys (All-weaker InLowestTerms HasDenominator has xs all) moved)

@@ -12,6 +12,7 @@ use Rattle.std.proofs.lemmas.Slice.Zip.{length-zip}
 use Rattle.func_table.specs.declared.table.Window.{Window}
 use Rattle.func_table.specs.declared.table.Window.TheVariants.{Rate, Increase, Delta, Irate, Idelta, Deriv, PredictLinear, Changes, Resets, AvgOver, MinOver, MaxOver, SumOver, CountOver, StdvarOver, QuantileOver, LastOver, PresentOver}
 use Rattle.ticks.specs.declared.moment.Ms.{Ms}
+use Rattle.xfrac.specs.AnySize.{NumberIsLowest, WholeIsLowest}
 use Rattle.xfrac.specs.Arithmetic.{arithmetic, mean_of, whole_number}
 use Rattle.xfrac.specs.Forming.{floor_of, formed as formed_of, negated}
 use Rattle.xfrac.specs.Fractions.{limit, lowest}
@@ -33,7 +34,7 @@ use Rattle.window_fn.specs.declared.increases.Layout.{Layout}
 use Rattle.window_fn.specs.declared.slopes.Moments.{Moments}
 use Rattle.window_fn.specs.Aggregates.{ascending, at_rank, average, count_of, greater, greatest, inserted, interpolated, is_before, least, lesser, low_share, overflow_alone, place_of, quantile_of, squared_distance, total, total_of_answers, variance, weighed, weighed_at}
 use Rattle.window_fn.specs.Increases.{at_most, carried, change, covered, eleven_tenths, extrapolated, increase, layout_of, lost, mean_gap, rate, start_way, way_back, way_to_edge, way_to_zero}
-use Rattle.window_fn.specs.NumberLaws.{AggregateIsAlike, AggregateIsNumber, AreAggregatedAlike, AreAggregatedToNumbers, IsNumberOrWhole, SecondsAreNumbers, WindowIsAlike, WindowIsNumber}
+use Rattle.window_fn.specs.NumberLaws.{AggregateIsAlike, AggregateIsNumber, AreAggregatedAlike, AreAggregatedToNumbers, IsNumberOrWhole, SecondsAreNumbers, ValueIsLowest, WindowIsAlike, WindowIsNumber}
 use Rattle.window_fn.specs.Points.{begun, ended, ended_before, first_of, in_seconds, last_but_one, last_of, milliseconds, neighbours}
 use Rattle.window_fn.specs.Slopes.{both, cross, derivative, extended_line, intercept_of, is_finite, moments_of, prediction, products, rise_in, slope_by_seconds, slope_of, spans, squares, value_after}
 use Rattle.window_fn.specs.Steps.{changes, differ, instant_rate, last_difference, last_rise, resets}
@@ -522,3 +523,9 @@ module _ (fraction : FractionIsFormed) (formed : FormedIsNumber) where
 
   pub seconds_are : SecondsAreNumbers
   seconds_are t few = (in_thousandths t few, subst (λ r. IfOk r IsNumber) (in_thousandths t few) (formed Div (milliseconds t) (whole_number 1000) (λ is. cc is) (omega arith) (omega arith)))
+
+-- ---- numbers and whole numbers of any size
+
+pub value_is_lowest : NumberIsLowest → WholeIsLowest → ValueIsLowest
+value_is_lowest number whole v (inl is) = number v is
+value_is_lowest number whole v (inr is) = whole v is

@@ -3,6 +3,7 @@ use Rattle.std.proofs.Common.{◌≡◌, Bool, true, false, cond, refl, ap}
 use Rattle.std.specs.Ordering.{is_lt, ordering_reverse}
 use Rattle.std.specs.declared.cmp.Ordering.{Ordering}
 use Rattle.std.specs.declared.cmp.Ordering.TheVariants.{Less, Equal, Greater}
+use Rattle.xfrac.specs.AnySize.{EqualLowestIsSame, InLowestTerms, LessOfAnyIsTransitive, LowestHasDenominator}
 use Rattle.xfrac.specs.Kinds.{is_not_a_number}
 use Rattle.xfrac.specs.Laws.{IsNumber, EqualIsSame, OrderIsReversed, LessIsTransitive}
 use Rattle.xfrac.specs.Order.{total_order}
@@ -71,9 +72,23 @@ same_by_tests NegInf (Fin b) f r h k = absurd (cc)
 same_by_tests NegInf PosInf f r h k = absurd (cc)
 same_by_tests NegInf NegInf f r h k = refl
 
-pub before_is_strict : EqualIsSame → OrderIsReversed → LessIsTransitive → IsStrictOrder IsNumber is_before
-before_is_strict equal reversed transitive = record {
+-- on values of a kind the total order is strict, as it is on numbers and on fractions in lowest terms
+pub record IsOrdered (P : XFrac → Type 0) : Type 0 where
+  pub equal : (a b : XFrac) → P a → P b → total_order a b ≡ Equal → a ≡ b
+  pub less : (a b c : XFrac) → P a → P b → P c → total_order a b ≡ Less → total_order b c ≡ Less → total_order a c ≡ Less
+
+pub numbers_ordered : EqualIsSame → LessIsTransitive → IsOrdered IsNumber
+numbers_ordered equal transitive = record { equal = equal; less = transitive }
+
+pub lowest_ordered : EqualLowestIsSame → LowestHasDenominator → LessOfAnyIsTransitive → IsOrdered InLowestTerms
+lowest_ordered equal has transitive = record { equal = equal; less = λ a b c pa pb pc. transitive a b c (has a pa) (has b pb) (has c pc) }
+
+pub before_in_order : (P : XFrac → Type 0) → IsOrdered P → OrderIsReversed → IsStrictOrder P is_before
+before_in_order P o reversed = record {
   one_way = λ x y px py h. ranked-one_way (is_not_a_number x) (is_not_a_number y) (total_order x y) (total_order y x) (reversed x y) h;
-  carries = λ x y z px py pz h k. ranked-carries (is_not_a_number x) (is_not_a_number y) (is_not_a_number z) (total_order x y) (total_order y z) (total_order x z) (transitive x y z px py pz) h k;
-  same = λ x y px py h k. same_by_tests x y (equal x y px py) (reversed x y) h k;
+  carries = λ x y z px py pz h k. ranked-carries (is_not_a_number x) (is_not_a_number y) (is_not_a_number z) (total_order x y) (total_order y z) (total_order x z) (o.less x y z px py pz) h k;
+  same = λ x y px py h k. same_by_tests x y (o.equal x y px py) (reversed x y) h k;
 }
+
+pub before_is_strict : EqualIsSame → OrderIsReversed → LessIsTransitive → IsStrictOrder IsNumber is_before
+before_is_strict equal reversed transitive = before_in_order IsNumber (numbers_ordered equal transitive) reversed

@@ -3,6 +3,7 @@ use Rattle.std.specs.Prelude.{◌≡◌, Bool, true, false, List, [], ◌∷◌}
 use Rattle.std.specs.List.{All, Contains}
 use Rattle.std.specs.List.Sorted.{IsPermutation, IsSortedBy}
 use Rattle.std.specs.Ordering.{is_lt}
+use Rattle.xfrac.specs.AnySize.{InLowestTerms}
 use Rattle.xfrac.specs.Arithmetic.{arithmetic, whole_number}
 use Rattle.xfrac.specs.Laws.{IsNumber}
 use Rattle.xfrac.specs.Order.{total_order}
@@ -58,6 +59,10 @@ pub record AreAggregatedAlike (xs ys : List XFrac) : Type 0 where
 -- the order of the values doesn't matter
 abbrev pub OrderDoesntMatter : Type 0
 OrderDoesntMatter = (xs ys : List XFrac) → All IsNumber xs → IsPermutation xs ys → AreAggregatedAlike xs ys
+
+-- nor does it of fractions of any size in lowest terms
+abbrev pub OrderOfAnyDoesntMatter : Type 0
+OrderOfAnyDoesntMatter = (xs ys : List XFrac) → All InLowestTerms xs → IsPermutation xs ys → AreAggregatedAlike xs ys
 
 -- the greatest of some values: one of them that none comes after, in the order that has NaN before all others
 pub record IsGreatest (values : List XFrac) (most : XFrac) : Type 0 where

@@ -1,6 +1,7 @@
 -- Which answers of functions over windows, of aggregations and of times in seconds are numbers. (This project's own.)
 use Rattle.std.specs.Prelude.{◌≡◌, ◌≤◌, ◌⊎◌, ℤ, unsigned_abs, List, length, Ok, IfOk, IfSome}
 use Rattle.std.specs.List.{All}
+use Rattle.xfrac.specs.AnySize.{InLowestTerms}
 use Rattle.xfrac.specs.Fractions.{limit, lowest}
 use Rattle.xfrac.specs.Laws.{IsNumber, IsWhole}
 use Rattle.xfrac.specs.declared.value.XFrac.{XFrac}
@@ -35,6 +36,10 @@ WindowIsNumber =
 -- a number, or a whole number of any size, as a count is
 abbrev pub IsNumberOrWhole : XFrac → Type 0
 IsNumberOrWhole v = IsNumber v ⊎ IsWhole v
+
+-- such a value is in lowest terms
+abbrev pub ValueIsLowest : Type 0
+ValueIsLowest = (v : XFrac) → IsNumberOrWhole v → InLowestTerms v
 
 -- of such values, however many they are, the aggregations and the functions over windows give such values
 pub record AreAggregatedAlike (values : List XFrac) : Type 0 where

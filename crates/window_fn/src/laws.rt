@@ -1,10 +1,11 @@
 //! Laws of functions over windows that users rely on. The functions do nothing: each stands for what its contract says.
-ghost use Rattle.window_fn.specs.Laws.{AscendingIsRanked, GreatestIsGreatest, IncreaseWithoutResets, LeastIsLeast, OneValueStays, OrderDoesntMatter, TimesDontMatter};
-ghost use Rattle.window_fn.specs.NumberLaws.{AggregateIsAlike, AggregateIsNumber, SecondsAreNumbers, WindowIsAlike, WindowIsNumber};
+ghost use Rattle.window_fn.specs.Laws.{AscendingIsRanked, GreatestIsGreatest, IncreaseWithoutResets, LeastIsLeast, OneValueStays, OrderDoesntMatter, OrderOfAnyDoesntMatter, TimesDontMatter};
+ghost use Rattle.window_fn.specs.NumberLaws.{AggregateIsAlike, AggregateIsNumber, SecondsAreNumbers, ValueIsLowest, WindowIsAlike, WindowIsNumber};
 
 use xfrac::laws::{
-    arithmetic_gives_numbers, order_is_total, rounding_gives_numbers, small_terms_are_formed,
-    sum_ignores_order, sums_are_numbers,
+    arithmetic_gives_numbers, numbers_are_lowest, order_is_total, order_of_any_size,
+    rounding_gives_numbers, small_terms_are_formed, sum_ignores_order, sums_are_numbers,
+    sums_of_any_size,
 };
 
 /// Without a reset a counter's increase is the plain difference, carried on to the window's edges.
@@ -29,6 +30,16 @@ pub fn order_doesnt_matter()
 {
     order_is_total();
     sum_ignores_order();
+}
+
+/// Nor do they where the values are fractions of any size in lowest terms.
+pub fn order_of_any_size_doesnt_matter()
+    ensures { OrderOfAnyDoesntMatter }
+{
+    order_is_total();
+    order_of_any_size();
+    numbers_are_lowest();
+    sums_of_any_size();
 }
 
 /// The greatest value is one of the values that none comes after, the least one that none is below.
@@ -64,6 +75,13 @@ pub fn windows_give_numbers_or_wholes()
     arithmetic_gives_numbers();
     sums_are_numbers();
     rounding_gives_numbers();
+}
+
+/// Numbers and whole numbers of any size are in lowest terms.
+pub fn values_are_lowest()
+    ensures { ValueIsLowest }
+{
+    numbers_are_lowest();
 }
 
 /// A time in milliseconds, within 10^30, has a number of seconds.
