@@ -1,4 +1,5 @@
 pub mod Histograms
+pub mod Lowest
 pub mod Operations
 pub mod Rows
 pub mod Selected

@@ -10,6 +10,7 @@ use Rattle.step_table.specs.declared.step.Step.{Step}
 use Rattle.step_table.specs.declared.windows.WindowRow.{WindowRow}
 use Rattle.ticks.specs.declared.moment.Ms.{Ms}
 use Rattle.window_fn.specs.NumberLaws.{IsNumberOrWhole}
+use Rattle.xfrac.specs.AnySize.{InLowestTerms}
 use Rattle.xfrac.specs.Fractions.{limit}
 use Rattle.xfrac.specs.Laws.{IsNumber}
 use Rattle.xfrac.specs.declared.value.Held.{Held}
@@ -67,6 +68,10 @@ GivesValues (given.Selected selection) = AllByRecursion (λ (row : Stamped). IsN
 GivesValues (given.Windows windows) = AllByRecursion (λ (row : WindowRow). AllByRecursion IsNumberOrWhole row.values) windows.rows
 GivesValues (given.Words text) = ⊤
 
+-- a step whose values are fractions in lowest terms, of any size
+abbrev pub HasLowestTerms : Step → Type 0
+HasLowestTerms step = AllByRecursion (λ (row : Row). InLowestTerms row.value) step.table.rows
+
 -- ---- the laws
 
 -- over samples that are numbers, what an expression whose numbers are numbers gives at any instant has such values
@@ -75,6 +80,10 @@ MeaningGivesValues = (asked : Asked) (e : Expr) (t : ℤ) → HaveSamples asked.
 
 abbrev pub MeaningHasValues : Type 0
 MeaningHasValues = (asked : Asked) (e : Expr) (t : ℤ) → HaveSamples asked.samples → AllByRecursion IsNumber (numbers_of e) → HasValues (meaning_step asked e t)
+
+-- so each value of its step is in lowest terms
+abbrev pub MeaningHasLowestTerms : Type 0
+MeaningHasLowestTerms = (asked : Asked) (e : Expr) (t : ℤ) → HaveSamples asked.samples → AllByRecursion IsNumber (numbers_of e) → HasLowestTerms (meaning_step asked e t)
 
 -- a value whose numerator is within the limit of numbers
 abbrev pub IsWithinLimit : XFrac → Type 0

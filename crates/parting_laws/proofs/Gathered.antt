@@ -32,12 +32,12 @@ use Rattle.step_table.specs.declared.step.Row.{Row}
 use Rattle.step_table.specs.declared.step.Step.{Step}
 use Rattle.step_table.specs.declared.windows.WindowRow.{WindowRow}
 use Rattle.step_batch.specs.LentWindows.{WindowsAt}
-use Rattle.step_cells.specs.CellLaws.{Agree, HaveNumbers, PartialsAgree, has_overflow, rows_of_all}
+use Rattle.step_cells.specs.CellLaws.{Agree, HaveLowestTerms, PartialsAgree, has_overflow, rows_of_all}
 use Rattle.step_cells.specs.InOrder.{none_share}
 use Rattle.step_cells.specs.Joined.{joined_partials, joined_rows}
 use Rattle.step_cells.specs.Owed.{is_partial, partial_cells, row_cells, value_cell, window_cell, windows_at}
 use Rattle.ticks.specs.declared.moment.Ms.{Ms}
-use Rattle.xfrac.specs.Laws.{IsNumber}
+use Rattle.xfrac.specs.AnySize.{InLowestTerms}
 use Rattle.promql_meaning.specs.Aggregations.{aggregated, group_outcome, keyed_values}
 use Rattle.promql_meaning.specs.Givens.{marked, step_of}
 use Rattle.promql_meaning.specs.Laws.{MeaningIsWellFormed}
@@ -272,12 +272,12 @@ module _ (unions : UnionHasMarks) (note_unions : UnionHasNotes) (sets : UnionIsS
       over_flows : (s : Step) → has_overflow s ≡ true → has_overflow (marked c s) ≡ true
       over_flows s h = unions s.marks c Overflow ∙ ap (λ b. b || has_mark c.fatal Overflow) h
 
-  pub groups_gathered : PartialsAgree → (f : Aggregate) (by : Grouping) → IsTrue (is_partial f) → HaveNumbers whole.table.rows
+  pub groups_gathered : PartialsAgree → (f : Aggregate) (by : Grouping) → IsTrue (is_partial f) → HaveLowestTerms whole.table.rows
       → Agree (marked (marks_of_none asked e at) (joined_partials f (map (owed_at (part.Partial f by) asked e at) called))) (summed f by whole)
   groups_gathered law f by is numbers =
       let steps : List StepAt = map step_given called in
       let rows : joined_rows (map row_cells steps) ≡ step_of_rows whole.table.rows together = ap joined_rows (map-map row_cells step_given called) ∙ rows_together in
-      let plain : Agree (joined_partials f (map (partial_cells f by) steps)) (summed f by (joined_rows (map row_cells steps))) = law f by zero_number [] steps is none_shared (all_shuffled (λ (row : Row). IsNumber row.value) whole.table.rows (rows_of_all steps) all_turned numbers) in
+      let plain : Agree (joined_partials f (map (partial_cells f by) steps)) (summed f by (joined_rows (map row_cells steps))) = law f by zero_number [] steps is none_shared (all_shuffled (λ (row : Row). InLowestTerms row.value) whole.table.rows (rows_of_all steps) all_turned numbers) in
       let cells : joined_partials f (map (partial_cells f by) steps) ≡ joined_partials f (map (owed_at (part.Partial f by) asked e at) called) = ap (joined_partials f) (map-map (partial_cells f by) step_given called) in
       subst (λ (s : Step). Agree (marked empty.marks (joined_partials f (map (owed_at (part.Partial f by) asked e at) called))) s) (marked_aggregation f by is)
       (agree_beside empty.marks (joined_partials f (map (owed_at (part.Partial f by) asked e at) called)) (summed f by (step_of_rows whole.table.rows together))

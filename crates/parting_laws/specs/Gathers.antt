@@ -13,7 +13,7 @@ use Rattle.step_table.specs.declared.cells.PartKind.TheVariants as part
 use Rattle.step_table.specs.declared.marks.Marks.{Marks}
 use Rattle.step_table.specs.declared.step.Step.{Step}
 use Rattle.step_batch.specs.LentWindows.{WindowsAt}
-use Rattle.step_cells.specs.CellLaws.{Agree, HaveNumbers}
+use Rattle.step_cells.specs.CellLaws.{Agree, HaveLowestTerms}
 use Rattle.step_cells.specs.Joined.{joined_partials, joined_rows, joined_windows}
 use Rattle.step_cells.specs.Owed.{is_partial, windows_at}
 use Rattle.ticks.specs.declared.moment.Ms.{Ms}
@@ -86,7 +86,7 @@ RowsAreGathered =
     → MayLeaveOut e wanted
     → gathered_rows asked e (filter wanted engines) at ≡ meaning_step asked e at.0
 
--- of an aggregation over one, whose values are numbers, it agrees with that: both are one step, or both have the mark Overflow
+-- of an aggregation over one, whose values are in lowest terms, it agrees with that: both are one step, or both have the mark Overflow
 abbrev pub GroupsAreGathered : Type 0
 GroupsAreGathered =
     (engines : List Engine) (asked : Asked) (e inner : Expr) (f : Aggregate) (by : Grouping) (wanted : Engine → Bool) (at : Ms)
@@ -95,7 +95,7 @@ GroupsAreGathered =
     → MayLeaveOut inner wanted
     → e.node ≡ node.Aggregate f by (inner ∷ [])
     → IsTrue (is_partial f)
-    → HaveNumbers (meaning_step asked inner at.0).table.rows
+    → HaveLowestTerms (meaning_step asked inner at.0).table.rows
     → Agree (gathered_groups f by asked inner (filter wanted engines) at) (meaning_step asked e at.0)
 
 -- of a range selector they are its windows

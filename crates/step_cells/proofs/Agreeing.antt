@@ -17,7 +17,8 @@ use Rattle.label_set.specs.Labels.{labels_cmp}
 use Rattle.label_set.specs.LabelOrder.{labels_cmp_ties}
 use Rattle.label_set.specs.declared.rules.Grouping.{Grouping}
 use Rattle.xfrac.specs.Arithmetic.{quotient, whole_number}
-use Rattle.xfrac.specs.Laws.{IsNumber, JoinedStandsForBoth, LcmIsLeast, PartOverflowsWhole}
+use Rattle.xfrac.specs.AnySize.{AnyPartOverflowsWhole, InLowestTerms}
+use Rattle.xfrac.specs.Laws.{JoinedStandsForBoth, LcmIsLeast}
 use Rattle.xfrac.specs.Sums.{fits, totals, value_of}
 use Rattle.xfrac.specs.declared.value.NumFault.TheVariants as fault
 use Rattle.xfrac.specs.declared.value.XFrac.{XFrac}
@@ -33,7 +34,7 @@ use Rattle.step_table.specs.Timed.{StepAt}
 use Rattle.step_table.specs.Shuffles.{Shuffled}
 use Rattle.step_table.specs.Shuffling.{mapped_shuffled}
 use Rattle.window_fn.specs.Aggregates.{total}
-use Rattle.window_fn.specs.Laws.{OrderDoesntMatter}
+use Rattle.window_fn.specs.Laws.{OrderOfAnyDoesntMatter}
 use Rattle.step_table.specs.Unions.{set_of, united, with_fatal}
 use Rattle.step_table.specs.declared.cells.Cell.{Cell}
 use Rattle.step_table.specs.declared.cells.StepCells.{StepCells}
@@ -46,14 +47,14 @@ use Rattle.promql_meaning.specs.Aggregations.{aggregate_of, aggregated, group_ou
 use Rattle.promql_meaning.specs.Givens.{no_marks}
 use Rattle.promql_meaning.specs.Outcomes.{with_notes}
 use Rattle.promql_meaning.specs.Ranks.{kept_labels}
-use Rattle.step_cells.specs.CellLaws.{Agree, HaveNumbers, PartialsAgree, has_overflow, rows_of_all}
+use Rattle.step_cells.specs.CellLaws.{Agree, HaveLowestTerms, PartialsAgree, has_overflow, rows_of_all}
 use Rattle.step_cells.specs.Joined.{all_cells, cell_row, finished, finished_outcome, joined_partials, joined_rows, keyed_cells, marks_with}
 use Rattle.step_cells.specs.Owed.{lost_mark, partial_cell, partial_cells, row_cells, value_cell}
 use Rattle.step_cells.proofs.CellsUnder.{all_under, cell_pair, cells_all, items_append, cells_of_parts, flat_parts, keyed_rows, parts_have_cells, some_alike, values_under}
-use Rattle.step_cells.proofs.Merges.{AreNumbers, Extremes, HasCell, flat, group_finished, nothing_fits, part_unfit, sum_none}
+use Rattle.step_cells.proofs.Merges.{AllLowest, Extremes, HasCell, flat, group_finished, nothing_fits, part_unfit, sum_none}
 use Rattle.step_table.specs.Alike.{any_name, has_some}
 use Rattle.step_cells.proofs.SameNames.{each_under, groups_alike, names_alike}
-use Rattle.step_cells.proofs.Orders.{lone_rows, numbers_of, outcomes_shuffled}
+use Rattle.step_cells.proofs.Orders.{lone_rows, outcomes_shuffled, values_in_groups}
 use Rattle.step_cells.proofs.Asked.{IsAsked, asked}
 
 -- ---- which groups have a cell
@@ -256,19 +257,19 @@ module _ (f : Aggregate) (q : XFrac) (by : Grouping) where
   have_cells n [] a = tt
   have_cells n (s ∷ steps) a = (a.0.cells n, have_cells n steps a.1)
 
-  abbrev Numbers : List (Names × XFrac) → Type 0
-  Numbers vs = AllByRecursion (λ (p : Names × XFrac). IsNumber p.1) vs
+  abbrev Lowest : List (Names × XFrac) → Type 0
+  Lowest vs = AllByRecursion (λ (p : Names × XFrac). InLowestTerms p.1) vs
 
-  module _ (both : JoinedStandsForBoth) (overflows : PartOverflowsWhole) (least : LcmIsLeast) (order : OrderDoesntMatter) (unions : UnionHasMarks) (ends : Extremes) (is : IsAsked f) where
-    kept_value : (steps : List StepAt) → Numbers (flat (all_values steps)) → AllKept steps → (n : Names) → finished f (items_of (cells_all f (all_values steps)) n) ≡ aggregate_of f q (items_of (flat (all_values steps)) n)
+  module _ (both : JoinedStandsForBoth) (overflows : AnyPartOverflowsWhole) (least : LcmIsLeast) (order : OrderOfAnyDoesntMatter) (unions : UnionHasMarks) (ends : Extremes) (is : IsAsked f) where
+    kept_value : (steps : List StepAt) → Lowest (flat (all_values steps)) → AllKept steps → (n : Names) → finished f (items_of (cells_all f (all_values steps)) n) ≡ aggregate_of f q (items_of (flat (all_values steps)) n)
     kept_value steps numbers a n =
         let xss : List (List XFrac) = map (λ vs. items_of vs n) (all_values steps) in
         let whole : items_of (flat (all_values steps)) n ≡ flat (filter has_some xss) = values_under (all_values steps) n ∙ sym (flat_parts xss) in
         ap (finished f) (all_under f (all_values steps) n ∙ cells_of_parts f xss)
-        ∙ group_finished both overflows least ends f q (filter has_some xss) is (subst AreNumbers whole (each_under IsNumber (flat (all_values steps)) n numbers)) (parts_have_cells f xss (have_cells n steps a))
+        ∙ group_finished both overflows least ends f q (filter has_some xss) is (subst AllLowest whole (each_under InLowestTerms (flat (all_values steps)) n numbers)) (parts_have_cells f xss (have_cells n steps a))
         ∙ ap (aggregate_of f q) (sym whole)
 
-    kept_outcomes : (steps : List StepAt) → Numbers (flat (all_values steps)) → AllKept steps → map (finished_outcome f) (gathered (keyed_cells (all_cells (owed steps)))) ≡ map (group_outcome f q) (gathered (flat (all_values steps)))
+    kept_outcomes : (steps : List StepAt) → Lowest (flat (all_values steps)) → AllKept steps → map (finished_outcome f) (gathered (keyed_cells (all_cells (owed steps)))) ≡ map (group_outcome f q) (gathered (flat (all_values steps)))
     unfolding gathered
     kept_outcomes steps numbers a =
         let names : names_among (cells_all f (all_values steps)) ≡ names_among (flat (all_values steps)) =
@@ -283,10 +284,10 @@ module _ (f : Aggregate) (q : XFrac) (by : Grouping) where
     abbrev by_engines : List StepAt → Step
     by_engines steps = taken (marks_with no_marks (given steps)) (map (group_outcome f q) (gathered (flat (all_values steps))))
 
-    kept_joined : (steps : List StepAt) → Numbers (flat (all_values steps)) → AllKept steps → joined_partials f (owed steps) ≡ by_engines steps
+    kept_joined : (steps : List StepAt) → Lowest (flat (all_values steps)) → AllKept steps → joined_partials f (owed steps) ≡ by_engines steps
     kept_joined steps numbers a = (λ i. taken (same_marks no_marks steps a i) (kept_outcomes steps numbers a i))
 
-    whole : (label : List ℕ) (steps : List StepAt) → shared_names (keyed (rows_of_all steps)) ≡ [] → Numbers (flat (all_values steps)) → aggregated f by q label (joined_rows (given steps)) ≡ by_engines steps
+    whole : (label : List ℕ) (steps : List StepAt) → shared_names (keyed (rows_of_all steps)) ≡ [] → Lowest (flat (all_values steps)) → aggregated f by q label (joined_rows (given steps)) ≡ by_engines steps
     whole label steps shared numbers =
         let rows : filter_map cell_row (all_cells (given steps)) ≡ rows_of_all steps = rows_join steps in
         let w : Step = joined_rows (given steps) in
@@ -299,23 +300,23 @@ module _ (f : Aggregate) (q : XFrac) (by : Grouping) where
 
     -- ---- what is lost
 
-    turned_unfit : (xs ys : List XFrac) → AreNumbers xs → AreNumbers ys → fits (totals ys) ≡ false → fits (totals (xs ++ ys)) ≡ false
+    turned_unfit : (xs ys : List XFrac) → AllLowest xs → AllLowest ys → fits (totals ys) ≡ false → fits (totals (xs ++ ys)) ≡ false
     turned_unfit xs ys a b e =
-        let turned : total (xs ++ ys) ≡ total (ys ++ xs) = (order (ys ++ xs) (xs ++ ys) (All-from_recursion IsNumber (ys ++ xs) (both_of IsNumber ys xs b a)) (IsPermutation-append_comm ys xs)).sum in
+        let turned : total (xs ++ ys) ≡ total (ys ++ xs) = (order (ys ++ xs) (xs ++ ys) (All-from_recursion InLowestTerms (ys ++ xs) (both_of InLowestTerms ys xs b a)) (IsPermutation-append_comm ys xs)).sum in
         unfit_total (fits (totals (xs ++ ys))) (value_of (totals (xs ++ ys))) (turned ∙ ap (λ o. ok_or o fault.Overflow) (sum_none (ys ++ xs) (part_unfit both overflows least ys xs b a e)))
 
     lost_has : (s : StepAt) → IsLost f (values_in s) → has_mark (partial_cells f by s).marks.fatal Overflow ≡ true
     lost_has s l = with_fatal_has unions s.step.marks (filter_map (lost_mark f) (gathered (values_in s))) Overflow ∙ ap (λ b. has_mark s.step.marks.fatal Overflow || b) l.marks ∙ or_true (has_mark s.step.marks.fatal Overflow)
 
-    scan_steps : (steps : List StepAt) → Numbers (flat (all_values steps)) → AllKept steps ⊎ IsSpoilt steps
+    scan_steps : (steps : List StepAt) → Lowest (flat (all_values steps)) → AllKept steps ⊎ IsSpoilt steps
     scan_steps [] n = inl tt
-    scan_steps (s ∷ steps) n = by_both (engine_scan f is (values_in s)) (scan_steps steps (back_of (λ (p : Names × XFrac). IsNumber p.1) (values_in s) (flat (all_values steps)) n))
+    scan_steps (s ∷ steps) n = by_both (engine_scan f is (values_in s)) (scan_steps steps (back_of (λ (p : Names × XFrac). InLowestTerms p.1) (values_in s) (flat (all_values steps)) n))
       where
-        here : (names : Names) → AreNumbers (items_of (values_in s) names)
-        here names = each_under IsNumber (values_in s) names (front_of (λ (p : Names × XFrac). IsNumber p.1) (values_in s) (flat (all_values steps)) n)
+        here : (names : Names) → AllLowest (items_of (values_in s) names)
+        here names = each_under InLowestTerms (values_in s) names (front_of (λ (p : Names × XFrac). InLowestTerms p.1) (values_in s) (flat (all_values steps)) n)
 
-        there : (names : Names) → AreNumbers (items_of (flat (all_values steps)) names)
-        there names = each_under IsNumber (flat (all_values steps)) names (back_of (λ (p : Names × XFrac). IsNumber p.1) (values_in s) (flat (all_values steps)) n)
+        there : (names : Names) → AllLowest (items_of (flat (all_values steps)) names)
+        there names = each_under InLowestTerms (flat (all_values steps)) names (back_of (λ (p : Names × XFrac). InLowestTerms p.1) (values_in s) (flat (all_values steps)) n)
 
         parts : (names : Names) → items_of (values_in s ++ flat (all_values steps)) names ≡ items_of (values_in s) names ++ items_of (flat (all_values steps)) names
         parts names = items_append (values_in s) (flat (all_values steps)) names
@@ -352,15 +353,15 @@ module _ (f : Aggregate) (q : XFrac) (by : Grouping) where
         with_fatal_has unions (marks_with no_marks (owed steps)) (filter_map mark_of (map (finished_outcome f) (gathered (keyed_cells (all_cells (owed steps)))))) Overflow
         ∙ ap (λ b. b || list_any (is_at (mark_cmp Overflow)) (filter_map mark_of (map (finished_outcome f) (gathered (keyed_cells (all_cells (owed steps))))))) (s.marked no_marks)
 
-    pub agree : (label : List ℕ) (steps : List StepAt) → shared_names (keyed (rows_of_all steps)) ≡ [] → HaveNumbers (rows_of_all steps)
+    pub agree : (label : List ℕ) (steps : List StepAt) → shared_names (keyed (rows_of_all steps)) ≡ [] → HaveLowestTerms (rows_of_all steps)
         → Agree (joined_partials f (owed steps)) (aggregated f by q label (joined_rows (given steps)))
     agree label steps shared n =
-        let numbers : Numbers (flat (all_values steps)) = subst Numbers (values_join steps) (numbers_of by (rows_of_all steps) n) in
+        let numbers : Lowest (flat (all_values steps)) = subst Lowest (values_join steps) (values_in_groups InLowestTerms by (rows_of_all steps) n) in
         let same : aggregated f by q label (joined_rows (given steps)) ≡ by_engines steps = whole label steps shared numbers in
         ⊎_elim
         (λ a. inl (kept_joined steps numbers a ∙ sym same))
         (λ s. inr (spoilt_joined steps s, ap has_overflow same ∙ spoilt_whole steps s))
         (scan_steps steps numbers)
 
-pub partials : JoinedStandsForBoth → PartOverflowsWhole → LcmIsLeast → OrderDoesntMatter → UnionHasMarks → Extremes → PartialsAgree
+pub partials : JoinedStandsForBoth → AnyPartOverflowsWhole → LcmIsLeast → OrderOfAnyDoesntMatter → UnionHasMarks → Extremes → PartialsAgree
 partials both overflows least order unions ends f by arg label steps is shared n = agree f arg by both overflows least order unions ends (asked f is) label steps shared n

@@ -15,7 +15,7 @@ use Rattle.step_table.specs.declared.step.Step.{Step}
 use Rattle.step_table.specs.declared.windows.WindowRow.{WindowRow}
 use Rattle.xfrac.specs.Arithmetic.{whole_number}
 use Rattle.promql_meaning.specs.Aggregations.{aggregated}
-use Rattle.step_cells.specs.CellLaws.{Agree, CountsAreAdded, HaveNumbers, OneEngineAgrees, OneEnginesRows, OneEnginesWindows, PartialsAgree, rows_of_all}
+use Rattle.step_cells.specs.CellLaws.{Agree, CountsAreAdded, HaveLowestTerms, OneEngineAgrees, OneEnginesRows, OneEnginesWindows, PartialsAgree, rows_of_all}
 use Rattle.step_cells.specs.Joined.{cell_row, counted_in, joined_partials, window_under}
 use Rattle.step_cells.specs.Owed.{partial_cells, value_cell, window_cell}
 use Rattle.step_cells.specs.InOrder.{all_lone, none_share}
@@ -52,7 +52,7 @@ one_engine law f by arg label s is table numbers =
     let alone : rows_of_all (s ∷ []) ≡ s.step.table.rows = append-nil s.step.table.rows in
     subst (λ (z : Step). Agree (joined_partials f (partial_cells f by s ∷ [])) (aggregated f by arg label z)) (one_engines_rows s table)
     (law f by arg label (s ∷ []) is (ap (λ (rs : List Row). shared_names (keyed rs)) alone ∙ none_share (λ (row : Row). row.labels) s.step.table.rows table)
-    (subst HaveNumbers (sym alone) numbers))
+    (subst HaveLowestTerms (sym alone) numbers))
 
 -- ---- counts
 

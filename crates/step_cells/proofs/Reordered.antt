@@ -8,11 +8,12 @@ use Rattle.std.proofs.lemmas.List.Elements.{All-from_recursion, recursion_from_A
 use Rattle.func_table.specs.declared.table.Aggregate.{Aggregate}
 use Rattle.holders.specs.Joins.{both_of}
 use Rattle.xfrac.specs.Arithmetic.{whole_number}
-use Rattle.xfrac.specs.Laws.{IsNumber, JoinedStandsForBoth, LcmIsLeast, PartOverflowsWhole}
+use Rattle.xfrac.specs.AnySize.{AnyPartOverflowsWhole, InLowestTerms, NumberIsLowest}
+use Rattle.xfrac.specs.Laws.{IsNumber, JoinedStandsForBoth, LcmIsLeast}
 use Rattle.xfrac.specs.Sums.{Totals, totals, value_of}
 use Rattle.xfrac.specs.declared.value.NumFault.TheVariants.{Overflow}
 use Rattle.xfrac.specs.declared.value.XFrac.{XFrac}
-use Rattle.window_fn.specs.Laws.{AreAggregatedAlike, OrderDoesntMatter}
+use Rattle.window_fn.specs.Laws.{AreAggregatedAlike, OrderOfAnyDoesntMatter}
 use Rattle.step_table.specs.Alike.{same_sets}
 use Rattle.step_table.specs.Groups.{Names, gathered, items_of, names_among}
 use Rattle.step_table.specs.Laws.{UnionHasMarks, UnionHasNotes, UnionIsSet, has_mark, has_note}
@@ -34,7 +35,7 @@ use Rattle.step_table.specs.declared.windows.WindowRow.{WindowRow}
 use Rattle.promql_meaning.specs.Givens.{no_marks}
 use Rattle.step_cells.specs.CellLaws.{AreSound, HaveSets, IsSound, PartialsIgnoreOrder, RowsIgnoreOrder, WindowsIgnoreOrder}
 use Rattle.step_cells.specs.Joined.{all_cells, all_marks, cell_row, count_in_cell, counted_in, finished, finished_outcome, keyed_cells, marks_with, mean_in, merged, rows_in, totals_in_cell, value_in_cell, window_under, windows_in}
-use Rattle.step_cells.proofs.Merges.{AreNumbers, flat, mean_merged, total_merged}
+use Rattle.step_cells.proofs.Merges.{AllLowest, flat, lowest_numbers, mean_merged, total_merged}
 use Rattle.step_cells.proofs.SameNames.{all_kept, each_under, groups_alike}
 use Rattle.step_cells.proofs.Asked.{IsAsked, asked}
 
@@ -151,25 +152,25 @@ module _ (sets : UnionIsSet) (marks_of : UnionHasMarks) (notes_of : UnionHasNote
 
   -- ---- groups
 
-  module _ (both : JoinedStandsForBoth) (overflows : PartOverflowsWhole) (least : LcmIsLeast) (order : OrderDoesntMatter) where
-    values_sound : (cells : List Cell) → AllByRecursion IsSound cells → AreNumbers (filter_map value_in_cell cells)
+  module _ (both : JoinedStandsForBoth) (overflows : AnyPartOverflowsWhole) (least : LcmIsLeast) (order : OrderOfAnyDoesntMatter) (lowest : NumberIsLowest) where
+    values_sound : (cells : List Cell) → AllByRecursion IsSound cells → AllLowest (filter_map value_in_cell cells)
     values_sound [] a = tt
-    values_sound (cell.Value v ∷ cells) a = (a.0, values_sound cells a.1)
+    values_sound (cell.Value v ∷ cells) a = (lowest v a.0, values_sound cells a.1)
     values_sound (cell.Sum t ∷ cells) a = values_sound cells a.1
     values_sound (cell.Count n ∷ cells) a = values_sound cells a.1
     values_sound (cell.Window times values ∷ cells) a = values_sound cells a.1
 
-    record AreOfNumbers (sums : List Totals) : Type 0 where
+    record AreOfLowest (sums : List Totals) : Type 0 where
       lists : List (List XFrac)
       are : sums ≡ map totals lists
-      numbers : AreNumbers (flat lists)
+      terms : AllLowest (flat lists)
 
-    sums_sound : (cells : List Cell) → AllByRecursion IsSound cells → AreOfNumbers (filter_map totals_in_cell cells)
-    sums_sound [] a = record { lists = []; are = refl; numbers = tt }
+    sums_sound : (cells : List Cell) → AllByRecursion IsSound cells → AreOfLowest (filter_map totals_in_cell cells)
+    sums_sound [] a = record { lists = []; are = refl; terms = tt }
     sums_sound (cell.Value v ∷ cells) a = sums_sound cells a.1
     sums_sound (cell.Sum t ∷ cells) a =
         let rest = sums_sound cells a.1 in
-        record { lists = a.0.0 ∷ rest.lists; are = (λ i. a.0.2 i ∷ rest.are i); numbers = both_of IsNumber a.0.0 (flat rest.lists) (recursion_from_All IsNumber a.0.0 a.0.1) rest.numbers }
+        record { lists = a.0.0 ∷ rest.lists; are = (λ i. a.0.2 i ∷ rest.are i); terms = both_of InLowestTerms a.0.0 (flat rest.lists) (lowest_numbers lowest a.0.0 (recursion_from_All IsNumber a.0.0 a.0.1)) rest.terms }
     sums_sound (cell.Count n ∷ cells) a = sums_sound cells a.1
     sums_sound (cell.Window times values ∷ cells) a = sums_sound cells a.1
 
@@ -179,8 +180,8 @@ module _ (sets : UnionIsSet) (marks_of : UnionHasMarks) (notes_of : UnionHasNote
     counted_shuffled _ _ (swapped x y xs) = omega arith
     counted_shuffled _ _ (joined xs ys zs s t) = counted_shuffled xs ys s ∙ counted_shuffled ys zs t
 
-    alike_in : (xs ys : List XFrac) → AreNumbers xs → Shuffled xs ys → AreAggregatedAlike xs ys
-    alike_in xs ys n s = order xs ys (All-from_recursion IsNumber xs n) (to_permutation xs ys s)
+    alike_in : (xs ys : List XFrac) → AllLowest xs → Shuffled xs ys → AreAggregatedAlike xs ys
+    alike_in xs ys n s = order xs ys (All-from_recursion InLowestTerms xs n) (to_permutation xs ys s)
 
     finished_shuffled : (f : Aggregate) (xs ys : List Cell) → IsAsked f → AllByRecursion IsSound xs → Shuffled xs ys → finished f xs ≡ finished f ys
     finished_shuffled f xs ys IsAsked.sum a s =
@@ -188,14 +189,14 @@ module _ (sets : UnionIsSet) (marks_of : UnionHasMarks) (notes_of : UnionHasNote
         let back = made_of totals (filter_map totals_in_cell xs) (filter_map totals_in_cell ys) (chosen_shuffled totals_in_cell xs ys s) front.lists front.are in
         let all = flat_shuffled front.lists back.items back.shuffled in
         ap (λ ts. some_value (ok_or (option_map value_of (merged ts)) Overflow)) front.are
-        ∙ ap some_value (total_merged both overflows least front.lists front.numbers ∙ sym (alike_in (flat front.lists) (flat back.items) front.numbers all).sum ∙ sym (total_merged both overflows least back.items (all_kept IsNumber (flat front.lists) (flat back.items) all front.numbers)))
+        ∙ ap some_value (total_merged both overflows least front.lists front.terms ∙ sym (alike_in (flat front.lists) (flat back.items) front.terms all).sum ∙ sym (total_merged both overflows least back.items (all_kept InLowestTerms (flat front.lists) (flat back.items) all front.terms)))
         ∙ ap (λ ts. some_value (ok_or (option_map value_of (merged ts)) Overflow)) (sym back.made)
     finished_shuffled f xs ys IsAsked.avg a s =
         let front = sums_sound xs a in
         let back = made_of totals (filter_map totals_in_cell xs) (filter_map totals_in_cell ys) (chosen_shuffled totals_in_cell xs ys s) front.lists front.are in
         let all = flat_shuffled front.lists back.items back.shuffled in
         ap (λ ts. some_value (ok_or (option_and_then mean_in (merged ts)) Overflow)) front.are
-        ∙ ap some_value (mean_merged both overflows least front.lists front.numbers ∙ sym (alike_in (flat front.lists) (flat back.items) front.numbers all).avg ∙ sym (mean_merged both overflows least back.items (all_kept IsNumber (flat front.lists) (flat back.items) all front.numbers)))
+        ∙ ap some_value (mean_merged both overflows least front.lists front.terms ∙ sym (alike_in (flat front.lists) (flat back.items) front.terms all).avg ∙ sym (mean_merged both overflows least back.items (all_kept InLowestTerms (flat front.lists) (flat back.items) all front.terms)))
         ∙ ap (λ ts. some_value (ok_or (option_and_then mean_in (merged ts)) Overflow)) (sym back.made)
     finished_shuffled f xs ys IsAsked.count a s = ap (λ n. Ok (Some (whole_number n))) (counted_shuffled xs ys s)
     finished_shuffled f xs ys IsAsked.group a s = refl

@@ -7,6 +7,7 @@ use Rattle.func_table.specs.declared.table.Aggregate.TheVariants.{Count}
 use Rattle.label_set.specs.Labels.{labels_cmp}
 use Rattle.label_set.specs.declared.rules.Grouping.{Grouping}
 use Rattle.ticks.specs.declared.moment.Ms.{Ms}
+use Rattle.xfrac.specs.AnySize.{InLowestTerms}
 use Rattle.xfrac.specs.Arithmetic.{whole_number}
 use Rattle.xfrac.specs.Laws.{IsNumber}
 use Rattle.xfrac.specs.Sums.{StandsFor}
@@ -46,9 +47,9 @@ abbrev pub rows_of_all : List StepAt → List Row
 rows_of_all [] = []
 rows_of_all (s ∷ steps) = s.step.table.rows ++ rows_of_all steps
 
--- the values of rows are numbers
-abbrev pub HaveNumbers : List Row → Type 0
-HaveNumbers rows = AllByRecursion (λ (row : Row). IsNumber row.value) rows
+-- the values of rows are fractions in lowest terms, of any size
+abbrev pub HaveLowestTerms : List Row → Type 0
+HaveLowestTerms rows = AllByRecursion (λ (row : Row). InLowestTerms row.value) rows
 
 -- the cells of the groups of each engine's rows, joined, agree with the aggregation of the rows of all engines, where no two
 -- of these rows share labels
@@ -57,7 +58,7 @@ PartialsAgree =
     (f : Aggregate) (by : Grouping) (arg : XFrac) (label : List ℕ) (steps : List StepAt)
     → IsTrue (is_partial f)
     → shared_names (keyed (rows_of_all steps)) ≡ []
-    → HaveNumbers (rows_of_all steps)
+    → HaveLowestTerms (rows_of_all steps)
     → Agree (joined_partials f (map (partial_cells f by) steps)) (aggregated f by arg label (joined_rows (map row_cells steps)))
 
 -- the cells of one engine, joined, agree with the aggregation of its rows
@@ -66,7 +67,7 @@ OneEngineAgrees =
     (f : Aggregate) (by : Grouping) (arg : XFrac) (label : List ℕ) (s : StepAt)
     → IsTrue (is_partial f)
     → IsTable s.step.table.rows
-    → HaveNumbers s.step.table.rows
+    → HaveLowestTerms s.step.table.rows
     → Agree (joined_partials f (partial_cells f by s ∷ [])) (aggregated f by arg label s.step)
 
 -- merged counts are added as whole numbers
@@ -108,6 +109,10 @@ PartialsIgnoreOrder =
 -- the cell of a group doesn't depend on the order of its values
 abbrev pub CellIgnoresOrder : Type 0
 CellIgnoresOrder = (f : Aggregate) (xs ys : List XFrac) → All IsNumber xs → Shuffled xs ys → partial_cell f xs ≡ partial_cell f ys
+
+-- the values of rows are numbers
+abbrev pub HaveNumbers : List Row → Type 0
+HaveNumbers rows = AllByRecursion (λ (row : Row). IsNumber row.value) rows
 
 -- the cells that an engine owes of numbers are sound
 abbrev pub OwedIsSound : Type 0

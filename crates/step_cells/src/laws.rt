@@ -2,20 +2,25 @@
 ghost use Rattle.step_cells.specs.CellLaws.{CellIgnoresOrder, CountsAreAdded, OneEngineAgrees, OneEnginesRows, OneEnginesWindows, OwedIsSound, PartialsAgree, PartialsIgnoreOrder, RowsIgnoreOrder, RowsOfTwoAreLeftOut, SharedRowsAreLeftOut, SharedWindowsAreLeftOut, WindowsIgnoreOrder, WindowsOfTwoAreLeftOut};
 
 use step_table::laws::unions_are_sets;
-use window_fn::laws::order_doesnt_matter;
-use xfrac::laws::{joined_sums_stand_for_both, lcm_is_least, order_is_total, part_overflows_whole};
+use window_fn::laws::{order_doesnt_matter, order_of_any_size_doesnt_matter};
+use xfrac::laws::{
+    joined_sums_stand_for_both, lcm_is_least, numbers_are_lowest, order_is_total,
+    order_of_any_size, sums_of_any_size,
+};
 
 /// The cells of a partial aggregation, joined, agree with the aggregation of all rows, where engines share no labels, and so do
-/// those of one engine alone. Two steps agree where they are equal or both have the mark Overflow.
+/// those of one engine alone: of fractions in lowest terms, whatever their size. Two steps agree where they are equal or both have the mark Overflow.
 pub fn partials_agree()
     ensures engines { PartialsAgree }
     ensures one { OneEngineAgrees }
 {
     joined_sums_stand_for_both();
-    part_overflows_whole();
+    sums_of_any_size();
     lcm_is_least();
+    numbers_are_lowest();
     order_is_total();
-    order_doesnt_matter();
+    order_of_any_size();
+    order_of_any_size_doesnt_matter();
     unions_are_sets();
 }
 
@@ -50,10 +55,10 @@ pub fn engines_order_doesnt_matter()
     ensures sound { OwedIsSound }
 {
     joined_sums_stand_for_both();
-    part_overflows_whole();
+    sums_of_any_size();
     lcm_is_least();
-    order_is_total();
-    order_doesnt_matter();
+    numbers_are_lowest();
+    order_of_any_size_doesnt_matter();
     unions_are_sets();
 }
 
@@ -62,7 +67,8 @@ pub fn cells_ignore_order()
     ensures { CellIgnoresOrder }
 {
     joined_sums_stand_for_both();
-    part_overflows_whole();
+    sums_of_any_size();
     lcm_is_least();
+    numbers_are_lowest();
     order_doesnt_matter();
 }

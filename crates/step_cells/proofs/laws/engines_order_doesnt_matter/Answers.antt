@@ -1,4 +1,3 @@
-use Rattle.step_cells.proofs.Extremes.{extremes}
 use Rattle.step_cells.proofs.Reordered.{partials_ignore, rows_ignore, windows_ignore}
 use Rattle.step_cells.proofs.Sound.{owed_sound}
 use Rattle.step_cells.proofs.laws.engines_order_doesnt_matter.Goals as goal
@@ -12,7 +11,7 @@ returns-clause-windows c = windows_ignore c.unions_are_sets.ensures.set c.unions
 pub returns-clause-partials : goal.returns-clause-partials
 returns-clause-partials c =
     partials_ignore c.unions_are_sets.ensures.set c.unions_are_sets.ensures.marks c.unions_are_sets.ensures.notes
-    c.joined_sums_stand_for_both.ensures.joined c.part_overflows_whole.ensures.overflow c.lcm_is_least.ensures.least c.order_doesnt_matter.ensures
+    c.joined_sums_stand_for_both.ensures.joined c.sums_of_any_size.ensures.overflow c.lcm_is_least.ensures.least c.order_of_any_size_doesnt_matter.ensures c.numbers_are_lowest.ensures.number
 
 pub returns-clause-sound : goal.returns-clause-sound
-returns-clause-sound c = owed_sound (extremes c.order_is_total.ensures.equal c.order_is_total.ensures.reversed c.order_is_total.ensures.transitive) c.unions_are_sets.ensures.set
+returns-clause-sound c = owed_sound c.unions_are_sets.ensures.set
