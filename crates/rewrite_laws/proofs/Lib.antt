@@ -3,6 +3,9 @@ mod Follows
 mod Measures
 mod Onces
 mod Rebuilt
+mod Rules
+mod Selected
+mod Serving
 mod Singles
 mod Trimmed
 mod Types

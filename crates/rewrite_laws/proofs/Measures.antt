@@ -27,7 +27,8 @@ use Rattle.opt_selects.specs.Trimming.{trim}
 use Rattle.opt_split_avg.specs.Averages.{split_average}
 use Rattle.rewrite_laws.specs.Keeping.{KeepsValidity, StaysTyped}
 use Rattle.rewrite_laws.proofs.Ands.{and, left, right}
-use Rattle.rewrite_laws.proofs.Follows.{Child, Follows, after_of, bares, before_of, befores}
+use Rattle.rewrite_laws.proofs.Follows.{Any, Child, Follows, after_of, bares, before_of, befores}
+use Rattle.rewrite_laws.proofs.Rules.{any_found}
 use Rattle.rewrite_laws.proofs.Singles.{handed_follows, merged_follows, ordered_follows, split_follows}
 use Rattle.rewrite_laws.proofs.Trimmed.{trimmed_follows}
 use Rattle.rewrite_laws.proofs.Types.{handed_typed, merged_typed, ordered_typed, split_typed, trimmed_typed}
@@ -200,16 +201,17 @@ module _ (longest latest : ℕ) where
     shallow = omega (arith, c.loose.shallow);
   }
 
-  measures_follow : Follows (ℕ → Measure) Measure node_measure (λ p. p.node p.at) Covers Covers
+  measures_follow : Follows (ℕ → Measure) Measure node_measure (λ p. p.node p.at) Any Covers Covers
   measures_follow = record {
     itself = itself;
     joined = joined;
     loosely = λ a b k. k;
     levels = levels;
-    select = λ at rules more moment stamped. record { within = λ w. w; replaced = λ r k. k; few = λ around e. e; shallow = omega arith };
-    range = λ at rules more moment length. record { within = λ w. w; replaced = λ r k. k; few = λ around e. e; shallow = omega arith };
-    filtered_select = λ at rules base more moment. record { within = λ w. w; replaced = λ r k. k; few = λ around e. e; shallow = omega arith };
-    filtered_range = λ at rules base more moment length. record { within = λ w. w; replaced = λ r k. k; few = λ around e. e; shallow = omega arith };
+    select = λ at rules more moment stamped good. record { within = λ w. w; replaced = λ r k. k; few = λ around e. e; shallow = omega arith };
+    range = λ at rules more moment length good. record { within = λ w. w; replaced = λ r k. k; few = λ around e. e; shallow = omega arith };
+    filtered_select = λ at rules base more moment good_base good. record { within = λ w. w; replaced = λ r k. k; few = λ around e. e; shallow = omega arith };
+    filtered_range = λ at rules base more moment length good_base good. record { within = λ w. w; replaced = λ r k. k; few = λ around e. e; shallow = omega arith };
+    pair = λ at op a b more other pairing good_left good_right. record { within = λ w. w; replaced = λ r k. k; few = λ around e. e; shallow = omega arith };
     ratio = ratio;
     bare_sort = bare_sort;
     bare_once = λ at c. c.loose;
@@ -238,7 +240,7 @@ handed_valid longest latest p =
 pub merged_valid : KeepsValidity (λ p. rebuilt (merge_selects (ordered (selectors p))) p)
 merged_valid longest latest p =
     valid_by longest latest p _ (merged_typed p)
-    (merged_follows node_measure (λ p. p.node p.at) (Covers longest latest) (Covers longest latest) (measures_follow longest latest) p)
+    (merged_follows node_measure (λ p. p.node p.at) (Covers longest latest) (Covers longest latest) (measures_follow longest latest) p (any_found p))
 
 pub trimmed_valid : KeepsValidity trim
 trimmed_valid longest latest p =

@@ -1,32 +1,25 @@
 -- What stands under Once nodes stays the same at each instant under each rewrite.
 use Rattle.std.proofs.Common.{◌≡◌, ◌∙◌, ℕ, List, [], ◌∷◌, map, ap, ap₂, sym, refl, Bool, true, false}
-use Rattle.std.specs.Prelude.{◌++◌, ◌&&◌, unwrap_or}
+use Rattle.std.specs.Prelude.{◌&&◌}
 use Rattle.func_table.specs.declared.table.Aggregate.TheVariants as aggregate
 use Rattle.label_set.specs.declared.rules.Grouping.{Grouping}
 use Rattle.promql_meaning.specs.Steadiness.{steady_window}
 use Rattle.logical_plan.specs.declared.steadiness.Facts.{Facts}
-use Rattle.label_set.specs.declared.rules.Rule.{Rule}
-use Rattle.logical_plan.specs.Lowering.{planned}
-use Rattle.logical_plan.specs.PlanFolds.{by_node, of-Select, of-Range, of-Filter}
-use Rattle.logical_plan.specs.declared.nodes.Plan.{Plan}
-use Rattle.logical_plan.specs.declared.nodes.PlanNode.{PlanNode}
-use Rattle.logical_plan.specs.declared.nodes.PlanNode.TheVariants as node_kind
 use Rattle.logical_plan.specs.declared.nodes.PlanNode.TheOpen.{PlanNode-F}
-use Rattle.logical_plan.specs.declared.nodes.PlanNode.TheViews.{out-PlanNode, roll-PlanNode}
 use Rattle.logical_plan.specs.Steadiness.{Checked, all_good, all_of, both, constant, is_steady, node_checked, still_if}
 use Rattle.plan_rewrite.specs.Rebuilding.{rebuilt}
 use Rattle.opt_matchers.specs.Handing.{hand_rules}
 use Rattle.opt_matchers.specs.RuleOrder.{order_rules}
-use Rattle.opt_pushdown.specs.Pushing.{push_filter, selector_with}
+use Rattle.opt_pushdown.specs.Pushing.{push_filter}
 use Rattle.opt_selects.specs.Bases.{merge_selects}
 use Rattle.opt_selects.specs.Selectors.{ordered, selectors}
 use Rattle.opt_selects.specs.Trimming.{trim}
 use Rattle.opt_split_avg.specs.Averages.{split_average}
 use Rattle.rewrite_laws.specs.Keeping.{KeepsOnces}
 use Rattle.rewrite_laws.proofs.Ands.{and, left, right}
-use Rattle.rewrite_laws.proofs.Follows.{Child, Follows, after_of, bares, before_of, befores}
-use Rattle.rewrite_laws.proofs.Rebuilt.{every, folded, of, rolled}
-use Rattle.rewrite_laws.proofs.Singles.{handed_follows, merged_follows, ordered_follows, split_follows}
+use Rattle.rewrite_laws.proofs.Follows.{Any, Child, Follows, Pushes, after_of, bares, before_of, befores}
+use Rattle.rewrite_laws.proofs.Rules.{any_found}
+use Rattle.rewrite_laws.proofs.Singles.{handed_follows, merged_follows, ordered_follows, pushed_follows, split_follows}
 use Rattle.rewrite_laws.proofs.Trimmed.{trimmed_follows}
 
 -- times as fixed, and as much that reads the instant
@@ -153,90 +146,27 @@ ratio grouping cs label =
     node _ _ (record { fixed = twice (all_of constant (facts_of cs)).fixed; still = twice (all_of constant (facts_of cs)).still })
     (λ e. and (all_good cs) (all_good cs) e e) (sym (none_own constant (facts_of cs) refl))
 
-onces_follow : Follows Checked Checked node_checked (λ p. p.node) Loose Kept
+onces_follow : Follows Checked Checked node_checked (λ p. p.node) Any Loose Kept
 onces_follow = record {
   itself = λ b. same b b refl;
   joined = joined;
   loosely = λ a b k. k.loose;
   levels = λ at y. levels y;
-  select = λ at rules more moment stamped. same _ _ refl;
-  range = λ at rules more moment length. same _ _ refl;
-  filtered_select = λ at rules base more moment. same _ _ refl;
-  filtered_range = λ at rules base more moment length. same _ _ refl;
+  select = λ at rules more moment stamped good. same _ _ refl;
+  range = λ at rules more moment length good. same _ _ refl;
+  filtered_select = λ at rules base more moment good_base good. same _ _ refl;
+  filtered_range = λ at rules base more moment length good_base good. same _ _ refl;
+  pair = λ at op a b more other pairing good_left good_right. same _ _ refl;
   ratio = λ at grouping cs label. ratio grouping cs label;
   bare_sort = λ at down c. record { alike = record { fixed = c.loose.alike.fixed; still = c.loose.alike.still }; good = λ e. c.loose.good e };
   bare_once = λ at c. record { alike = c.loose.alike; good = once_good c.before c.bare c.loose };
 }
 
--- ---- filters that go into selectors
-
-abbrev facts : Plan → Checked
-facts = of node_checked (λ p. p.node)
-
-module _ (at : ℕ) (base : Plan) (more : List Rule) where
-  abbrev over : Checked
-  over = node_checked (PlanNode-F.Filter (facts base) more)
-
-  filter_is : facts (planned at (roll-PlanNode (PlanNode-F.Filter base more))) ≡ over
-  filter_is = rolled node_checked (λ p. p.node) at (PlanNode-F.Filter base more)
-
-  base_is : (y : PlanNode-F PlanNode Plan) → out-PlanNode base.node ≡ y → facts base ≡ node_checked (folded node_checked (λ p. p.node) y)
-  base_is y is = by_node node_checked (λ p. p.node) base ∙ ap (λ (z : PlanNode-F PlanNode Plan). node_checked (folded node_checked (λ p. p.node) z)) is
-
-  stays : Kept (facts (planned at (roll-PlanNode (PlanNode-F.Filter base more)))) (facts (planned at (node_kind.Filter base more)))
-  stays = same _ _ (of-Filter node_checked (λ p. p.node) at base more ∙ sym filter_is)
-
-  pushes_into : (y : PlanNode-F PlanNode Plan) → out-PlanNode base.node ≡ y
-      → Kept (facts (planned at (roll-PlanNode (PlanNode-F.Filter base more)))) (facts (planned at (unwrap_or (selector_with more y) (node_kind.Filter base more))))
-  pushes_into (PlanNode-F.Select rules moment false) is =
-      same _ _ (of-Select node_checked (λ p. p.node) at (rules ++ more) moment false
-      ∙ sym (filter_is ∙ ap (λ (c : Checked). node_checked (PlanNode-F.Filter c more)) (base_is (PlanNode-F.Select rules moment false) is)))
-  pushes_into (PlanNode-F.Range rules moment range) is =
-      same _ _ (of-Range node_checked (λ p. p.node) at (rules ++ more) moment range
-      ∙ sym (filter_is ∙ ap (λ (c : Checked). node_checked (PlanNode-F.Filter c more)) (base_is (PlanNode-F.Range rules moment range) is)))
-  pushes_into (PlanNode-F.Select rules moment true) is = stays
-  pushes_into (PlanNode-F.Number value) is = stays
-  pushes_into PlanNode-F.Time is = stays
-  pushes_into (PlanNode-F.Subquery inner range step moment) is = stays
-  pushes_into (PlanNode-F.Element f inner arguments) is = stays
-  pushes_into (PlanNode-F.Stamp inner) is = stays
-  pushes_into (PlanNode-F.Window f inner arguments) is = stays
-  pushes_into (PlanNode-F.Absent labels inner) is = stays
-  pushes_into (PlanNode-F.Buckets quantile inner) is = stays
-  pushes_into (PlanNode-F.Relabel rule inner) is = stays
-  pushes_into (PlanNode-F.Sort down inner) is = stays
-  pushes_into (PlanNode-F.ScalarOf inner) is = stays
-  pushes_into (PlanNode-F.VectorOf inner) is = stays
-  pushes_into (PlanNode-F.Group f grouping arguments label) is = stays
-  pushes_into (PlanNode-F.Pair op l r pairing) is = stays
-  pushes_into (PlanNode-F.Set op l r pairing) is = stays
-  pushes_into (PlanNode-F.Filter below rules) is = stays
-  pushes_into (PlanNode-F.Ratio sum count) is = stays
-  pushes_into (PlanNode-F.Once inner) is = stays
-  pushes_into (PlanNode-F.Gather expr kind engines) is = stays
-
-pushes : (at : ℕ) (y : PlanNode-F PlanNode Plan) → Kept (facts (planned at (roll-PlanNode y))) (facts (planned at (push_filter at y)))
-pushes at (PlanNode-F.Filter base more) = pushes_into at base more (out-PlanNode base.node) refl
-pushes at (PlanNode-F.Select rules moment stamped) = same _ _ refl
-pushes at (PlanNode-F.Range rules moment range) = same _ _ refl
-pushes at (PlanNode-F.Number value) = same _ _ refl
-pushes at PlanNode-F.Time = same _ _ refl
-pushes at (PlanNode-F.Subquery inner range step moment) = same _ _ refl
-pushes at (PlanNode-F.Element f inner arguments) = same _ _ refl
-pushes at (PlanNode-F.Stamp inner) = same _ _ refl
-pushes at (PlanNode-F.Window f inner arguments) = same _ _ refl
-pushes at (PlanNode-F.Absent labels inner) = same _ _ refl
-pushes at (PlanNode-F.Buckets quantile inner) = same _ _ refl
-pushes at (PlanNode-F.Relabel rule inner) = same _ _ refl
-pushes at (PlanNode-F.Sort down inner) = same _ _ refl
-pushes at (PlanNode-F.ScalarOf inner) = same _ _ refl
-pushes at (PlanNode-F.VectorOf inner) = same _ _ refl
-pushes at (PlanNode-F.Group f grouping arguments label) = same _ _ refl
-pushes at (PlanNode-F.Pair op l r pairing) = same _ _ refl
-pushes at (PlanNode-F.Set op l r pairing) = same _ _ refl
-pushes at (PlanNode-F.Ratio sum count) = same _ _ refl
-pushes at (PlanNode-F.Once inner) = same _ _ refl
-pushes at (PlanNode-F.Gather expr kind engines) = same _ _ refl
+onces_push : Pushes Checked Checked node_checked (λ p. p.node) Kept
+onces_push = record {
+  select = λ at below rules more moment. same _ _ refl;
+  range = λ at below rules more moment length. same _ _ refl;
+}
 
 -- ---- each rewrite
 
@@ -247,7 +177,7 @@ pub handed_onces : KeepsOnces (rebuilt hand_rules)
 handed_onces p e = (handed_follows node_checked (λ p. p.node) Loose Kept onces_follow p).loose.good e
 
 pub merged_onces : KeepsOnces (λ p. rebuilt (merge_selects (ordered (selectors p))) p)
-merged_onces p e = (merged_follows node_checked (λ p. p.node) Loose Kept onces_follow p).loose.good e
+merged_onces p e = (merged_follows node_checked (λ p. p.node) Loose Kept onces_follow p (any_found p)).loose.good e
 
 pub trimmed_onces : KeepsOnces trim
 trimmed_onces p e = (trimmed_follows node_checked (λ p. p.node) Loose Kept onces_follow p).loose.good e
@@ -256,4 +186,4 @@ pub split_onces : KeepsOnces (rebuilt split_average)
 split_onces p e = (split_follows node_checked (λ p. p.node) Loose Kept onces_follow p).loose.good e
 
 pub pushed_onces : KeepsOnces (rebuilt push_filter)
-pushed_onces p e = (every node_checked (λ p. p.node) Loose Kept onces_follow push_filter pushes p).loose.good e
+pushed_onces p e = (pushed_follows node_checked (λ p. p.node) Loose Kept onces_follow onces_push p).loose.good e

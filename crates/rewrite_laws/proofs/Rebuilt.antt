@@ -1,5 +1,6 @@
 -- A plan whose nodes are changed one by one, each into one that is related to it, is related to what it was.
 use Rattle.std.proofs.Common.{◌≡◌, ◌∙◌, ℕ, List, [], ◌∷◌, map, ap, sym, refl, subst}
+use Rattle.label_set.specs.declared.rules.Rule.{Rule}
 use Rattle.logical_plan.specs.declared.nodes.Plan.{Plan}
 use Rattle.logical_plan.specs.declared.nodes.PlanNode.{PlanNode}
 use Rattle.logical_plan.specs.declared.nodes.PlanNode.TheOpen.{PlanNode-F, Plan-F}
@@ -35,7 +36,8 @@ module _ {B : Type 0} (Kept : B → B → Type 0) where
   pub over_lists : (f g : List B → B) (bs cs ds es : List B) → bs ≡ cs → ds ≡ es → Kept (f bs) (g ds) → Kept (f cs) (g es)
   over_lists f g bs cs ds es e h k = subst (λ x. Kept (f x) (g es)) e (subst (λ x. Kept (f bs) (g x)) h k)
 
-module _ {A B : Type 0} (node_step : PlanNode-F A B → A) (plan_step : Plan-F A B → B) (Loose Kept : B → B → Type 0) (follows : Follows A B node_step plan_step Loose Kept) (change : Change)
+module _ {A B : Type 0} {Good : Rule → Type 0} (node_step : PlanNode-F A B → A) (plan_step : Plan-F A B → B) (Loose Kept : B → B → Type 0)
+    (follows : Follows A B node_step plan_step Good Loose Kept) (change : Change)
     (keeps : (at : ℕ) (y : PlanNode-F PlanNode Plan) → Kept (of node_step plan_step (planned at (roll-PlanNode y))) (of node_step plan_step (planned at (change at y)))) where
   abbrev F : Plan → B
   F = of node_step plan_step

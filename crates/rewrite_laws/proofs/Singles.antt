@@ -1,6 +1,6 @@
 -- Each rewrite of single nodes keeps what follows.
-use Rattle.std.proofs.Common.{◌≡◌, ◌∙◌, ℕ, List, map, ap, ap₂, refl, Some, None, Bool, true, false, cond}
-use Rattle.std.specs.Prelude.{Option, ◌&&◌, nat_lt, if◌then◌else◌}
+use Rattle.std.proofs.Common.{◌≡◌, ◌∙◌, ℕ, List, ◌++◌, map, ap, ap₂, refl, Some, None, Bool, true, false, cond}
+use Rattle.std.specs.Prelude.{Option, ◌&&◌, nat_lt, unwrap_or, if◌then◌else◌}
 use Rattle.func_table.specs.declared.table.Aggregate.TheVariants as aggregate
 use Rattle.label_set.specs.declared.rules.Pairing.{Pairing}
 use Rattle.label_set.specs.declared.rules.Rule.{Rule}
@@ -19,13 +19,16 @@ use Rattle.plan_rewrite.specs.Rebuilding.{Change, rebuilt}
 use Rattle.plan_rewrite.specs.RuleLists.{lacking}
 use Rattle.opt_matchers.specs.Handing.{Operand, hand_rules, handed_over, is_plain, names_metric, operand, operand_at, pair_of, selecting, with_rules_of}
 use Rattle.opt_matchers.specs.RuleOrder.{order_rules, ordered_rules}
+use Rattle.opt_pushdown.specs.Pushing.{push_filter, selector_with}
 use Rattle.opt_selects.specs.Bases.{base_among, merge_selects, over_base}
 use Rattle.opt_selects.specs.Selectors.{ordered, selectors}
 use Rattle.opt_split_avg.specs.Averages.{deepest_of, most_nested, nested, split_average}
-use Rattle.rewrite_laws.proofs.Follows.{Child, Follows}
+use Rattle.rewrite_laws.proofs.Follows.{AreGood, Follows, Pushes}
 use Rattle.rewrite_laws.proofs.Rebuilt.{every, folded, kept_by, made, of, rolled}
+use Rattle.rewrite_laws.proofs.Rules.{Each, IsGoodBase, base_good, handed_good, lacking_good, ordered_good}
 
-module _ {A B : Type 0} (node_step : PlanNode-F A B → A) (plan_step : Plan-F A B → B) (Loose Kept : B → B → Type 0) (follows : Follows A B node_step plan_step Loose Kept) where
+module _ {A B : Type 0} {Good : Rule → Type 0} (node_step : PlanNode-F A B → A) (plan_step : Plan-F A B → B) (Loose Kept : B → B → Type 0)
+    (follows : Follows A B node_step plan_step Good Loose Kept) where
   abbrev F : Plan → B
   F = of node_step plan_step
 
@@ -44,9 +47,9 @@ module _ {A B : Type 0} (node_step : PlanNode-F A B → A) (plan_step : Plan-F A
 
   orders : (kept : List (Bool × List ℕ)) → Keeps (order_rules kept)
   orders kept at (PlanNode-F.Select rules moment stamped) =
-      becomes at (PlanNode-F.Select rules moment stamped) _ _ (of-Select node_step plan_step at (ordered_rules kept rules) moment stamped) (follows.select at rules (ordered_rules kept rules) moment stamped)
+      becomes at (PlanNode-F.Select rules moment stamped) _ _ (of-Select node_step plan_step at (ordered_rules kept rules) moment stamped) (follows.select at rules (ordered_rules kept rules) moment stamped (ordered_good Good kept rules))
   orders kept at (PlanNode-F.Range rules moment range) =
-      becomes at (PlanNode-F.Range rules moment range) _ _ (of-Range node_step plan_step at (ordered_rules kept rules) moment range) (follows.range at rules (ordered_rules kept rules) moment range)
+      becomes at (PlanNode-F.Range rules moment range) _ _ (of-Range node_step plan_step at (ordered_rules kept rules) moment range) (follows.range at rules (ordered_rules kept rules) moment range (ordered_good Good kept rules))
   orders kept at (PlanNode-F.Number value) = follows.itself _
   orders kept at PlanNode-F.Time = follows.itself _
   orders kept at (PlanNode-F.Subquery inner range step moment) = follows.itself _
@@ -101,26 +104,13 @@ module _ {A B : Type 0} (node_step : PlanNode-F A B → A) (plan_step : Plan-F A
       by (PlanNode-F.Once inner) e = absurd (cc)
       by (PlanNode-F.Gather expr kind engines) e = absurd (cc)
 
-  -- a side with more rules
-  abbrev C : Type 0
-  C = Child B Loose Kept
-
-  side_kept : (p : Plan) (a : Operand) (more : List Rule) → operand p ≡ Some a → Kept (F p) (F (selecting a more))
-  side_kept p a more is =
-      kept_by Kept _ _ _ _ (operand_is p a is) (of-Select node_step plan_step a.at more a.moment false) (follows.select a.at a.rules more a.moment false)
-
-  abbrev side : (p : Plan) (a : Operand) (more : List Rule) → operand p ≡ Some a → C
-  side p a more is = record {
-    before = F p;
-    bare = F (selecting a more);
-    whole = F (selecting a more);
-    loose = follows.loosely (F p) (F (selecting a more)) (side_kept p a more is);
-    kept = side_kept p a more is;
-  }
-
   module _ (at : ℕ) (op : ArithOp) (l r : Plan) (pairing : Pairing) where
     abbrev Stays : PlanNode → Type 0
     Stays n = Kept (F (planned at (roll-PlanNode (PlanNode-F.Pair (Arith op) l r pairing)))) (F (planned at n))
+
+    -- what the fold makes of the operator between two sides
+    abbrev between : B → B → B
+    between x y = M at (PlanNode-F.Pair (Arith op) x y pairing)
 
     pair_stays : Stays (node.Pair (Arith op) l r pairing)
     pair_stays = becomes at (PlanNode-F.Pair (Arith op) l r pairing) _ _ (of-Pair node_step plan_step at (Arith op) l r pairing) (follows.itself _)
@@ -129,8 +119,12 @@ module _ {A B : Type 0} (node_step : PlanNode-F A B → A) (plan_step : Plan-F A
         → Stays (pair_of (Arith op) l r pairing (cond n (Some (selecting a (with_rules_of a.rules b.rules), selecting b (with_rules_of b.rules a.rules))) None))
     both a b false is_a is_b = pair_stays
     both a b true is_a is_b =
-        becomes at (PlanNode-F.Pair (Arith op) l r pairing) _ _ (of-Pair node_step plan_step at (Arith op) (selecting a (with_rules_of a.rules b.rules)) (selecting b (with_rules_of b.rules a.rules)) pairing)
-        (follows.levels at (PlanNode-F.Pair (Arith op) (side l a (with_rules_of a.rules b.rules) is_a) (side r b (with_rules_of b.rules a.rules) is_b) pairing))
+        let more = with_rules_of a.rules b.rules in
+        let other = with_rules_of b.rules a.rules in
+        becomes at (PlanNode-F.Pair (Arith op) l r pairing) _ _ (of-Pair node_step plan_step at (Arith op) (selecting a more) (selecting b other) pairing)
+        (kept_by Kept _ _ _ _ (ap₂ between (operand_is l a is_a) (operand_is r b is_b))
+        (ap₂ between (of-Select node_step plan_step a.at more a.moment false) (of-Select node_step plan_step b.at other b.moment false))
+        (follows.pair at (Arith op) a b more other pairing (handed_good Good a.rules b.rules) (handed_good Good b.rules a.rules)))
 
     sides : (x y : Option Operand) → operand l ≡ x → operand r ≡ y → Stays (pair_of (Arith op) l r pairing (handed_over x y))
     sides (Some a) (Some b) is_a is_b = both a b (names_metric a.rules && names_metric b.rules) is_a is_b
@@ -171,48 +165,52 @@ module _ {A B : Type 0} (node_step : PlanNode-F A B → A) (plan_step : Plan-F A
 
   -- ---- selectors that are merged
 
-  select_stays : (at : ℕ) (rules : List Rule) (moment : Moment) (o : Option (List Rule))
+  select_stays : (at : ℕ) (rules : List Rule) (moment : Moment) (o : Option (List Rule)) → IsGoodBase Good o
       → Kept (F (planned at (roll-PlanNode (PlanNode-F.Select rules moment false)))) (F (planned at (over_base at (λ r. node.Select r moment false) rules o)))
-  select_stays at rules moment None = becomes at (PlanNode-F.Select rules moment false) _ _ (of-Select node_step plan_step at rules moment false) (follows.itself _)
-  select_stays at rules moment (Some base) =
+  select_stays at rules moment None good = becomes at (PlanNode-F.Select rules moment false) _ _ (of-Select node_step plan_step at rules moment false) (follows.itself _)
+  select_stays at rules moment (Some base) good =
       becomes at (PlanNode-F.Select rules moment false) _ _
       (of-Filter node_step plan_step at (planned at (node.Select base moment false)) (lacking base rules) ∙ ap (λ (b : B). M at (PlanNode-F.Filter b (lacking base rules))) (of-Select node_step plan_step at base moment false))
-      (follows.filtered_select at rules base (lacking base rules) moment)
+      (follows.filtered_select at rules base (lacking base rules) moment good (lacking_good Good base rules))
 
-  range_stays : (at : ℕ) (rules : List Rule) (moment : Moment) (range : Ms) (o : Option (List Rule))
+  range_stays : (at : ℕ) (rules : List Rule) (moment : Moment) (range : Ms) (o : Option (List Rule)) → IsGoodBase Good o
       → Kept (F (planned at (roll-PlanNode (PlanNode-F.Range rules moment range)))) (F (planned at (over_base at (λ r. node.Range r moment range) rules o)))
-  range_stays at rules moment range None = becomes at (PlanNode-F.Range rules moment range) _ _ (of-Range node_step plan_step at rules moment range) (follows.itself _)
-  range_stays at rules moment range (Some base) =
+  range_stays at rules moment range None good = becomes at (PlanNode-F.Range rules moment range) _ _ (of-Range node_step plan_step at rules moment range) (follows.itself _)
+  range_stays at rules moment range (Some base) good =
       becomes at (PlanNode-F.Range rules moment range) _ _
       (of-Filter node_step plan_step at (planned at (node.Range base moment range)) (lacking base rules) ∙ ap (λ (b : B). M at (PlanNode-F.Filter b (lacking base rules))) (of-Range node_step plan_step at base moment range))
-      (follows.filtered_range at rules base (lacking base rules) moment range)
+      (follows.filtered_range at rules base (lacking base rules) moment range good (lacking_good Good base rules))
 
-  merges : (p : Plan) → Keeps (merge_selects (ordered (selectors p)))
-  merges p at (PlanNode-F.Select rules moment false) = select_stays at rules moment (base_among (ordered (selectors p)) rules moment None)
-  merges p at (PlanNode-F.Range rules moment range) = range_stays at rules moment range (base_among (ordered (selectors p)) rules moment (Some range))
-  merges p at (PlanNode-F.Select rules moment true) = follows.itself _
-  merges p at (PlanNode-F.Number value) = follows.itself _
-  merges p at PlanNode-F.Time = follows.itself _
-  merges p at (PlanNode-F.Subquery inner range step moment) = follows.itself _
-  merges p at (PlanNode-F.Element f inner arguments) = follows.itself _
-  merges p at (PlanNode-F.Stamp inner) = follows.itself _
-  merges p at (PlanNode-F.Window f inner arguments) = follows.itself _
-  merges p at (PlanNode-F.Absent labels inner) = follows.itself _
-  merges p at (PlanNode-F.Buckets quantile inner) = follows.itself _
-  merges p at (PlanNode-F.Relabel rule inner) = follows.itself _
-  merges p at (PlanNode-F.Sort down inner) = follows.itself _
-  merges p at (PlanNode-F.ScalarOf inner) = follows.itself _
-  merges p at (PlanNode-F.VectorOf inner) = follows.itself _
-  merges p at (PlanNode-F.Group f grouping arguments label) = follows.itself _
-  merges p at (PlanNode-F.Pair op l r pairing) = follows.itself _
-  merges p at (PlanNode-F.Set op l r pairing) = follows.itself _
-  merges p at (PlanNode-F.Filter base rules) = follows.itself _
-  merges p at (PlanNode-F.Ratio sum count) = follows.itself _
-  merges p at (PlanNode-F.Once inner) = follows.itself _
-  merges p at (PlanNode-F.Gather expr kind engines) = follows.itself _
+  merges : (p : Plan) → Each (selectors p) (λ f. AreGood Good f.rules) → Keeps (merge_selects (ordered (selectors p)))
+  merges p good at (PlanNode-F.Select rules moment false) =
+      select_stays at rules moment (base_among (ordered (selectors p)) rules moment None)
+      (base_good Good p rules moment None good)
+  merges p good at (PlanNode-F.Range rules moment range) =
+      range_stays at rules moment range (base_among (ordered (selectors p)) rules moment (Some range))
+      (base_good Good p rules moment (Some range) good)
+  merges p good at (PlanNode-F.Select rules moment true) = follows.itself _
+  merges p good at (PlanNode-F.Number value) = follows.itself _
+  merges p good at PlanNode-F.Time = follows.itself _
+  merges p good at (PlanNode-F.Subquery inner range step moment) = follows.itself _
+  merges p good at (PlanNode-F.Element f inner arguments) = follows.itself _
+  merges p good at (PlanNode-F.Stamp inner) = follows.itself _
+  merges p good at (PlanNode-F.Window f inner arguments) = follows.itself _
+  merges p good at (PlanNode-F.Absent labels inner) = follows.itself _
+  merges p good at (PlanNode-F.Buckets quantile inner) = follows.itself _
+  merges p good at (PlanNode-F.Relabel rule inner) = follows.itself _
+  merges p good at (PlanNode-F.Sort down inner) = follows.itself _
+  merges p good at (PlanNode-F.ScalarOf inner) = follows.itself _
+  merges p good at (PlanNode-F.VectorOf inner) = follows.itself _
+  merges p good at (PlanNode-F.Group f grouping arguments label) = follows.itself _
+  merges p good at (PlanNode-F.Pair op l r pairing) = follows.itself _
+  merges p good at (PlanNode-F.Set op l r pairing) = follows.itself _
+  merges p good at (PlanNode-F.Filter base rules) = follows.itself _
+  merges p good at (PlanNode-F.Ratio sum count) = follows.itself _
+  merges p good at (PlanNode-F.Once inner) = follows.itself _
+  merges p good at (PlanNode-F.Gather expr kind engines) = follows.itself _
 
-  pub merged_follows : (p : Plan) → Kept (F p) (F (rebuilt (merge_selects (ordered (selectors p))) p))
-  merged_follows p = every node_step plan_step Loose Kept follows (merge_selects (ordered (selectors p))) (merges p) p
+  pub merged_follows : (p : Plan) → Each (selectors p) (λ f. AreGood Good f.rules) → Kept (F p) (F (rebuilt (merge_selects (ordered (selectors p))) p))
+  merged_follows p good = every node_step plan_step Loose Kept follows (merge_selects (ordered (selectors p))) (merges p good) p
 
   -- ---- averages
 
@@ -260,3 +258,73 @@ module _ {A B : Type 0} (node_step : PlanNode-F A B → A) (plan_step : Plan-F A
 
   pub split_follows : (p : Plan) → Kept (F p) (F (rebuilt split_average p))
   split_follows = every node_step plan_step Loose Kept follows split_average splits
+
+  -- ---- filters that go into selectors
+
+  module _ (pushes : Pushes A B node_step plan_step Kept) where
+    module _ (at : ℕ) (base : Plan) (more : List Rule) where
+      abbrev IsKept : PlanNode → Type 0
+      IsKept n = Kept (F (planned at (roll-PlanNode (PlanNode-F.Filter base more)))) (F (planned at n))
+
+      filter_kept : IsKept (node.Filter base more)
+      filter_kept = becomes at (PlanNode-F.Filter base more) _ _ (of-Filter node_step plan_step at base more) (follows.itself _)
+
+      -- the filter over a node that is known
+      over : (y : PlanNode-F PlanNode Plan) → out-PlanNode base.node ≡ y → M at (PlanNode-F.Filter (F base) more) ≡ M at (PlanNode-F.Filter (M base.at (folded node_step plan_step y)) more)
+      over y is =
+          ap (λ (b : B). M at (PlanNode-F.Filter b more))
+          (by_node node_step plan_step base ∙ ap (λ (z : PlanNode-F PlanNode Plan). M base.at (folded node_step plan_step z)) is)
+
+      goes_into : (y : PlanNode-F PlanNode Plan) → out-PlanNode base.node ≡ y → IsKept (unwrap_or (selector_with more y) (node.Filter base more))
+      goes_into (PlanNode-F.Select rules moment false) is =
+          becomes at (PlanNode-F.Filter base more) _ _ (of-Select node_step plan_step at (rules ++ more) moment false)
+          (kept_by Kept _ _ _ _ (over (PlanNode-F.Select rules moment false) is) refl (pushes.select at base.at rules more moment))
+      goes_into (PlanNode-F.Range rules moment range) is =
+          becomes at (PlanNode-F.Filter base more) _ _ (of-Range node_step plan_step at (rules ++ more) moment range)
+          (kept_by Kept _ _ _ _ (over (PlanNode-F.Range rules moment range) is) refl (pushes.range at base.at rules more moment range))
+      goes_into (PlanNode-F.Select rules moment true) is = filter_kept
+      goes_into (PlanNode-F.Filter below rules) is = filter_kept
+      goes_into (PlanNode-F.Number value) is = filter_kept
+      goes_into PlanNode-F.Time is = filter_kept
+      goes_into (PlanNode-F.Subquery inner range step moment) is = filter_kept
+      goes_into (PlanNode-F.Element f inner arguments) is = filter_kept
+      goes_into (PlanNode-F.Stamp inner) is = filter_kept
+      goes_into (PlanNode-F.Window f inner arguments) is = filter_kept
+      goes_into (PlanNode-F.Absent labels inner) is = filter_kept
+      goes_into (PlanNode-F.Buckets quantile inner) is = filter_kept
+      goes_into (PlanNode-F.Relabel rule inner) is = filter_kept
+      goes_into (PlanNode-F.Sort down inner) is = filter_kept
+      goes_into (PlanNode-F.ScalarOf inner) is = filter_kept
+      goes_into (PlanNode-F.VectorOf inner) is = filter_kept
+      goes_into (PlanNode-F.Group f grouping arguments label) is = filter_kept
+      goes_into (PlanNode-F.Pair op l r pairing) is = filter_kept
+      goes_into (PlanNode-F.Set op l r pairing) is = filter_kept
+      goes_into (PlanNode-F.Ratio sum count) is = filter_kept
+      goes_into (PlanNode-F.Once inner) is = filter_kept
+      goes_into (PlanNode-F.Gather expr kind engines) is = filter_kept
+
+    pushed : Keeps push_filter
+    pushed at (PlanNode-F.Filter base more) = goes_into at base more (out-PlanNode base.node) refl
+    pushed at (PlanNode-F.Select rules moment stamped) = follows.itself _
+    pushed at (PlanNode-F.Range rules moment range) = follows.itself _
+    pushed at (PlanNode-F.Number value) = follows.itself _
+    pushed at PlanNode-F.Time = follows.itself _
+    pushed at (PlanNode-F.Subquery inner range step moment) = follows.itself _
+    pushed at (PlanNode-F.Element f inner arguments) = follows.itself _
+    pushed at (PlanNode-F.Stamp inner) = follows.itself _
+    pushed at (PlanNode-F.Window f inner arguments) = follows.itself _
+    pushed at (PlanNode-F.Absent labels inner) = follows.itself _
+    pushed at (PlanNode-F.Buckets quantile inner) = follows.itself _
+    pushed at (PlanNode-F.Relabel rule inner) = follows.itself _
+    pushed at (PlanNode-F.Sort down inner) = follows.itself _
+    pushed at (PlanNode-F.ScalarOf inner) = follows.itself _
+    pushed at (PlanNode-F.VectorOf inner) = follows.itself _
+    pushed at (PlanNode-F.Group f grouping arguments label) = follows.itself _
+    pushed at (PlanNode-F.Pair op l r pairing) = follows.itself _
+    pushed at (PlanNode-F.Set op l r pairing) = follows.itself _
+    pushed at (PlanNode-F.Ratio sum count) = follows.itself _
+    pushed at (PlanNode-F.Once inner) = follows.itself _
+    pushed at (PlanNode-F.Gather expr kind engines) = follows.itself _
+
+    pub pushed_follows : (p : Plan) → Kept (F p) (F (rebuilt push_filter p))
+    pushed_follows = every node_step plan_step Loose Kept follows push_filter pushed

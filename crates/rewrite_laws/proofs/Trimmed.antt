@@ -1,5 +1,6 @@
 -- A plan without the sorts that order nothing that is seen is related to what it was.
 use Rattle.std.proofs.Common.{◌≡◌, ℕ, List, [], ◌∷◌, map, ap, sym, refl, subst, Bool, true, false}
+use Rattle.label_set.specs.declared.rules.Rule.{Rule}
 use Rattle.logical_plan.specs.declared.nodes.Plan.{Plan}
 use Rattle.logical_plan.specs.declared.nodes.PlanNode.{PlanNode}
 use Rattle.logical_plan.specs.declared.nodes.PlanNode.TheOpen.{PlanNode-F, Plan-F}
@@ -11,7 +12,8 @@ use Rattle.opt_selects.specs.Trimming.{trim, trim_node, trimmed}
 use Rattle.rewrite_laws.proofs.Follows.{Child, Follows, bares, befores}
 use Rattle.rewrite_laws.proofs.Rebuilt.{folded, made, of, over_lists, rolled}
 
-module _ {A B : Type 0} (node_step : PlanNode-F A B → A) (plan_step : Plan-F A B → B) (Loose Kept : B → B → Type 0) (follows : Follows A B node_step plan_step Loose Kept) where
+module _ {A B : Type 0} {Good : Rule → Type 0} (node_step : PlanNode-F A B → A) (plan_step : Plan-F A B → B) (Loose Kept : B → B → Type 0)
+    (follows : Follows A B node_step plan_step Good Loose Kept) where
   abbrev F : Plan → B
   F = of node_step plan_step
 

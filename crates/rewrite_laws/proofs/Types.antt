@@ -3,6 +3,9 @@ use Rattle.std.proofs.Common.{◌≡◌, ◌∙◌, ℕ, List, [], ◌∷◌, ap
 use Rattle.std.specs.Prelude.{◌&&◌, ◌||◌}
 use Rattle.func_table.specs.declared.table.Aggregate.TheVariants as aggregate
 use Rattle.label_set.specs.declared.rules.Grouping.{Grouping}
+use Rattle.label_set.specs.declared.rules.Pairing.{Pairing}
+use Rattle.label_set.specs.declared.rules.Rule.{Rule}
+use Rattle.xfrac.specs.declared.value.PairOp.{PairOp}
 use Rattle.promql_type.specs.Kinds.{both, is_kind}
 use Rattle.promql_type.specs.declared.kind.Kind.{Kind}
 use Rattle.promql_type.specs.declared.kind.Kind.TheVariants.{Scalar, Vector, Windows, Words}
@@ -10,7 +13,7 @@ use Rattle.logical_plan.specs.declared.nodes.Plan.{Plan}
 use Rattle.logical_plan.specs.declared.nodes.PlanNode.TheOpen.{PlanNode-F}
 use Rattle.logical_plan.specs.PlanTypes.{IsTyped, Typing, are_sound, element_kind, is_element, is_group, is_of, is_pair, is_relabel, is_sound, is_stamped, is_unstamped, is_window, kinds_of, node_typed, node_typing, typing}
 use Rattle.plan_rewrite.specs.Rebuilding.{rebuilt}
-use Rattle.opt_matchers.specs.Handing.{hand_rules}
+use Rattle.opt_matchers.specs.Handing.{Operand, hand_rules}
 use Rattle.opt_matchers.specs.RuleOrder.{order_rules}
 use Rattle.opt_selects.specs.Bases.{merge_selects}
 use Rattle.opt_selects.specs.Selectors.{ordered, selectors}
@@ -18,7 +21,8 @@ use Rattle.opt_selects.specs.Trimming.{trim}
 use Rattle.opt_split_avg.specs.Averages.{split_average}
 use Rattle.rewrite_laws.specs.Keeping.{KeepsTypes, StaysTyped}
 use Rattle.rewrite_laws.proofs.Ands.{and, left, right}
-use Rattle.rewrite_laws.proofs.Follows.{Child, Follows, after_of, bares, before_of, befores}
+use Rattle.rewrite_laws.proofs.Follows.{Any, Child, Follows, after_of, bares, before_of, befores, side_of}
+use Rattle.rewrite_laws.proofs.Rules.{any_found}
 use Rattle.rewrite_laws.proofs.Singles.{handed_follows, merged_follows, ordered_follows, split_follows}
 use Rattle.rewrite_laws.proofs.Trimmed.{trimmed_follows}
 
@@ -184,16 +188,23 @@ bare_once_stays c e =
     let l = c.loose e in
     record { kind = l.kind; typed = l.typed; unstamped = λ u. l.unstamped u }
 
-typings_follow : Follows Typing Typing node_typing (λ p. p.node) LooselyStays Stays
+-- sides of an operator stay what they are
+pair_stays : (at : ℕ) (op : PairOp) (a b : Operand) (more other : List Rule) (pairing : Pairing)
+    → Stays (node_typing {A = Typing} (PlanNode-F.Pair op (side_of node_typing (λ p. p.node) a a.rules) (side_of node_typing (λ p. p.node) b b.rules) pairing))
+    (node_typing {A = Typing} (PlanNode-F.Pair op (side_of node_typing (λ p. p.node) a more) (side_of node_typing (λ p. p.node) b other) pairing))
+pair_stays at op a b more other pairing = stays_same _ _ refl
+
+typings_follow : Follows Typing Typing node_typing (λ p. p.node) Any LooselyStays Stays
 typings_follow = record {
   itself = λ b. stays_same b b refl;
   joined = stays_on;
   loosely = λ a b k e. (k e).loose;
   levels = λ at y. node_stays y;
-  select = λ at rules more moment stamped. stays_same _ _ refl;
-  range = λ at rules more moment length. stays_same _ _ refl;
-  filtered_select = λ at rules base more moment. filter_stays;
-  filtered_range = λ at rules base more moment length. stays_same _ _ refl;
+  select = λ at rules more moment stamped good. stays_same _ _ refl;
+  range = λ at rules more moment length good. stays_same _ _ refl;
+  filtered_select = λ at rules base more moment good_base good. filter_stays;
+  filtered_range = λ at rules base more moment length good_base good. stays_same _ _ refl;
+  pair = λ at op a b more other pairing good_left good_right. pair_stays at op a b more other pairing;
   ratio = λ at grouping arguments label. ratio_stays grouping arguments label;
   bare_sort = λ at down c. bare_sort_stays down c;
   bare_once = λ at c. bare_once_stays c;
@@ -213,7 +224,7 @@ pub handed_typed : KeepsTypes (rebuilt hand_rules)
 handed_typed p = stays_typed p _ (handed_follows node_typing (λ p. p.node) LooselyStays Stays typings_follow p)
 
 pub merged_typed : KeepsTypes (λ p. rebuilt (merge_selects (ordered (selectors p))) p)
-merged_typed p = stays_typed p _ (merged_follows node_typing (λ p. p.node) LooselyStays Stays typings_follow p)
+merged_typed p = stays_typed p _ (merged_follows node_typing (λ p. p.node) LooselyStays Stays typings_follow p (any_found p))
 
 pub trimmed_typed : KeepsTypes trim
 trimmed_typed p = stays_typed p _ (trimmed_follows node_typing (λ p. p.node) LooselyStays Stays typings_follow p)

@@ -7,7 +7,7 @@ ghost use Rattle.opt_selects.specs.Selectors.{ordered, selectors};
 ghost use Rattle.opt_selects.specs.Trimming.{trim};
 ghost use Rattle.opt_split_avg.specs.Averages.{split_average};
 ghost use Rattle.plan_rewrite.specs.Rebuilding.{rebuilt};
-ghost use Rattle.rewrite_laws.specs.Keeping.{KeepsOnces, KeepsTypes, KeepsValidity};
+ghost use Rattle.rewrite_laws.specs.Keeping.{KeepsOnces, KeepsServing, KeepsTypes, KeepsValidity};
 ghost use Rattle.std.specs.Prelude.{ℕ, Bool, List};
 
 /// A typed plan stays typed, and gives a scalar, a vector or windows as it did, where the rules of its selectors are ordered,
@@ -38,4 +38,14 @@ pub fn rewritten_onces_are_steady()
     ensures trimmed { KeepsOnces trim }
     ensures split { KeepsOnces (rebuilt split_average) }
     ensures pushed { KeepsOnces (rebuilt push_filter) }
+{}
+
+/// Kernels serve a plan that they served still under each of these, and where filters go into the selectors that they stand over.
+pub fn rewritten_plans_are_served()
+    ensures ordered { (order : List (Bool × List ℕ)) → KeepsServing (rebuilt (order_rules order)) }
+    ensures handed { KeepsServing (rebuilt hand_rules) }
+    ensures merged { KeepsServing (λ p. rebuilt (merge_selects (ordered (selectors p))) p) }
+    ensures trimmed { KeepsServing trim }
+    ensures split { KeepsServing (rebuilt split_average) }
+    ensures pushed { KeepsServing (rebuilt push_filter) }
 {}
