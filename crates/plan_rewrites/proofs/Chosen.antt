@@ -5,11 +5,13 @@ use Rattle.logical_plan.specs.Steadiness.{OncesAreSteady}
 use Rattle.logical_plan.specs.Validity.{IsValid}
 use Rattle.logical_plan.specs.declared.nodes.Plan.{Plan}
 use Rattle.plan_rewrite.specs.Rebuilding.{rebuilt}
+use Rattle.plan_serving.specs.Serving.{IsServed}
+use Rattle.promql_type.specs.Replacements.{Kept}
 use Rattle.opt_matchers.specs.Handing.{hand_rules}
 use Rattle.opt_matchers.specs.RuleOrder.{order_rules}
 use Rattle.opt_selects.specs.Trimming.{trim}
 use Rattle.opt_split_avg.specs.Averages.{split_average}
-use Rattle.rewrite_laws.specs.Keeping.{KeepsOnces, KeepsTypes, KeepsValidity, StaysTyped}
+use Rattle.rewrite_laws.specs.Keeping.{KeepsOnces, KeepsServing, KeepsTypes, KeepsValidity, StaysTyped}
 use Rattle.plan_rewrites.specs.Rewriting.{chosen, merged, rewrites}
 use Rattle.plan_rewrites.specs.declared.choosing.Choices.{Choices}
 
@@ -26,6 +28,10 @@ validity_kept false rewrite p q longest latest keeps is valid = subst (IsValid l
 onces_kept : (b : Bool) (rewrite : Plan → Plan) (p q : Plan) → KeepsOnces rewrite → q ≡ chosen b rewrite p → OncesAreSteady p → OncesAreSteady q
 onces_kept true rewrite p q keeps is steady = subst OncesAreSteady (sym is) (keeps p steady)
 onces_kept false rewrite p q keeps is steady = subst OncesAreSteady (sym is) steady
+
+serving_kept : (b : Bool) (rewrite : Plan → Plan) (p q : Plan) (patterns : Kept) → KeepsServing rewrite → q ≡ chosen b rewrite p → IsServed patterns p → IsServed patterns q
+serving_kept true rewrite p q patterns keeps is served = subst (IsServed patterns) (sym is) (keeps patterns p served)
+serving_kept false rewrite p q patterns keeps is served = subst (IsServed patterns) (sym is) served
 
 stays_on : (p q r : Plan) → StaysTyped p q → StaysTyped q r → StaysTyped p r
 stays_on p q r first second = record { typed = second.typed; kind = second.kind ∙ first.kind }
@@ -82,3 +88,12 @@ module _ (choices : Choices) (kept : List (Bool × List ℕ)) (p q : Plan) (s : 
       (onces_kept choices.merge merged s.handed s.joined merges s.joined_is
       (onces_kept choices.propagate (rebuilt hand_rules) s.ordered s.handed hands s.handed_is
       (onces_kept choices.sort (rebuilt (order_rules kept)) p s.ordered orders s.ordered_is steady))))
+
+  pub all_served : KeepsServing (rebuilt (order_rules kept)) → KeepsServing (rebuilt hand_rules) → KeepsServing merged → KeepsServing trim → KeepsServing (rebuilt split_average)
+      → (patterns : Kept) → IsServed patterns p → IsServed patterns q
+  all_served orders hands merges trims splits patterns served =
+      serving_kept choices.avg (rebuilt split_average) s.bare q patterns splits s.split_is
+      (serving_kept choices.trim trim s.joined s.bare patterns trims s.bare_is
+      (serving_kept choices.merge merged s.handed s.joined patterns merges s.joined_is
+      (serving_kept choices.propagate (rebuilt hand_rules) s.ordered s.handed patterns hands s.handed_is
+      (serving_kept choices.sort (rebuilt (order_rules kept)) p s.ordered patterns orders s.ordered_is served))))

@@ -8,19 +8,21 @@ ghost use Rattle.opt_matchers.specs.RuleOrder.{order_rules};
 ghost use Rattle.opt_selects.specs.Trimming.{trim as trim_plan};
 ghost use Rattle.opt_split_avg.specs.Averages.{split_average};
 ghost use Rattle.plan_rewrite.specs.Rebuilding.{MeanTheSame, rebuilt};
-ghost use Rattle.plan_rewrites.specs.Rewriting.{chosen, merged, rewrites};
+ghost use Rattle.plan_rewrites.specs.Rewriting.{chosen, evaluating, merged, rewrites};
+ghost use Rattle.plan_serving.specs.Serving.{IsServed};
 ghost use Rattle.promql_meaning.specs.Selecting.{Asked};
+ghost use Rattle.promql_type.specs.Replacements.{Kept};
 ghost use Rattle.rewrite_laws.specs.Keeping.{StaysTyped};
 ghost use Rattle.std.specs.Prelude.{◌≡◌, ℕ, ℤ, IfOk};
 
 use logical_plan::Plan;
 use match_rule::Patterns;
 use opt_matchers::{propagate, sort};
-use opt_pushdown::push;
 use opt_selects::{merge, trim};
 use opt_split_avg::apply;
 use rewrite_laws::laws::{
-    rewritten_onces_are_steady, rewritten_plans_are_typed, rewritten_plans_are_valid,
+    rewritten_onces_are_steady, rewritten_plans_are_served, rewritten_plans_are_typed,
+    rewritten_plans_are_valid,
 };
 use std::alloc::{AllocError, Global};
 
@@ -81,8 +83,8 @@ fn split(alloc: Global, p: Plan, wanted: bool) -> Result<Plan, AllocError>
 /// A plan behind the rewrites that are chosen, in this order: the rules of selectors are ordered, sides hand each other their
 /// rules, selectors are merged, sorts go, averages are split. A plan's patterns are those that are kept under their numbers. A
 /// typed plan means what it meant, rows, notes and marks, on every list of samples whose labels are label sets, at every instant;
-/// it stays typed, a valid plan stays valid, and what stands under Once nodes stays the same at each instant. The only error is
-/// want of memory. (The optimisers of thanos-io/promql-engine; their order is this project's own.)
+/// it stays typed, a valid plan stays valid, what stands under Once nodes stays the same at each instant, and kernels serve what they
+/// served. The only error is want of memory. (The optimisers of thanos-io/promql-engine; their order is this project's own.)
 pub fn rewritten(
     alloc: Global,
     p: Plan,
@@ -94,10 +96,12 @@ pub fn rewritten(
     ensures typed { IfOk result (λ q. IsTyped p → StaysTyped p q) }
     ensures valid { IfOk result (λ q. (longest latest : ℕ) → IsValid longest latest p → IsValid longest latest q) }
     ensures onces { IfOk result (λ q. OncesAreSteady p → OncesAreSteady q) }
+    ensures served { IfOk result (λ q. (kept : Kept) → IsServed kept p → IsServed kept q) }
 {
     rewritten_plans_are_typed();
     rewritten_plans_are_valid();
     rewritten_onces_are_steady();
+    rewritten_plans_are_served();
     let ordered = sorted(alloc, p, choices.sort, patterns)?;
     let handed = propagated(alloc, ordered, choices.propagate)?;
     let joined = merged(alloc, handed, choices.merge)?;
@@ -106,29 +110,29 @@ pub fn rewritten(
     Ok(q)
 }
 
-/// A plan as it is evaluated where one store holds all samples: behind the rewrites that are chosen but that of averages, since the sum
-/// and the count would both be made of the same samples, and with filters in the selectors that they stand over, since no sample is
-/// read then of a series that a filter leaves out. A typed plan means what it meant, rows, notes and marks, on every list of samples
-/// whose labels are label sets, at every instant, and what stands under Once nodes stays the same at each instant. The only error is
-/// want of memory. (This project's own.)
+/// A plan as it is evaluated where one store holds all samples: behind the rewrites that are chosen but two. An average isn't split,
+/// since the sum and the count would both be made of the same samples; and selectors aren't merged, since a selector reads no sample
+/// then of a series that a filter over it would leave out. Otherwise as with all rewrites that are chosen. The only error is want of
+/// memory. (This project's own.)
 pub fn evaluated(
     alloc: Global,
     p: Plan,
     choices: Choices,
     patterns: &Patterns<'_>,
 ) -> Result<Plan, AllocError>
+    ensures plan { IfOk result (λ q. q ≡ rewrites (evaluating choices) patterns.now p) }
     ensures means { IfOk result (λ q. (asked : Asked) (t : ℤ) → IsTyped p → HaveLabelSets asked → plan_meaning asked q t ≡ plan_meaning asked p t) }
+    ensures typed { IfOk result (λ q. IsTyped p → StaysTyped p q) }
+    ensures valid { IfOk result (λ q. (longest latest : ℕ) → IsValid longest latest p → IsValid longest latest q) }
     ensures onces { IfOk result (λ q. OncesAreSteady p → OncesAreSteady q) }
+    ensures served { IfOk result (λ q. (kept : Kept) → IsServed kept p → IsServed kept q) }
 {
-    rewritten_onces_are_steady();
-    let unsplit = Choices {
+    let whole = Choices {
         sort: choices.sort,
         propagate: choices.propagate,
-        merge: choices.merge,
+        merge: false,
         trim: choices.trim,
         avg: false,
     };
-    let plan = rewritten(alloc, p, unsplit, patterns)?;
-    let q = push(alloc, plan)?;
-    Ok(q)
+    rewritten(alloc, p, whole, patterns)
 }

@@ -1,5 +1,5 @@
 use Rattle.std.proofs.Common.{◌∙◌}
-use Rattle.plan_rewrites.proofs.Chosen.{Steps, all_is, all_steady, all_typed, all_valid, joined_typed}
+use Rattle.plan_rewrites.proofs.Chosen.{Steps, all_is, all_served, all_steady, all_typed, all_valid, joined_typed}
 use Rattle.plan_rewrites.proofs.choosing.rewritten.Goals as goal
 
 pub returns : goal.returns
@@ -8,6 +8,7 @@ returns c =
     let types = c.rewritten_plans_are_typed.ensures in
     let valid = c.rewritten_plans_are_valid.ensures in
     let onces = c.rewritten_onces_are_steady.ensures in
+    let served = c.rewritten_plans_are_served.ensures in
     let s : Steps c.args.choices kept c.args.p c.in_ok-q.q = record {
       ordered = c.in_ok-ordered.ordered;
       handed = c.in_ok-handed.handed;
@@ -28,4 +29,5 @@ returns c =
       typed = all_typed c.args.choices kept c.args.p c.in_ok-q.q s (types.ordered kept) types.handed types.merged types.trimmed types.split;
       valid = all_valid c.args.choices kept c.args.p c.in_ok-q.q s (valid.ordered kept) valid.handed valid.merged valid.trimmed valid.split;
       onces = all_steady c.args.choices kept c.args.p c.in_ok-q.q s (onces.ordered kept) onces.handed onces.merged onces.trimmed onces.split;
+      served = all_served c.args.choices kept c.args.p c.in_ok-q.q s (served.ordered kept) served.handed served.merged served.trimmed served.split;
     }
