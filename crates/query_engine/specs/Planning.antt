@@ -1,16 +1,21 @@
 -- The plan that a query's text is evaluated by. (The optimisers of thanos-io/promql-engine; their order is this project's own.)
-use Rattle.std.specs.Prelude.{◌≡◌, ℕ, Bool, List, ⊤}
+use Rattle.std.specs.Prelude.{◌≡◌, ℕ, Bool, true, List, ⊤}
 use Rattle.logical_plan.specs.Lowering.{lowered}
 use Rattle.logical_plan.specs.Onces.{with_onces}
+use Rattle.logical_plan.specs.PlanTypes.{typing}
 use Rattle.logical_plan.specs.declared.nodes.Plan.{Plan}
+use Rattle.match_rule.specs.Patterns.{HaveTheirPatterns}
 use Rattle.plan_rewrites.specs.Rewriting.{rewrites}
 use Rattle.plan_rewrites.specs.declared.choosing.Choices.{Choices}
+use Rattle.plan_serving.specs.Serving.{IsServed}
 use Rattle.promql_ast.specs.Edged.{edged}
+use Rattle.promql_ast.specs.Parts.{AreWithin, parts_of}
 use Rattle.promql_ast.specs.declared.refusal.QueryRefusal.{QueryRefusal}
 use Rattle.promql_ast.specs.declared.tree.Expr.{Expr}
 use Rattle.promql_lex.specs.declared.fault.LexFault.{LexFault}
 use Rattle.promql_lex.specs.declared.fault.LexFault.TheVariants.{Refused, Memory}
 use Rattle.promql_type.specs.Judging.{judged}
+use Rattle.promql_type.specs.Kinds.{is_number}
 use Rattle.promql_type.specs.Replacements.{AreKept, Kept}
 use Rattle.promql_type.specs.declared.replace.Placed.{Placed}
 use Rattle.query_engine.specs.Evaluating.{StandsFor}
@@ -23,6 +28,15 @@ choices_of o = record { sort = o.sort; propagate = o.propagate; merge = o.merge;
 -- the plan of a typed tree, behind the rewrites that are chosen
 abbrev pub plan_of : Choices → Kept → List Placed → Expr → Plan
 plan_of choices kept placed e = rewrites choices kept (with_onces (lowered placed e))
+
+-- a plan gives a scalar or a vector
+abbrev pub GivesNumbers : Plan → Type 0
+GivesNumbers p = is_number (typing p).kind ≡ true
+
+-- kernels serve the plan of a tree with any patterns that the tree's are kept among
+abbrev pub IsServedWhereKept : List Placed → Expr → Plan → Type 0
+IsServedWhereKept placed e p =
+    (kept : Kept) (longest latest : ℕ) → AreWithin (HaveTheirPatterns kept) longest latest (parts_of e) → AreKept kept (judged e).replacements placed → IsServed kept p
 
 -- A plan is that of a text: of the typed tree that the text stands for, with the edge that is asked for, whose label_replace
 -- calls have their patterns under their numbers.

@@ -1,20 +1,25 @@
 //! The plan of a query, and the one that it is evaluated by.
 ghost use Rattle.logical_plan.specs.Lowering.{PatternsArePlaced};
 ghost use Rattle.logical_plan.specs.PlanMeaning.{plan_meaning};
+ghost use Rattle.logical_plan.specs.PlanTypes.{IsTyped};
 ghost use Rattle.logical_plan.specs.Shown.{shown};
 ghost use Rattle.logical_plan.specs.Steadiness.{OncesAreSteady};
+ghost use Rattle.logical_plan.specs.Validity.{IsValid, IsWithinLimits};
 ghost use Rattle.opt_matchers.specs.Handing.{HaveLabelSets};
 ghost use Rattle.promql_meaning.specs.Meaning.{meaning};
 ghost use Rattle.promql_meaning.specs.Selecting.{Asked};
 ghost use Rattle.promql_type.specs.TypedTrees.{placed_of, tree_of};
 ghost use Rattle.query_engine.specs.Evaluating.{IsRefusedWith};
-ghost use Rattle.query_engine.specs.Planning.{HasPlan, MayRefuse, choices_of, plan_of};
-ghost use Rattle.std.specs.Prelude.{◌≡◌, ℤ, [], IfErr, IfOk};
+ghost use Rattle.query_engine.specs.Planning.{GivesNumbers, HasPlan, IsServedWhereKept, MayRefuse, choices_of, plan_of};
+ghost use Rattle.std.specs.Prelude.{◌≡◌, ℕ, ℤ, [], IfErr, IfOk};
 
 use crate::options::Options;
 use crate::reading::typed_tree;
 use logical_plan::{Plan, lower};
 use match_rule::Patterns;
+use plan_serving::laws::{
+    lowered_plans_are_served, lowered_plans_give_numbers, onces_keep_serving,
+};
 use promql_lex::LexFault;
 use promql_type::{TypeFault, Typed};
 use std::alloc::{AllocError, Global};
@@ -33,7 +38,8 @@ fn planned(
 }
 
 /// The plan that a typed tree is evaluated by over a store. Over samples whose labels are label sets it means what the tree means.
-/// The only error is want of memory.
+/// It gives a scalar or a vector, each of its nodes is typed, within the limits of the language it is valid, and kernels serve it
+/// where the patterns of the tree are kept. The only error is want of memory.
 pub(crate) fn evaluated(
     alloc: Global,
     typed: &Typed,
@@ -44,7 +50,15 @@ pub(crate) fn evaluated(
     ensures means { IfOk result (λ p. (asked : Asked) (t : ℤ) → HaveLabelSets asked → PatternsArePlaced asked.kept (placed_of typed.now) (tree_of typed.now)
         → plan_meaning asked p t ≡ shown (meaning asked (tree_of typed.now) t)) }
     ensures onces { IfOk result OncesAreSteady }
+    ensures typed { IfOk result IsTyped }
+    ensures valid { IfOk result (λ p. (longest latest : ℕ) → IsWithinLimits longest latest (tree_of typed.now) → IsValid longest latest p) }
+    ensures numbers { IfOk result GivesNumbers }
+    ensures served { IfOk result (IsServedWhereKept (placed_of typed.now) (tree_of typed.now)) }
 {
+    lowered_plans_are_served();
+    lowered_plans_give_numbers();
+    onces_keep_serving();
+    let _ = typed.expr();
     let plan = lower(alloc, typed)?;
     plan_rewrites::evaluated(alloc, plan, options.choices(), patterns)
 }
