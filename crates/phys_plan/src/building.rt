@@ -1,6 +1,8 @@
 //! The tree of a plan.
 ghost use Rattle.logical_plan.specs.PlanMeaning.{plan_step};
 ghost use Rattle.logical_plan.specs.declared.nodes.Plan.{Plan};
+ghost use Rattle.phys_plan.specs.Growth.{HasTree};
+ghost use Rattle.plan_parts.specs.Courses.{IsAsked};
 ghost use Rattle.plan_parts.specs.Parts.{IsPart, OncesStay};
 ghost use Rattle.plan_tree.specs.Chains.{IsReady};
 ghost use Rattle.plan_tree.specs.Nodes.{shape_of};
@@ -9,7 +11,7 @@ ghost use Rattle.plan_tree.specs.Spending.{IsFresh};
 ghost use Rattle.plan_work.specs.Looks.{LooksAt, plan_looks};
 ghost use Rattle.plan_work.specs.TreeBounds.{StaysWithin};
 ghost use Rattle.promql_meaning.specs.Selecting.{Asked, asked_over};
-ghost use Rattle.std.specs.Prelude.{◌≡◌, ◌<◌, ℤ, None, IfOk};
+ghost use Rattle.std.specs.Prelude.{◌≡◌, ◌<◌, ℤ, None, IfOk, IsOkUnless};
 ghost use Rattle.ticks.specs.Walks.{IsInstant, LeadsToTimes};
 
 use crate::growing::grown;
@@ -25,8 +27,8 @@ use ticks::{Grid, Walk, Work};
 
 /// The tree of kernels of a plan that is asked at the instants of a walk over a store, at most `batch` of them at once; `span`
 /// has the start and the end that `@ start()` and `@ end()` stand for. It is `Invalid` where the plan isn't typed, where its
-/// patterns aren't kept, where it leads beyond the times, or where the walk is neither a grid nor one instant; else the only error
-/// is want of memory. (The kernels are those of thanos-io/promql-engine.)
+/// patterns aren't kept, where it leads beyond the times, or where the walk is neither a grid nor one instant; of a valid plan that
+/// kernels serve it never is, and the only error is want of memory. (The kernels are those of thanos-io/promql-engine.)
 pub fn build<W: Ledger>(
     alloc: Global,
     p: &Plan,
@@ -38,6 +40,8 @@ pub fn build<W: Ledger>(
     work: &mut Work<W>,
 ) -> Result<Tree, Unbuilt>
     requires { 0 < batch }
+    // a valid plan that gives a scalar or a vector has a tree, at the instants of a grid and at one instant
+    ensures total { HasTree patterns.old p.now → IsAsked walk.now → IsOkUnless result Unbuilt.Memory }
     // the tree may be stepped over this store and with these patterns
     ensures ready { IfOk result (λ tree. IsReady store.now patterns.old tree) }
     // and was fed nothing

@@ -1,10 +1,15 @@
 //! The tree of a plan, node by node.
+ghost use Rattle.logical_plan.specs.PlanTypes.{kinds_of, typing};
 ghost use Rattle.logical_plan.specs.declared.nodes.PlanNode.TheVariants as node;
-ghost use Rattle.plan_parts.specs.Parts.{IsPartOf};
+ghost use Rattle.phys_plan.specs.Growth.{CanGrow, IsChange, IsRetyping, IsTwofold};
+ghost use Rattle.plan_parts.specs.Courses.{IsCourseNear};
+ghost use Rattle.plan_parts.specs.Parts.{IsBuilt, IsPartOf};
+ghost use Rattle.plan_parts.specs.Serving.{serving};
 ghost use Rattle.plan_work.specs.Looks.{LooksAt, arguments_look, plan_looks};
 ghost use Rattle.promql_meaning.specs.Selecting.{asked_over};
-ghost use Rattle.std.specs.Prelude.{◌≡◌};
-ghost use Rattle.window_parts.specs.Over.{IsArgumentOf};
+ghost use Rattle.promql_type.specs.Kinds.{is_scalar};
+ghost use Rattle.std.specs.Prelude.{◌≡◌, ℕ, true, [], ◌∷◌, map};
+ghost use Rattle.window_parts.specs.Over.{IsArgumentBuilt, IsArgumentOf};
 
 use crate::site::Site;
 use label_set::Relabel;
@@ -30,6 +35,7 @@ pub(crate) fn grown<W: Ledger>(
     work: &mut Work<W>,
 ) -> Result<Part, Unbuilt>
     ensures part { IsPartOf (asked_over site.now.store.now patterns.old site.now.span.now) course.now.walk p.now result }
+    ensures total { (n : ℕ) → IsCourseNear n course.now → CanGrow patterns.old n p.now → IsBuilt (is_scalar (typing p.now).kind) result }
     ensures tested { LooksAt work.old work.new (plan_looks site.now.store.now p.now) }
     ensures same { patterns.new ≡ patterns.old }
 {
@@ -48,14 +54,19 @@ pub(crate) fn grown<W: Ledger>(
         PlanNode::Element(_, _, _) => element(site, course, p, patterns, work),
         PlanNode::Window(_, _, _) => window(site, course, p, patterns, work),
         PlanNode::Group(_, _, _, _) => group(site, course, p, patterns, work),
-        PlanNode::Buckets(_, _)
-        | PlanNode::Pair(_, _, _, _)
-        | PlanNode::Set(_, _, _, _)
-        | PlanNode::Ratio { .. } => over_two(site, course, p, patterns, work),
-        PlanNode::ScalarOf(_) | PlanNode::Sort { .. } | PlanNode::VectorOf(_) => {
-            retyped(site, course, p, patterns, work)
-        }
-        _ => over_one(site, course, p, patterns, work),
+        PlanNode::Buckets(_, _) => over_two(site, course, p, patterns, work),
+        PlanNode::Pair(_, _, _, _) => over_two(site, course, p, patterns, work),
+        PlanNode::Set(_, _, _, _) => over_two(site, course, p, patterns, work),
+        PlanNode::Ratio { .. } => over_two(site, course, p, patterns, work),
+        PlanNode::ScalarOf(_) => retyped(site, course, p, patterns, work),
+        PlanNode::Sort { .. } => retyped(site, course, p, patterns, work),
+        PlanNode::VectorOf(_) => retyped(site, course, p, patterns, work),
+        PlanNode::Stamp(_) => over_one(site, course, p, patterns, work),
+        PlanNode::Absent { .. } => over_one(site, course, p, patterns, work),
+        PlanNode::Relabel(_, _) => over_one(site, course, p, patterns, work),
+        PlanNode::Filter { .. } => over_one(site, course, p, patterns, work),
+        PlanNode::Range { .. } => Err(Unbuilt::Invalid),
+        PlanNode::Subquery { .. } => Err(Unbuilt::Invalid),
     }
 }
 
@@ -69,6 +80,7 @@ fn over_one<W: Ledger>(
     work: &mut Work<W>,
 ) -> Result<Part, Unbuilt>
     ensures part { IsPartOf (asked_over site.now.store.now patterns.old site.now.span.now) course.now.walk p.now result }
+    ensures total { IsChange p.now → (n : ℕ) → IsCourseNear n course.now → CanGrow patterns.old n p.now → IsBuilt (is_scalar (typing p.now).kind) result }
     ensures tested { LooksAt work.old work.new (plan_looks site.now.store.now p.now) }
     ensures same { patterns.new ≡ patterns.old }
 {
@@ -107,6 +119,7 @@ fn retyped<W: Ledger>(
     work: &mut Work<W>,
 ) -> Result<Part, Unbuilt>
     ensures part { IsPartOf (asked_over site.now.store.now patterns.old site.now.span.now) course.now.walk p.now result }
+    ensures total { IsRetyping p.now → (n : ℕ) → IsCourseNear n course.now → CanGrow patterns.old n p.now → IsBuilt (is_scalar (typing p.now).kind) result }
     ensures tested { LooksAt work.old work.new (plan_looks site.now.store.now p.now) }
     ensures same { patterns.new ≡ patterns.old }
 {
@@ -138,6 +151,7 @@ fn over_two<W: Ledger>(
     work: &mut Work<W>,
 ) -> Result<Part, Unbuilt>
     ensures part { IsPartOf (asked_over site.now.store.now patterns.old site.now.span.now) course.now.walk p.now result }
+    ensures total { IsTwofold p.now → (n : ℕ) → IsCourseNear n course.now → CanGrow patterns.old n p.now → IsBuilt (is_scalar (typing p.now).kind) result }
     ensures tested { LooksAt work.old work.new (plan_looks site.now.store.now p.now) }
     ensures same { patterns.new ≡ patterns.old }
 {
@@ -179,6 +193,7 @@ fn element<W: Ledger>(
     work: &mut Work<W>,
 ) -> Result<Part, Unbuilt>
     ensures part { IsPartOf (asked_over site.now.store.now patterns.old site.now.span.now) course.now.walk p.now result }
+    ensures total { (f inner arguments : _) → p.now.node ≡ node.Element f inner arguments → (n : ℕ) → IsCourseNear n course.now → CanGrow patterns.old n p.now → IsBuilt (is_scalar (typing p.now).kind) result }
     ensures tested { LooksAt work.old work.new (plan_looks site.now.store.now p.now) }
     ensures same { patterns.new ≡ patterns.old }
 {
@@ -207,6 +222,7 @@ fn beside_one<W: Ledger>(
     work: &mut Work<W>,
 ) -> Result<Part, Unbuilt>
     ensures part { IsPartOf (asked_over site.now.store.now patterns.old site.now.span.now) course.now.walk p.now result }
+    ensures total { (f inner a : _) → p.now.node ≡ node.Element f inner (a ∷ []) → (n : ℕ) → IsCourseNear n course.now → CanGrow patterns.old n p.now → IsBuilt (is_scalar (typing p.now).kind) result }
     ensures tested { LooksAt work.old work.new (plan_looks site.now.store.now p.now) }
     ensures same { patterns.new ≡ patterns.old }
 {
@@ -232,6 +248,7 @@ fn beside_two<W: Ledger>(
     work: &mut Work<W>,
 ) -> Result<Part, Unbuilt>
     ensures part { IsPartOf (asked_over site.now.store.now patterns.old site.now.span.now) course.now.walk p.now result }
+    ensures total { (f inner a b : _) → p.now.node ≡ node.Element f inner (a ∷ b ∷ []) → (n : ℕ) → IsCourseNear n course.now → CanGrow patterns.old n p.now → IsBuilt (is_scalar (typing p.now).kind) result }
     ensures tested { LooksAt work.old work.new (plan_looks site.now.store.now p.now) }
     ensures same { patterns.new ≡ patterns.old }
 {
@@ -258,6 +275,7 @@ fn window<W: Ledger>(
     work: &mut Work<W>,
 ) -> Result<Part, Unbuilt>
     ensures part { IsPartOf (asked_over site.now.store.now patterns.old site.now.span.now) course.now.walk p.now result }
+    ensures total { (f inner arguments : _) → p.now.node ≡ node.Window f inner arguments → (n : ℕ) → IsCourseNear n course.now → CanGrow patterns.old n p.now → IsBuilt (is_scalar (typing p.now).kind) result }
     ensures tested { LooksAt work.old work.new (plan_looks site.now.store.now p.now) }
     ensures same { patterns.new ≡ patterns.old }
 {
@@ -280,6 +298,7 @@ fn over_series<W: Ledger>(
     work: &mut Work<W>,
 ) -> Result<Part, Unbuilt>
     ensures part { IsPartOf (asked_over site.now.store.now patterns.old site.now.span.now) course.now.walk p.now result }
+    ensures total { (f inner arguments : _) → p.now.node ≡ node.Window f inner arguments → (serving inner).ranges ≡ true → (n : ℕ) → IsCourseNear n course.now → CanGrow patterns.old n p.now → IsBuilt (is_scalar (typing p.now).kind) result }
     ensures tested { LooksAt work.old work.new (plan_looks site.now.store.now p.now) }
     ensures same { patterns.new ≡ patterns.old }
 {
@@ -311,6 +330,7 @@ fn over_points<W: Ledger>(
     work: &mut Work<W>,
 ) -> Result<Part, Unbuilt>
     ensures part { IsPartOf (asked_over site.now.store.now patterns.old site.now.span.now) course.now.walk p.now result }
+    ensures total { (f inner arguments q range step moment : _) → p.now.node ≡ node.Window f inner arguments → inner.node ≡ node.Subquery q range step moment → (n : ℕ) → IsCourseNear n course.now → CanGrow patterns.old n p.now → IsBuilt (is_scalar (typing p.now).kind) result }
     ensures tested { LooksAt work.old work.new (plan_looks site.now.store.now p.now) }
     ensures same { patterns.new ≡ patterns.old }
 {
@@ -343,6 +363,7 @@ fn only_argument<W: Ledger>(
     work: &mut Work<W>,
 ) -> Result<Option<Part>, Unbuilt>
     ensures part { (f inner arguments : _) → p.now.node ≡ node.Window f inner arguments → IsArgumentOf (asked_over site.now.store.now patterns.old site.now.span.now) course.now.walk arguments result }
+    ensures total { (n : ℕ) (f inner arguments : _) → p.now.node ≡ node.Window f inner arguments → IsCourseNear n course.now → CanGrow patterns.old n p.now → IsArgumentBuilt (kinds_of (map typing arguments)) result }
     ensures tested { (f inner arguments : _) → p.now.node ≡ node.Window f inner arguments → LooksAt work.old work.new (arguments_look site.now.store.now arguments) }
     ensures same { patterns.new ≡ patterns.old }
 {
@@ -366,6 +387,7 @@ fn group<W: Ledger>(
     work: &mut Work<W>,
 ) -> Result<Part, Unbuilt>
     ensures part { IsPartOf (asked_over site.now.store.now patterns.old site.now.span.now) course.now.walk p.now result }
+    ensures total { (f by arguments label : _) → p.now.node ≡ node.Group f by arguments label → (n : ℕ) → IsCourseNear n course.now → CanGrow patterns.old n p.now → IsBuilt (is_scalar (typing p.now).kind) result }
     ensures tested { LooksAt work.old work.new (plan_looks site.now.store.now p.now) }
     ensures same { patterns.new ≡ patterns.old }
 {
@@ -399,6 +421,7 @@ fn once<W: Ledger>(
     work: &mut Work<W>,
 ) -> Result<Part, Unbuilt>
     ensures part { IsPartOf (asked_over site.now.store.now patterns.old site.now.span.now) course.now.walk p.now result }
+    ensures total { (inner : _) → p.now.node ≡ node.Once inner → (n : ℕ) → IsCourseNear n course.now → CanGrow patterns.old n p.now → IsBuilt (is_scalar (typing p.now).kind) result }
     ensures tested { LooksAt work.old work.new (plan_looks site.now.store.now p.now) }
     ensures same { patterns.new ≡ patterns.old }
 {

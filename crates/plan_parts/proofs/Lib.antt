@@ -2,4 +2,5 @@ pub mod Beginning
 pub mod Chosen
 pub mod Giving
 pub mod Grown
+pub mod Handed
 pub mod Windows

@@ -1,3 +1,4 @@
 pub mod Courses
 pub mod Gives
 pub mod Parts
+pub mod Serving

@@ -1,5 +1,5 @@
 -- Trees of kernels for parts of plans. (This project's own.)
-use Rattle.std.specs.Prelude.{◌≡◌, ◌++◌, ℕ, ℤ, Bool, true, false, List, ◌∷◌, Option, None, Result, IfOk, IsTrue}
+use Rattle.std.specs.Prelude.{◌≡◌, ◌++◌, ℕ, ℤ, Bool, true, false, List, ◌∷◌, Option, None, Result, IfOk, IsTrue, MatchResult}
 use Rattle.func_table.specs.declared.table.Aggregate.{Aggregate}
 use Rattle.func_table.specs.declared.table.Aggregate.TheVariants.{TopK, BottomK, Quantile}
 use Rattle.func_table.specs.declared.table.Element.{Element}
@@ -38,6 +38,7 @@ use Rattle.xfrac.specs.declared.value.XFrac.{XFrac}
 use Rattle.plan_parts.specs.Gives.{Gives}
 use Rattle.plan_parts.specs.declared.parts.Part.{Part}
 use Rattle.plan_parts.specs.declared.unbuilt.Unbuilt.{Unbuilt}
+use Rattle.plan_parts.specs.declared.unbuilt.Unbuilt.TheVariants.{Memory}
 
 -- ---- parts of a plan
 
@@ -94,6 +95,14 @@ pub record IsPart (asked : Asked) (walk : Walk) (p : Plan) (part : Part) : Type 
 -- a part of a plan, where it is built
 abbrev pub IsPartOf : Asked → Walk → Plan → Result Part Unbuilt → Type 0
 IsPartOf asked walk p built = IfOk built (λ part. IsPart asked walk p part)
+
+-- a part is built, of scalars or of vectors as is told; the only error is want of memory
+abbrev pub IsBuilt : Bool → Result Part Unbuilt → Type 0
+IsBuilt scalar built = MatchResult built (λ part. part.scalar ≡ scalar) (λ e. e ≡ Memory)
+
+-- the same of two parts
+abbrev pub AreBuilt : Bool → Bool → Result (Part × Part) Unbuilt → Type 0
+AreBuilt scalar other built = MatchResult built (λ parts. (parts.0.scalar ≡ scalar) × (parts.1.scalar ≡ other)) (λ e. e ≡ Memory)
 
 -- ---- what a tree is made of
 

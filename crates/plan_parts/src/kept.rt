@@ -1,7 +1,7 @@
 //! Whether the patterns that a plan names are kept.
 ghost use Rattle.match_rule.specs.Patterns.{HasItsPattern, HaveTheirPatterns, IsWholeId};
 ghost use Rattle.op_labels.specs.Rules.{HasPatterns};
-ghost use Rattle.std.specs.Prelude.{IsTrue};
+ghost use Rattle.std.specs.Prelude.{◌↔◌, IsTrue};
 ghost use Rattle.step_kernels.specs.Unaries.{KeepsPatterns};
 
 use label_set::{PatternId, Relabel, Rule, RuleKind};
@@ -9,19 +9,16 @@ use match_rule::Patterns;
 use step_kernels::UnaryRule;
 
 fn is_kept_whole(patterns: &Patterns<'_>, id: PatternId) -> bool
-    ensures { IsTrue result → IsWholeId patterns.now id.0 }
+    ensures { IsTrue result ↔ IsWholeId patterns.now id.0 }
 {
     if id.0 as usize >= patterns.len() {
         return false;
     }
-    match patterns.find(true, patterns.text(id)) {
-        Some(found) => found.0 == id.0,
-        None => false,
-    }
+    patterns.is_whole(id)
 }
 
 fn is_rule_kept(patterns: &Patterns<'_>, rule: &Rule) -> bool
-    ensures { IsTrue result → HasItsPattern patterns.now rule.now.kind }
+    ensures { IsTrue result ↔ HasItsPattern patterns.now rule.now.kind }
 {
     match rule.kind {
         RuleKind::Eq(_) | RuleKind::Ne(_) => true,
@@ -31,7 +28,7 @@ fn is_rule_kept(patterns: &Patterns<'_>, rule: &Rule) -> bool
 
 /// Whether the patterns of rules are kept, for whole values. It takes no memory.
 pub fn are_rules_kept(patterns: &Patterns<'_>, rules: &[Rule]) -> bool
-    ensures { IsTrue result → HaveTheirPatterns patterns.now rules.now }
+    ensures { IsTrue result ↔ HaveTheirPatterns patterns.now rules.now }
 {
     match rules {
         [] => true,
@@ -40,7 +37,7 @@ pub fn are_rules_kept(patterns: &Patterns<'_>, rules: &[Rule]) -> bool
 }
 
 fn is_relabel_kept(patterns: &Patterns<'_>, rule: &Relabel) -> bool
-    ensures { IsTrue result → HasPatterns patterns.now rule.now }
+    ensures { IsTrue result ↔ HasPatterns patterns.now rule.now }
 {
     match rule {
         Relabel::Replace { pattern, .. } => is_kept_whole(patterns, *pattern),
@@ -51,7 +48,7 @@ fn is_relabel_kept(patterns: &Patterns<'_>, rule: &Relabel) -> bool
 
 /// Whether the patterns of what is made of one part are kept. It takes no memory.
 pub fn is_unary_kept(patterns: &Patterns<'_>, rule: &UnaryRule) -> bool
-    ensures { IsTrue result → KeepsPatterns patterns.now rule.now }
+    ensures { IsTrue result ↔ KeepsPatterns patterns.now rule.now }
 {
     match rule {
         UnaryRule::Small(_) | UnaryRule::Apply(_) | UnaryRule::Group(_, _) => true,

@@ -3,9 +3,14 @@
 ghost use Rattle.logical_plan.specs.declared.nodes.Plan.{Plan};
 ghost use Rattle.logical_plan.specs.declared.nodes.PlanNode.TheVariants as node;
 ghost use Rattle.op_element.specs.Rules.{reads_first, reads_second};
-ghost use Rattle.plan_parts.specs.Parts.{IsBesideNumber, IsPart, IsPartOf, keeps_scalar, reads_parameter};
+ghost use Rattle.logical_plan.specs.PlanTypes.{element_kind, is_element, is_group};
+ghost use Rattle.op_labels.specs.Rules.{HasPatterns};
+ghost use Rattle.plan_parts.specs.Parts.{AreBuilt, IsBesideNumber, IsBuilt, IsPart, IsPartOf, keeps_scalar, reads_parameter};
 ghost use Rattle.promql_meaning.specs.Selecting.{Asked};
-ghost use Rattle.std.specs.Prelude.{◌≡◌, [], ◌∷◌, false, true, Ok, IfOk, IsTrue};
+ghost use Rattle.promql_type.specs.Kinds.{both, is_scalar};
+ghost use Rattle.promql_type.specs.declared.kind.Kind.{Kind};
+ghost use Rattle.std.specs.Prelude.{◌≡◌, [], ◌∷◌, Bool, false, true, Ok, IfOk, IsTrue, MatchResult, OnOk};
+ghost use Rattle.step_kernels.specs.Binaries.{is_binary, takes_scalar};
 ghost use Rattle.ticks.specs.declared.walk.Walk.{Walk};
 
 use crate::parts::{Part, binary, clamp, instants, unary};
@@ -22,14 +27,16 @@ use xfrac::{PairOp, XFrac, whole};
 
 /// A number, as a scalar.
 pub fn number(alloc: Global, value: XFrac) -> Result<Part, Unbuilt>
-    ensures { IfOk result (λ part. (asked : Asked) (walk : Walk) (p : Plan) → p.node ≡ node.Number value → IsPart asked walk p part) }
+    ensures part { IfOk result (λ part. (asked : Asked) (walk : Walk) (p : Plan) → p.node ≡ node.Number value → IsPart asked walk p part) }
+    ensures total { IsBuilt true result }
 {
     instants(alloc, SmallRule::Number(value))
 }
 
 /// The instant in seconds, as a scalar.
 pub fn time(alloc: Global) -> Result<Part, Unbuilt>
-    ensures { IfOk result (λ part. (asked : Asked) (walk : Walk) (p : Plan) → p.node ≡ node.Time → IsPart asked walk p part) }
+    ensures part { IfOk result (λ part. (asked : Asked) (walk : Walk) (p : Plan) → p.node ≡ node.Time → IsPart asked walk p part) }
+    ensures total { IsBuilt true result }
 {
     instants(alloc, SmallRule::Time)
 }
@@ -42,7 +49,8 @@ pub fn stamped(
     rows: Result<Part, Unbuilt>,
     patterns: &Patterns<'_>,
 ) -> Result<Part, Unbuilt>
-    ensures { (asked : Asked) (walk : Walk) (p inner : Plan) → patterns.now ≡ asked.kept → p.node ≡ node.Stamp inner → IsPartOf asked walk inner rows → IsPartOf asked walk p result }
+    ensures part { (asked : Asked) (walk : Walk) (p inner : Plan) → patterns.now ≡ asked.kept → p.node ≡ node.Stamp inner → IsPartOf asked walk inner rows → IsPartOf asked walk p result }
+    ensures total { (scalar : Bool) → IsBuilt scalar rows → IsBuilt false result }
 {
     let rows = rows?;
     let own = rows.own;
@@ -62,7 +70,8 @@ pub fn absent(
     rows: Result<Part, Unbuilt>,
     patterns: &Patterns<'_>,
 ) -> Result<Part, Unbuilt>
-    ensures { (asked : Asked) (walk : Walk) (p inner : Plan) → patterns.now ≡ asked.kept → p.node ≡ node.Absent labels inner → IsPartOf asked walk inner rows → IsPartOf asked walk p result }
+    ensures part { (asked : Asked) (walk : Walk) (p inner : Plan) → patterns.now ≡ asked.kept → p.node ≡ node.Absent labels inner → IsPartOf asked walk inner rows → IsPartOf asked walk p result }
+    ensures total { (scalar : Bool) → IsBuilt scalar rows → IsBuilt false result }
 {
     let rows = rows?;
     unary(
@@ -93,6 +102,7 @@ pub fn relabelled(
 ) -> Result<Part, Unbuilt>
     ensures relabel { (asked : Asked) (walk : Walk) (p inner : Plan) → patterns.now ≡ asked.kept → p.node ≡ node.Relabel rule inner → IsPartOf asked walk inner rows → IsPartOf asked walk p result }
     ensures filter { (asked : Asked) (walk : Walk) (p inner : Plan) (rules : _) → patterns.now ≡ asked.kept → rule ≡ Relabel.Filter rules → p.node ≡ node.Filter inner rules → IsPartOf asked walk inner rows → IsPartOf asked walk p result }
+    ensures total { (scalar : Bool) → HasPatterns patterns.now rule → IsBuilt scalar rows → IsBuilt false result }
 {
     let rows = rows?;
     unary(alloc, UnaryRule::Relabel(rule), false, rows, patterns)
@@ -104,7 +114,8 @@ pub fn as_scalar(
     rows: Result<Part, Unbuilt>,
     patterns: &Patterns<'_>,
 ) -> Result<Part, Unbuilt>
-    ensures { (asked : Asked) (walk : Walk) (p inner : Plan) → patterns.now ≡ asked.kept → p.node ≡ node.ScalarOf inner → IsPartOf asked walk inner rows → IsPartOf asked walk p result }
+    ensures part { (asked : Asked) (walk : Walk) (p inner : Plan) → patterns.now ≡ asked.kept → p.node ≡ node.ScalarOf inner → IsPartOf asked walk inner rows → IsPartOf asked walk p result }
+    ensures total { (scalar : Bool) → IsBuilt scalar rows → IsBuilt true result }
 {
     let rows = rows?;
     unary(
@@ -120,6 +131,7 @@ pub fn as_scalar(
 pub fn as_vector(rows: Result<Part, Unbuilt>) -> Result<Part, Unbuilt>
     ensures sort { (asked : Asked) (walk : Walk) (p inner : Plan) (down : _) → p.node ≡ node.Sort down inner → IsPartOf asked walk inner rows → IsPartOf asked walk p result }
     ensures vector { (asked : Asked) (walk : Walk) (p inner : Plan) → p.node ≡ node.VectorOf inner → IsPartOf asked walk inner rows → IsPartOf asked walk p result }
+    ensures total { (scalar : Bool) → IsBuilt scalar rows → IsBuilt false result }
 {
     trees_stay_within();
     let rows = rows?;
@@ -146,6 +158,7 @@ fn keeps_scalar(f: Element, scalar: bool) -> bool
 fn takes_one(f: Element) -> bool
     ensures first { IsTrue result → reads_first (ElementRule.Apply f) ≡ true }
     ensures second { IsTrue result → reads_second (ElementRule.Apply f) ≡ false }
+    ensures total { (kind other : Kind) → is_element f kind (other ∷ []) ≡ true → IsTrue result }
 {
     match f {
         Element::Round | Element::ClampMin | Element::ClampMax => true,
@@ -160,7 +173,8 @@ pub fn applied(
     rows: Result<Part, Unbuilt>,
     patterns: &Patterns<'_>,
 ) -> Result<Part, Unbuilt>
-    ensures { (asked : Asked) (walk : Walk) (p inner : Plan) → patterns.now ≡ asked.kept → p.node ≡ node.Element f inner [] → IsPartOf asked walk inner rows → IsPartOf asked walk p result }
+    ensures part { (asked : Asked) (walk : Walk) (p inner : Plan) → patterns.now ≡ asked.kept → p.node ≡ node.Element f inner [] → IsPartOf asked walk inner rows → IsPartOf asked walk p result }
+    ensures total { (kind : Kind) → is_element f kind [] ≡ true → IsBuilt (is_scalar kind) rows → IsBuilt (is_scalar (element_kind f kind)) result }
 {
     let rows = rows?;
     match f {
@@ -180,7 +194,8 @@ pub fn applied(
 
 /// Rounding to 1.
 fn rounded(alloc: Global, rows: Part) -> Result<Part, Unbuilt>
-    ensures { IfOk result (λ part. (asked : Asked) (walk : Walk) (p inner : Plan) → p.node ≡ node.Element Element.Round inner [] → IsPart asked walk inner rows → IsPart asked walk p part) }
+    ensures part { IfOk result (λ part. (asked : Asked) (walk : Walk) (p inner : Plan) → p.node ≡ node.Element Element.Round inner [] → IsPart asked walk inner rows → IsPart asked walk p part) }
+    ensures total { IsBuilt false result }
 {
     let rule = BinaryRule::Apply(ElementRule::Apply(Element::Round));
     beside_number(alloc, rule, whole(1), rows)
@@ -193,7 +208,8 @@ pub fn applied_with(
     rows: Result<Part, Unbuilt>,
     beside: Result<Part, Unbuilt>,
 ) -> Result<Part, Unbuilt>
-    ensures { (asked : Asked) (walk : Walk) (p inner a : Plan) → p.node ≡ node.Element f inner (a ∷ []) → IsPartOf asked walk inner rows → IsPartOf asked walk a beside → IsPartOf asked walk p result }
+    ensures part { (asked : Asked) (walk : Walk) (p inner a : Plan) → p.node ≡ node.Element f inner (a ∷ []) → IsPartOf asked walk inner rows → IsPartOf asked walk a beside → IsPartOf asked walk p result }
+    ensures total { (kind other : Kind) → is_element f kind (other ∷ []) ≡ true → IsBuilt (is_scalar kind) rows → IsBuilt (is_scalar other) beside → IsBuilt (is_scalar (element_kind f kind)) result }
 {
     let (rows, beside) = both(rows, beside)?;
     if !takes_one(f) {
@@ -210,6 +226,7 @@ fn both(
 ) -> Result<(Part, Part), Unbuilt>
     ensures first { IfOk result (λ parts. first ≡ Ok parts.0) }
     ensures second { IfOk result (λ parts. second ≡ Ok parts.1) }
+    ensures total { (scalar other : Bool) → IsBuilt scalar first → IsBuilt other second → AreBuilt scalar other result }
 {
     let first = first?;
     let second = second?;
@@ -224,7 +241,8 @@ pub fn clamped(
     low: Result<Part, Unbuilt>,
     high: Result<Part, Unbuilt>,
 ) -> Result<Part, Unbuilt>
-    ensures { (asked : Asked) (walk : Walk) (p inner a b : Plan) → p.node ≡ node.Element f inner (a ∷ b ∷ []) → IsPartOf asked walk inner rows → IsPartOf asked walk a low → IsPartOf asked walk b high → IsPartOf asked walk p result }
+    ensures part { (asked : Asked) (walk : Walk) (p inner a b : Plan) → p.node ≡ node.Element f inner (a ∷ b ∷ []) → IsPartOf asked walk inner rows → IsPartOf asked walk a low → IsPartOf asked walk b high → IsPartOf asked walk p result }
+    ensures total { (kind least most : Kind) → is_element f kind (least ∷ most ∷ []) ≡ true → IsBuilt (is_scalar kind) rows → IsBuilt (is_scalar least) low → IsBuilt (is_scalar most) high → IsBuilt (is_scalar (element_kind f kind)) result }
 {
     let rows = rows?;
     let (low, high) = both(low, high)?;
@@ -238,7 +256,8 @@ pub fn clamped(
 
 /// A rule over rows, with a number beside them.
 fn beside_number(alloc: Global, rule: BinaryRule, value: XFrac, rows: Part) -> Result<Part, Unbuilt>
-    ensures { IfOk result (λ part. IsBesideNumber rule value rows part) }
+    ensures made { IfOk result (λ part. IsBesideNumber rule value rows part) }
+    ensures total { IsTrue (is_binary rule) → IsBuilt false result }
 {
     trees_stay_within();
     let number = instants(alloc, SmallRule::Number(value));
@@ -252,7 +271,8 @@ pub fn quantiles(
     rows: Result<Part, Unbuilt>,
     beside: Result<Part, Unbuilt>,
 ) -> Result<Part, Unbuilt>
-    ensures { (asked : Asked) (walk : Walk) (p inner a : Plan) → p.node ≡ node.Buckets a inner → IsPartOf asked walk inner rows → IsPartOf asked walk a beside → IsPartOf asked walk p result }
+    ensures part { (asked : Asked) (walk : Walk) (p inner a : Plan) → p.node ≡ node.Buckets a inner → IsPartOf asked walk inner rows → IsPartOf asked walk a beside → IsPartOf asked walk p result }
+    ensures total { (scalar : Bool) → IsBuilt scalar rows → IsBuilt true beside → IsBuilt false result }
 {
     let (rows, beside) = both(rows, beside)?;
     binary(alloc, BinaryRule::Buckets, false, rows, beside)
@@ -264,7 +284,8 @@ pub fn divided(
     sum: Result<Part, Unbuilt>,
     count: Result<Part, Unbuilt>,
 ) -> Result<Part, Unbuilt>
-    ensures { (asked : Asked) (walk : Walk) (p left right : Plan) → p.node ≡ node.Ratio left right → IsPartOf asked walk left sum → IsPartOf asked walk right count → IsPartOf asked walk p result }
+    ensures part { (asked : Asked) (walk : Walk) (p left right : Plan) → p.node ≡ node.Ratio left right → IsPartOf asked walk left sum → IsPartOf asked walk right count → IsPartOf asked walk p result }
+    ensures total { (scalar other : Bool) → IsBuilt scalar sum → IsBuilt other count → IsBuilt false result }
 {
     let (sum, count) = both(sum, count)?;
     binary(alloc, BinaryRule::Ratio, false, sum, count)
@@ -278,7 +299,8 @@ pub fn combined(
     rows: Result<Part, Unbuilt>,
     beside: Result<Part, Unbuilt>,
 ) -> Result<Part, Unbuilt>
-    ensures { (asked : Asked) (walk : Walk) (p left right : Plan) → p.node ≡ node.Set op left right pairing → IsPartOf asked walk left rows → IsPartOf asked walk right beside → IsPartOf asked walk p result }
+    ensures part { (asked : Asked) (walk : Walk) (p left right : Plan) → p.node ≡ node.Set op left right pairing → IsPartOf asked walk left rows → IsPartOf asked walk right beside → IsPartOf asked walk p result }
+    ensures total { (scalar other : Bool) → IsBuilt scalar rows → IsBuilt other beside → IsBuilt false result }
 {
     let (rows, beside) = both(rows, beside)?;
     binary(alloc, BinaryRule::Combine(op, pairing), false, rows, beside)
@@ -292,7 +314,8 @@ pub fn paired(
     left: Result<Part, Unbuilt>,
     right: Result<Part, Unbuilt>,
 ) -> Result<Part, Unbuilt>
-    ensures { (asked : Asked) (walk : Walk) (p l r : Plan) → p.node ≡ node.Pair op l r pairing → IsPartOf asked walk l left → IsPartOf asked walk r right → IsPartOf asked walk p result }
+    ensures part { (asked : Asked) (walk : Walk) (p l r : Plan) → p.node ≡ node.Pair op l r pairing → IsPartOf asked walk l left → IsPartOf asked walk r right → IsPartOf asked walk p result }
+    ensures total { (kind other : Kind) → IsBuilt (is_scalar kind) left → IsBuilt (is_scalar other) right → IsBuilt (is_scalar (both kind other)) result }
 {
     let (left, right) = both(left, right)?;
     if right.scalar {
@@ -324,7 +347,8 @@ pub fn grouped(
     rows: Result<Part, Unbuilt>,
     patterns: &Patterns<'_>,
 ) -> Result<Part, Unbuilt>
-    ensures { (asked : Asked) (walk : Walk) (p a : Plan) → patterns.now ≡ asked.kept → p.node ≡ node.Group f by (a ∷ []) label → IsPartOf asked walk a rows → IsPartOf asked walk p result }
+    ensures part { (asked : Asked) (walk : Walk) (p a : Plan) → patterns.now ≡ asked.kept → p.node ≡ node.Group f by (a ∷ []) label → IsPartOf asked walk a rows → IsPartOf asked walk p result }
+    ensures total { (kind : Kind) → is_group f (kind ∷ []) label ≡ true → IsBuilt (is_scalar kind) rows → IsBuilt false result }
 {
     let rows = rows?;
     match f {
@@ -354,7 +378,8 @@ pub fn ranked(
     rows: Result<Part, Unbuilt>,
     parameter: Result<Part, Unbuilt>,
 ) -> Result<Part, Unbuilt>
-    ensures { (asked : Asked) (walk : Walk) (p k a : Plan) → p.node ≡ node.Group f by (k ∷ a ∷ []) label → IsPartOf asked walk a rows → IsPartOf asked walk k parameter → IsPartOf asked walk p result }
+    ensures part { (asked : Asked) (walk : Walk) (p k a : Plan) → p.node ≡ node.Group f by (k ∷ a ∷ []) label → IsPartOf asked walk a rows → IsPartOf asked walk k parameter → IsPartOf asked walk p result }
+    ensures total { (kind first : Kind) → is_group f (first ∷ kind ∷ []) label ≡ true → IsBuilt (is_scalar kind) rows → IsBuilt (is_scalar first) parameter → IsBuilt false result }
 {
     let (rows, parameter) = both(rows, parameter)?;
     if !reads_parameter(f) {

@@ -1,13 +1,18 @@
 //! The trees of the kinds of nodes, over those of their children.
 ghost use Rattle.logical_plan.specs.declared.nodes.Plan.{Plan};
 ghost use Rattle.logical_plan.specs.declared.nodes.PlanNode.TheVariants as node;
-ghost use Rattle.plan_parts.specs.Parts.{IsBinary, IsClamp, IsInstants, IsPart, IsPartOf, IsUnary};
+ghost use Rattle.logical_plan.specs.Validity.{deepest};
+ghost use Rattle.match_rule.specs.Patterns.{HaveTheirPatterns};
+ghost use Rattle.plan_parts.specs.Courses.{IsCourseNear, IsMomentNear, IsMomentWithin};
+ghost use Rattle.plan_parts.specs.Parts.{IsBinary, IsBuilt, IsClamp, IsInstants, IsPart, IsPartOf, IsUnary};
 ghost use Rattle.plan_work.specs.Looks.{LooksAt};
 ghost use Rattle.plan_work.specs.TreeBounds.{BeginsAt};
 ghost use Rattle.promql_meaning.specs.Selecting.{Asked, asked_over, lookback};
 ghost use Rattle.promql_meaning.specs.WalkMoments.{IsMomentOf};
 ghost use Rattle.sample_store.specs.Samples.{looked_at};
-ghost use Rattle.std.specs.Prelude.{◌≡◌, ℤ, IfOk, IsTrue};
+ghost use Rattle.std.specs.Prelude.{◌≡◌, ◌<◌, ℕ, ℤ, true, false, Bool, IfOk, IsTrue};
+ghost use Rattle.step_kernels.specs.Binaries.{is_binary, takes_scalar};
+ghost use Rattle.step_kernels.specs.Unaries.{KeepsPatterns, is_unary};
 ghost use Rattle.ticks.specs.Walks.{HasTimes, IsInstant, moment_at};
 ghost use Rattle.ticks.specs.declared.walk.Walk.{Walk};
 
@@ -46,7 +51,8 @@ pub struct Part {
 
 /// A number, or the time.
 pub(crate) fn instants(alloc: Global, rule: SmallRule) -> Result<Part, Unbuilt>
-    ensures { IfOk result (IsInstants rule) }
+    ensures made { IfOk result (IsInstants rule) }
+    ensures total { IsBuilt true result }
 {
     trees_stay_within();
     Ok(Part {
@@ -67,7 +73,8 @@ pub(crate) fn unary(
     rows: Part,
     patterns: &Patterns<'_>,
 ) -> Result<Part, Unbuilt>
-    ensures { IfOk result (λ part. IsUnary patterns.now rule scalar rows part) }
+    ensures made { IfOk result (λ part. IsUnary patterns.now rule scalar rows part) }
+    ensures total { IsTrue (is_unary rule) → KeepsPatterns patterns.now rule → IsBuilt scalar result }
 {
     trees_stay_within();
     if !is_unary(&rule) {
@@ -94,7 +101,8 @@ pub(crate) fn binary(
     rows: Part,
     beside: Part,
 ) -> Result<Part, Unbuilt>
-    ensures { IfOk result (λ part. IsBinary rule scalar rows beside part) }
+    ensures made { IfOk result (λ part. IsBinary rule scalar rows beside part) }
+    ensures total { IsTrue (is_binary rule) → (IsTrue (takes_scalar rule) → IsTrue beside.scalar) → IsBuilt scalar result }
 {
     trees_stay_within();
     if !is_binary(&rule) || (takes_scalar(&rule) && !beside.scalar) {
@@ -119,7 +127,8 @@ pub(crate) fn clamp(
     low: Part,
     high: Part,
 ) -> Result<Part, Unbuilt>
-    ensures { IfOk result (λ part. IsClamp rule rows low high part) }
+    ensures made { IfOk result (λ part. IsClamp rule rows low high part) }
+    ensures total { IsTrue low.scalar → IsTrue high.scalar → IsBuilt false result }
 {
     trees_stay_within();
     if !(low.scalar && high.scalar) {
@@ -140,7 +149,8 @@ pub(crate) fn clamp(
 /// What a part gives at one instant, the first of a walk, at each instant. It hands on why that wasn't built; else the only error is want
 /// of memory.
 pub fn repeated(alloc: Global, first: Ms, child: Result<Part, Unbuilt>) -> Result<Part, Unbuilt>
-    ensures { (asked : Asked) (walk below : Walk) (p inner : Plan) → BeginsAt walk first → below ≡ Walk.Fixed first → p.node ≡ node.Once inner → IsPartOf asked below inner child → IsPartOf asked walk p result }
+    ensures part { (asked : Asked) (walk below : Walk) (p inner : Plan) → BeginsAt walk first → below ≡ Walk.Fixed first → p.node ≡ node.Once inner → IsPartOf asked below inner child → IsPartOf asked walk p result }
+    ensures total { (scalar : Bool) → IsBuilt scalar child → IsBuilt scalar result }
 {
     trees_stay_within();
     let child = child?;
@@ -159,6 +169,7 @@ pub fn repeated(alloc: Global, first: Ms, child: Result<Part, Unbuilt>) -> Resul
 pub fn settled(moment: &Moment, span: &Grid) -> WalkMoment
     ensures moment { (samples kept : _) → IsMomentOf (asked_over samples kept span.now) moment.now result }
     ensures closed { result.closed ≡ moment.now.closed }
+    ensures near { IsMomentWithin moment.now → IsMomentNear result }
 {
     let fixed = match moment.fixed {
         None => None,
@@ -175,7 +186,8 @@ pub fn settled(moment: &Moment, span: &Grid) -> WalkMoment
 
 /// Whether an evaluation looks back within the times at each instant.
 fn is_within(course: &Course, moment: &WalkMoment) -> bool
-    ensures { IsTrue result → (t : ℤ) → IsInstant course.now.walk t → HasTimes (moment_at moment.now t) lookback }
+    ensures times { IsTrue result → (t : ℤ) → IsInstant course.now.walk t → HasTimes (moment_at moment.now t) lookback }
+    ensures near { (n : ℕ) → n < deepest → IsCourseNear n course.now → IsMomentNear moment.now → IsTrue result }
 {
     match course.windows(moment, Ms(LOOKBACK)) {
         Some(_) => true,
@@ -185,7 +197,8 @@ fn is_within(course: &Course, moment: &WalkMoment) -> bool
 
 /// The newest rows of the series that pass rules, at the instants of a course. On every answer at most the series that the
 /// rules look at were counted as tested, each once, and no sample was read. It is `Invalid` where a pattern isn't kept or a
-/// window leads beyond the times; else the only error is want of memory.
+/// window leads beyond the times, as none does where the course stands in few enough subqueries; else the only error is want of
+/// memory.
 pub fn select<W: Ledger>(
     alloc: Global,
     store: &Store,
@@ -198,6 +211,7 @@ pub fn select<W: Ledger>(
     work: &mut Work<W>,
 ) -> Result<Part, Unbuilt>
     ensures part { IfOk result (λ part. (p : Plan) → p.node ≡ node.Select rules.now moment.now stamped → IsPart (asked_over store.now patterns.old span.now) course.now.walk p part) }
+    ensures total { (n : ℕ) → n < deepest → IsCourseNear n course.now → HaveTheirPatterns patterns.old rules.now → IsMomentWithin moment.now → IsBuilt false result }
     ensures tested { LooksAt work.old work.new (looked_at rules.now store.now) }
     ensures same { patterns.new ≡ patterns.old }
 {

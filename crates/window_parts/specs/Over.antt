@@ -1,24 +1,35 @@
 -- What functions of windows stand over: range selectors or the inner instants of subqueries, and their scalars. (This project's own.)
-use Rattle.std.specs.Prelude.{◌≡◌, ℤ, List, [], ◌∷◌, map, Option, None, Some, Result, IfOk, IsTrue, ⊤}
+use Rattle.std.specs.Prelude.{◌≡◌, ℤ, true, List, [], ◌∷◌, map, Option, None, Some, Result, IfOk, IsTrue, MatchResult, ⊤}
 use Rattle.func_table.specs.declared.table.Window.{Window as WindowFunction}
+use Rattle.frac_text.specs.Times.{time_limit}
 use Rattle.logical_plan.specs.Lowering.{planned}
 use Rattle.logical_plan.specs.PlanMeaning.{givens_at, plan_meaning, plan_meant}
 use Rattle.logical_plan.specs.declared.nodes.Plan.{Plan}
 use Rattle.logical_plan.specs.declared.nodes.PlanNode.TheVariants as node
+use Rattle.logical_plan.specs.Validity.{measured}
+use Rattle.match_rule.specs.Patterns.{HaveTheirPatterns}
+use Rattle.op_labels.specs.Rules.{Kept}
 use Rattle.op_window.specs.Rules.{takes_scalar}
+use Rattle.plan_parts.specs.Courses.{IsLength, IsMomentWithin}
+use Rattle.plan_parts.specs.Serving.{serving}
 use Rattle.plan_parts.specs.Parts.{IsPart, IsSound, OncesStay}
 use Rattle.plan_parts.specs.declared.parts.Part.{Part}
 use Rattle.plan_parts.specs.declared.unbuilt.Unbuilt.{Unbuilt}
+use Rattle.plan_parts.specs.declared.unbuilt.Unbuilt.TheVariants.{Memory}
 use Rattle.plan_tree.specs.Nodes.{shape_of}
 use Rattle.plan_tree.specs.Shapes.{is_scalar, rule}
 use Rattle.plan_work.specs.Looks.{LookAtNoMore}
 use Rattle.plan_work.specs.PlanLaws.{CostsAtMost}
 use Rattle.plan_work.specs.TreeBounds.{StaysWithinAll}
+use Rattle.promql_ast.specs.Parts.{AreWithin}
 use Rattle.promql_ast.specs.declared.tree.Moment.{Moment}
 use Rattle.promql_meaning.specs.Meaning.{step_at, windowed_by}
 use Rattle.promql_meaning.specs.Selecting.{Asked}
 use Rattle.promql_meaning.specs.WalkMoments.{IsMomentOf}
 use Rattle.promql_meaning.specs.declared.given.Windows.{Windows}
+use Rattle.promql_type.specs.Kinds.{is_scalar}
+use Rattle.promql_type.specs.declared.kind.Kind.{Kind}
+use Rattle.ticks.specs.Durations.{hundred_years}
 use Rattle.ticks.specs.Walks.{IsInstant}
 use Rattle.ticks.specs.declared.moment.Ms.{Ms}
 use Rattle.ticks.specs.declared.walk.Walk.{Walk}
@@ -36,6 +47,16 @@ IsArgument asked walk arguments part = ⊥
 -- where it is built
 abbrev pub IsArgumentOf : Asked → Walk → List Plan → Result (Option Part) Unbuilt → Type 0
 IsArgumentOf asked walk arguments built = IfOk built (λ part. IsArgument asked walk arguments part)
+
+-- the only argument is of a scalar or of a vector, as its kind says, or there is no argument
+abbrev pub IsOfKinds : List Kind → Option Part → Type 0
+IsOfKinds [] None = ⊤
+IsOfKinds (kind ∷ []) (Some part) = part.scalar ≡ is_scalar kind
+IsOfKinds kinds part = ⊥
+
+-- it is built so; the only error is want of memory
+abbrev pub IsArgumentBuilt : List Kind → Result (Option Part) Unbuilt → Type 0
+IsArgumentBuilt kinds built = MatchResult built (IsOfKinds kinds) (λ e. e ≡ Memory)
 
 -- a part may stand for the scalar of a function: it may be fed, it is a scalar where the function reads it, it costs at most what the
 -- argument does, and with it the function gives of any windows what it gives with the argument, if what stands below the argument's Once
@@ -58,6 +79,19 @@ pub record IsRangeOf (asked : Asked) (p : Plan) (selector : RangeSelector) : Typ
   pub gives : GivesRange asked p selector
   pub within : CostsAtMost asked selector.rules selector.moment selector.range p
   pub looks : LookAtNoMore asked.samples selector.rules p
+
+-- a plan gives the windows of a range selector, or of one under filters, whose times and length lie within the limits of the language and
+-- whose patterns are kept
+pub record IsRangePlan (kept : Kept) (p : Plan) : Type 0 where
+  pub ranges : (serving p).ranges ≡ true
+  pub rules : HaveTheirPatterns kept (serving p).rules
+  pub within : AreWithin (λ rules. ⊤) hundred_years time_limit (measured p).parts
+
+-- those of a range selector do so, and its patterns are
+pub record IsSelectorWithin (kept : Kept) (selector : RangeSelector) : Type 0 where
+  pub rules : HaveTheirPatterns kept selector.rules
+  pub timed : IsMomentWithin selector.moment
+  pub long : IsLength selector.range
 
 -- ---- subqueries
 

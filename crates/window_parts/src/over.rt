@@ -1,16 +1,21 @@
 //! The trees of functions of windows.
 ghost use Rattle.logical_plan.specs.declared.nodes.Plan.{Plan};
 ghost use Rattle.logical_plan.specs.declared.nodes.PlanNode.TheVariants as node;
-ghost use Rattle.plan_parts.specs.Parts.{IsPartOf};
+ghost use Rattle.logical_plan.specs.PlanTypes.{is_window};
+ghost use Rattle.logical_plan.specs.Validity.{deepest};
+ghost use Rattle.plan_parts.specs.Courses.{IsCourseNear, IsLength, IsMomentWithin, ReachBack};
+ghost use Rattle.plan_parts.specs.Parts.{IsBuilt, IsPartOf};
+ghost use Rattle.plan_parts.specs.declared.unbuilt.Unbuilt.TheVariants.{Memory};
 ghost use Rattle.plan_work.specs.Looks.{LooksAt, plan_looks};
 ghost use Rattle.promql_ast.specs.declared.tree.Moment.{Moment};
 ghost use Rattle.promql_meaning.specs.Selecting.{Asked, asked_over};
+ghost use Rattle.promql_type.specs.declared.kind.Kind.{Kind};
 ghost use Rattle.sample_store.specs.Samples.{looked_at};
-ghost use Rattle.std.specs.Prelude.{◌≡◌, ◌<ℤ◌, ℤ, pos, List, IfOk, IsTrue};
+ghost use Rattle.std.specs.Prelude.{◌≡◌, ◌+◌, ◌<◌, ◌<ℤ◌, ℕ, ℤ, pos, Bool, true, false, List, IfOk, IsTrue, MatchResult};
 ghost use Rattle.ticks.specs.Walks.{HasTimes, IsInstant, moment_at};
 ghost use Rattle.ticks.specs.declared.moment.Ms.{Ms};
 ghost use Rattle.ticks.specs.declared.walk.Walk.TheVariants.{Multiples};
-ghost use Rattle.window_parts.specs.Over.{IsArgumentOf, IsInside, IsRangeOf, IsScalarOf};
+ghost use Rattle.window_parts.specs.Over.{IsArgumentBuilt, IsArgumentOf, IsInside, IsRangeOf, IsRangePlan, IsScalarOf, IsSelectorWithin};
 
 use crate::scalars::scalar_for;
 use crate::selectors::{RangeSelector, range_selector};
@@ -33,6 +38,7 @@ use ticks::{Grid, Ms, WalkMoment, Work};
 fn are_within(course: &Course, moment: &WalkMoment, range: Ms) -> bool
     ensures forward { IsTrue result → pos 0 <ℤ range.0 }
     ensures times { IsTrue result → (t : ℤ) → IsInstant course.now.walk t → HasTimes (moment_at moment.now t) range.0 }
+    ensures near { (n : ℕ) → n < deepest → ReachBack n course.now moment.now range → IsTrue result }
 {
     match course.windows(moment, range) {
         Some(_) => true,
@@ -53,6 +59,7 @@ fn over_selector<W: Ledger>(
     work: &mut Work<W>,
 ) -> Result<Part, Unbuilt>
     ensures part { (p inner : Plan) (arguments : List Plan) → p.node ≡ node.Window f inner arguments → IsRangeOf (asked_over store.now patterns.old span.now) inner selector.now → IsScalarOf (asked_over store.now patterns.old span.now) course.now.walk f arguments scalar → IsPartOf (asked_over store.now patterns.old span.now) course.now.walk p result }
+    ensures total { (n : ℕ) → n < deepest → IsCourseNear n course.now → IsSelectorWithin patterns.old selector.now → IsBuilt false result }
     ensures tested { LooksAt work.old work.new (looked_at selector.now.rules store.now) }
     ensures same { patterns.new ≡ patterns.old }
 {
@@ -95,6 +102,7 @@ pub fn series<W: Ledger>(
     work: &mut Work<W>,
 ) -> Result<Part, Unbuilt>
     ensures part { (p : Plan) (arguments : List Plan) → p.node ≡ node.Window f windows.now arguments → IsArgumentOf (asked_over store.now patterns.old span.now) course.now.walk arguments argument → IsPartOf (asked_over store.now patterns.old span.now) course.now.walk p result }
+    ensures total { (n : ℕ) (given : Kind) (kinds : List Kind) → n < deepest → IsCourseNear n course.now → IsRangePlan patterns.old windows.now → is_window f given kinds ≡ true → IsArgumentBuilt kinds argument → IsBuilt false result }
     ensures tested { LooksAt work.old work.new (plan_looks store.now windows.now) }
     ensures same { patterns.new ≡ patterns.old }
 {
@@ -130,6 +138,7 @@ pub fn inside(
 ) -> Result<Subquery, Unbuilt>
     ensures walk { IfOk result (λ s. s.course.walk ≡ Multiples outer.now.walk s.moment s.range s.step) }
     ensures inside { IfOk result (λ s. (samples kept : _) → IsInside (asked_over samples kept span.now) moment.now range step s) }
+    ensures total { (n : ℕ) → n < deepest → IsCourseNear n outer.now → IsMomentWithin moment.now → IsLength range → IsLength step → MatchResult result (λ s. IsCourseNear (n + 1) s.course) (λ e. e ≡ Memory) }
 {
     let moment = settled(moment, span);
     match outer.inner(alloc, &moment, range, step)? {
@@ -155,7 +164,8 @@ pub fn points(
     argument: Result<Option<Part>, Unbuilt>,
 ) -> Result<Part, Unbuilt>
     requires { inside.now.course.walk ≡ Multiples outer.now.walk inside.now.moment inside.now.range inside.now.step }
-    ensures { (asked : Asked) (p inner q : Plan) (moment : Moment) (range step : Ms) (arguments : List Plan) → p.node ≡ node.Window f inner arguments → inner.node ≡ node.Subquery q range step moment → IsInside asked moment range step inside.now → IsPartOf asked inside.now.course.walk q rows → IsArgumentOf asked outer.now.walk arguments argument → IsPartOf asked outer.now.walk p result }
+    ensures part { (asked : Asked) (p inner q : Plan) (moment : Moment) (range step : Ms) (arguments : List Plan) → p.node ≡ node.Window f inner arguments → inner.node ≡ node.Subquery q range step moment → IsInside asked moment range step inside.now → IsPartOf asked inside.now.course.walk q rows → IsArgumentOf asked outer.now.walk arguments argument → IsPartOf asked outer.now.walk p result }
+    ensures total { (scalar : Bool) (given : Kind) (kinds : List Kind) → is_window f given kinds ≡ true → IsBuilt scalar rows → IsArgumentBuilt kinds argument → IsBuilt false result }
 {
     walk_moments_are_moments();
     multiples_are_all();

@@ -1,10 +1,13 @@
 //! The scalar that a function of windows takes.
+ghost use Rattle.logical_plan.specs.PlanTypes.{is_window};
 ghost use Rattle.logical_plan.specs.declared.nodes.Plan.{Plan};
 ghost use Rattle.op_window.specs.Rules.{takes_scalar as reads_scalar};
+ghost use Rattle.plan_parts.specs.Parts.{IsBuilt};
 ghost use Rattle.promql_meaning.specs.Selecting.{Asked};
-ghost use Rattle.std.specs.Prelude.{◌≡◌, IfOk, List};
+ghost use Rattle.promql_type.specs.declared.kind.Kind.{Kind};
+ghost use Rattle.std.specs.Prelude.{◌≡◌, true, IfOk, List};
 ghost use Rattle.ticks.specs.declared.walk.Walk.{Walk};
-ghost use Rattle.window_parts.specs.Over.{IsArgument, IsScalarOf};
+ghost use Rattle.window_parts.specs.Over.{IsArgument, IsOfKinds, IsScalarOf};
 
 use func_table::Window;
 use plan_parts::kinds::number;
@@ -23,8 +26,10 @@ fn takes_scalar(f: Window) -> bool
 /// The part of the scalar that a function of windows takes; where it takes none, a number, which isn't read. It is `Invalid` where
 /// there is an argument and the function takes none or the other way round, and where the argument isn't a scalar; else the only error
 /// is want of memory.
+#[tactic(auto, using(crate::proofs::Taking::none_taken, crate::proofs::Taking::one_taken))]
 pub(crate) fn scalar_for(alloc: Global, f: Window, argument: Option<Part>) -> Result<Part, Unbuilt>
-    ensures { IfOk result (λ part. (asked : Asked) (walk : Walk) (arguments : List Plan) → IsArgument asked walk arguments argument → IsScalarOf asked walk f arguments part) }
+    ensures part { IfOk result (λ part. (asked : Asked) (walk : Walk) (arguments : List Plan) → IsArgument asked walk arguments argument → IsScalarOf asked walk f arguments part) }
+    ensures total { (given : Kind) (kinds : List Kind) → is_window f given kinds ≡ true → IsOfKinds kinds argument → IsBuilt true result }
 {
     nodes_add_up();
     match argument {

@@ -1,7 +1,8 @@
 //! The range selectors of plans.
+ghost use Rattle.op_labels.specs.Rules.{Kept};
 ghost use Rattle.promql_meaning.specs.Selecting.{Asked};
-ghost use Rattle.std.specs.Prelude.{◌≡◌, ◌++◌, IfOk, IfSome};
-ghost use Rattle.window_parts.specs.Over.{IsRangeOf};
+ghost use Rattle.std.specs.Prelude.{◌≡◌, ◌++◌, IfOk, IfSome, IsSomeAnd};
+ghost use Rattle.window_parts.specs.Over.{IsRangeOf, IsRangePlan, IsSelectorWithin};
 
 use holders::Items;
 use label_set::Rule;
@@ -40,7 +41,8 @@ impl RangeSelector {
 /// The range selector whose windows a plan gives: that of a range, or of one under filters, whose rules it has too. Other plans have
 /// none. The only error is want of memory.
 pub(crate) fn range_selector(p: &Plan) -> Result<Option<RangeSelector>, AllocError>
-    ensures { IfOk result (λ o. IfSome o (λ s. (asked : Asked) → IsRangeOf asked p.now s)) }
+    ensures range { IfOk result (λ o. IfSome o (λ s. (asked : Asked) → IsRangeOf asked p.now s)) }
+    ensures total { (kept : Kept) → IsRangePlan kept p.now → IfOk result (λ o. IsSomeAnd o (IsSelectorWithin kept)) }
 {
     more_rules_filter();
     range_selectors_cost();

@@ -14,7 +14,7 @@ returns-clause-gives g c = λ stay t on.
     let asked = asked_over c.args.store.now c.args.patterns.now c.args.span.now in
     let p = c.args.p.now in
     let walk = c.args.walk.now in
-    let same : c.in-Some.course.walk ≡ walk = subst (λ (o : Option Courses). IfSome o (λ (course : Courses). course.walk ≡ walk)) c.in-Some.is c.in_ok-course.ensures in
+    let same : c.in-Some.course.walk ≡ walk = subst (λ (o : Option Courses). IfSome o (λ (course : Courses). course.walk ≡ walk)) c.in-Some.is c.in_ok-course.ensures.walk in
     let copied : c.in_ok-walk.walk ≡ c.in-Some.course.walk = c.in_ok-walk.ensures ∙ c.walk.ensures.walk in
     c.planted.ensures.gives asked p (part_on asked c.in-Some.course.walk c.in_ok-walk.walk p c.in_ok-part.part copied c.in_ok-part.ensures.part) stay t (subst (λ (w : Walk). IsInstant w t) (sym (copied ∙ same)) on)
 
@@ -30,7 +30,7 @@ returns-clause-within g c =
     let asked = asked_over c.args.store.now c.args.patterns.now c.args.span.now in
     let p = c.args.p.now in
     let walk = c.args.walk.now in
-    let same : c.in-Some.course.walk ≡ walk = subst (λ (o : Option Courses). IfSome o (λ (course : Courses). course.walk ≡ walk)) c.in-Some.is c.in_ok-course.ensures in
+    let same : c.in-Some.course.walk ≡ walk = subst (λ (o : Option Courses). IfSome o (λ (course : Courses). course.walk ≡ walk)) c.in-Some.is c.in_ok-course.ensures.walk in
     let copied : c.in_ok-walk.walk ≡ c.in-Some.course.walk = c.in_ok-walk.ensures ∙ c.walk.ensures.walk in
     subst (λ (w : Walk). StaysWithin asked w p (shape_of c.planted.result.node)) (copied ∙ same)
     (c.planted.ensures.within asked p (part_on asked c.in-Some.course.walk c.in_ok-walk.walk p c.in_ok-part.part copied c.in_ok-part.ensures.part))

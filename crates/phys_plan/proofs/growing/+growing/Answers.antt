@@ -12,12 +12,12 @@ use Rattle.phys_plan.proofs.growing.+growing.Goals as goal
 pub grown-returns-in-Number-clause-part : goal.grown-returns-in-Number-clause-part
 grown-returns-in-Number-clause-part g t c =
     let asked = asked_over c.args.site.now.store.now c.args.patterns.now c.args.site.now.span.now in
-    ok_then c.number.result c.number.ensures (λ part is. is asked c.args.course.now.walk c.args.p.now c.in-Number.is)
+    ok_then c.number.result c.number.ensures.part (λ part is. is asked c.args.course.now.walk c.args.p.now c.in-Number.is)
 
 pub grown-returns-in-Time-clause-part : goal.grown-returns-in-Time-clause-part
 grown-returns-in-Time-clause-part g t c =
     let asked = asked_over c.args.site.now.store.now c.args.patterns.now c.args.site.now.span.now in
-    ok_then c.time.result c.time.ensures (λ part is. is asked c.args.course.now.walk c.args.p.now c.in-Time.is)
+    ok_then c.time.result c.time.ensures.part (λ part is. is asked c.args.course.now.walk c.args.p.now c.in-Time.is)
 
 pub over_one-returns-in_ok-copy-in-Filter-clause-part : goal.over_one-returns-in_ok-copy-in-Filter-clause-part
 over_one-returns-in_ok-copy-in-Filter-clause-part g t c =
@@ -66,7 +66,7 @@ over_points-returns-clause-part g t c =
     let rows = child_of asked asked below.course.walk inner c.get-2.result.now c.grown-rows.result refl c.get-2.ensures c.grown-rows.ensures.part in
     let same = ap (λ (kept : List (Bool × List ℕ)). asked_over store kept span) c.grown-rows.ensures.same in
     let beside = argument_of asked (asked_over store c.grown-rows.new.patterns span) walk arguments c.only_argument-beside.result same (c.only_argument-beside.ensures.part f windows arguments c.in-Window.is) in
-    c.points.ensures asked c.args.p.now windows inner c.in-Subquery.moment c.in-Subquery.range c.in-Subquery.step arguments c.in-Window.is is (c.in_ok-below.ensures.inside store c.args.patterns.now) rows beside
+    c.points.ensures.part asked c.args.p.now windows inner c.in-Subquery.moment c.in-Subquery.range c.in-Subquery.step arguments c.in-Window.is is (c.in_ok-below.ensures.inside store c.args.patterns.now) rows beside
 
 pub over_series-returns-clause-tested : goal.over_series-returns-clause-tested
 over_series-returns-clause-tested g t c =

@@ -12,14 +12,14 @@ use Rattle.op_element.specs.Rules.{reads_first}
 use Rattle.plan_work.specs.PlanLaws.{IsOver}
 use Rattle.plan_parts.proofs.kinds.applied.Goals as goal
 
-pub returns-in-Round : goal.returns-in-Round
-returns-in-Round c = λ asked walk p inner k e i. ok_then c.rounded.result c.rounded.ensures (λ part h.
+pub returns-in-Round-clause-part : goal.returns-in-Round-clause-part
+returns-in-Round-clause-part c = λ asked walk p inner k e i. ok_then c.rounded.result c.rounded.ensures.part (λ part h.
     let rows = c.in_ok-rows.rows in
     let r = part_at asked walk inner c.args.rows rows c.in_ok-rows.was i in
     h asked walk p inner (e ∙ ap (λ (f : Element). node.Element f inner []) c.in-Round.is) r)
 
-pub returns-in_default : goal.returns-in_default
-returns-in_default c = λ asked walk p inner k e i. ok_then c.unary.result c.unary.ensures (λ part u.
+pub returns-in_default-clause-part : goal.returns-in_default-clause-part
+returns-in_default-clause-part c = λ asked walk p inner k e i. ok_then c.unary.result c.unary.ensures.made (λ part u.
     let rows = c.in_ok-rows.rows in
     let r = part_at asked walk inner c.args.rows rows c.in_ok-rows.was i in
     let kept = c.args.patterns.now in

@@ -8,8 +8,8 @@ use Rattle.step_kernels.specs.declared.unary.UnaryRule.TheVariants as unary
 use Rattle.plan_work.specs.PlanLaws.{IsOver}
 use Rattle.plan_parts.proofs.kinds.as_scalar.Goals as goal
 
-pub returns : goal.returns
-returns c = λ asked walk p inner k e i. ok_then c.unary.result c.unary.ensures (λ part u.
+pub returns-clause-part : goal.returns-clause-part
+returns-clause-part c = λ asked walk p inner k e i. ok_then c.unary.result c.unary.ensures.made (λ part u.
     let rows = c.in_ok-rows.rows in
     let r = part_at asked walk inner c.args.rows rows c.in_ok-rows.was i in
     unary_part asked walk p part c.args.patterns.now (unary.Small small.Scalar) true inner rows k u r (of_scalar e) (IsOver.of_scalar e) (λ h. refl)

@@ -10,8 +10,8 @@ use Rattle.logical_plan.specs.declared.nodes.PlanNode.TheVariants as node
 use Rattle.plan_work.specs.PlanLaws.{IsThree}
 use Rattle.plan_parts.proofs.kinds.clamped.Goals as goal
 
-pub returns-in-Clamp : goal.returns-in-Clamp
-returns-in-Clamp c = λ asked walk p inner a b e' i j k. ok_then c.clamp.result c.clamp.ensures (λ part m.
+pub returns-in-Clamp-clause-part : goal.returns-in-Clamp-clause-part
+returns-in-Clamp-clause-part c = λ asked walk p inner a b e' i j k. ok_then c.clamp.result c.clamp.ensures.made (λ part m.
     let rows = c.in_ok-rows.rows in
     let low = c.in_ok-low.low in
     let high = c.in_ok-low.high in

@@ -14,8 +14,8 @@ use Rattle.promql_meaning.specs.Givens.{barren, no_marks}
 use Rattle.plan_work.specs.PlanLaws.{IsOver}
 use Rattle.plan_parts.proofs.kinds.grouped.Goals as goal
 
-pub returns-in-CountValues : goal.returns-in-CountValues
-returns-in-CountValues c = λ asked walk p inner k e' i. ok_then c.beside_number.result c.beside_number.ensures (λ part m.
+pub returns-in-CountValues-clause-part : goal.returns-in-CountValues-clause-part
+returns-in-CountValues-clause-part c = λ asked walk p inner k e' i. ok_then c.beside_number.result c.beside_number.ensures.made (λ part m.
     let rows = c.in_ok-rows.rows in
     let r = part_at asked walk inner c.args.rows rows c.in_ok-rows.was i in
     let by = c.args.by in
@@ -24,8 +24,8 @@ returns-in-CountValues c = λ asked walk p inner k e' i. ok_then c.beside_number
     number_part asked walk p part (binary.Rank CountValues by label) c.whole.result inner rows m r (of_group CountValues by [] [] label e) (IsOver.of_group CountValues by label e)
     (λ x g. counted_gives asked (IsInstant walk) by label p inner rows.scalar rows.own x (λ t. small_step (small.Number c.whole.result) t (barren no_marks)) g e))
 
-pub returns-in_default : goal.returns-in_default
-returns-in_default c = λ asked walk p inner k e i. ok_then c.unary.result c.unary.ensures (λ part u.
+pub returns-in_default-clause-part : goal.returns-in_default-clause-part
+returns-in_default-clause-part c = λ asked walk p inner k e i. ok_then c.unary.result c.unary.ensures.made (λ part u.
     let rows = c.in_ok-rows.rows in
     let r = part_at asked walk inner c.args.rows rows c.in_ok-rows.was i in
     let f = c.args.f in

@@ -5,10 +5,13 @@ use Rattle.plan_parts.proofs.Giving.{ranked_gives}
 use Rattle.plan_parts.specs.Parts.{of_group, reads_parameter}
 use Rattle.step_kernels.specs.declared.binary.BinaryRule.TheVariants as binary
 use Rattle.plan_work.specs.PlanLaws.{IsBeside}
+use Rattle.std.proofs.lemmas.Result.{err_from_is_err_and}
+use Rattle.promql_type.specs.Kinds.{is_scalar}
+use Rattle.plan_parts.proofs.Handed.{handed_on}
 use Rattle.plan_parts.proofs.kinds.ranked.Goals as goal
 
-pub returns : goal.returns
-returns c = λ asked walk p k a e i j. ok_then c.binary.result c.binary.ensures (λ part b.
+pub returns-clause-part : goal.returns-clause-part
+returns-clause-part c = λ asked walk p k a e i j. ok_then c.binary.result c.binary.ensures.made (λ part b.
     let rows = c.in_ok-rows.rows in
     let parameter = c.in_ok-rows.parameter in
     let r = part_at asked walk a c.args.rows rows c.in_ok-rows.ensures.first i in
@@ -19,3 +22,8 @@ returns c = λ asked walk p k a e i j. ok_then c.binary.result c.binary.ensures 
     let reads : reads_parameter f ≡ true = search rules in
     binary_part asked walk p part (binary.Rank f by label) false a k rows parameter b r q (of_group f by (k ∷ []) [] label e) (of_group f by [] (a ∷ []) label e) (inr (IsBeside.of_parameter f by label e)) (λ h. absurd (cc))
     (λ x y g h. ranked_gives asked (IsInstant walk) f by label p k a rows.scalar rows.own parameter.scalar parameter.own x y g h e reads))
+
+pub returns-in_err-rows-clause-total : goal.returns-in_err-rows-clause-total
+returns-in_err-rows-clause-total c = λ kind first takes h k.
+    let p = err_from_is_err_and c.from_residual.result c.from_residual.ensures.1 in
+    handed_on false _ _ _ p.1 p.2 (c.in_err-rows.ensures.total (is_scalar kind) (is_scalar first) h k)

@@ -8,8 +8,8 @@ use Rattle.plan_work.specs.TreeBounds.{StaysWithin}
 use Rattle.step_kernels.specs.Binaries.{binary_rule, takes_scalar}
 use Rattle.plan_parts.proofs.parts.binary.Goals as goal
 
-pub returns : goal.returns
-returns c =
+pub returns-clause-made : goal.returns-clause-made
+returns-clause-made c =
     let rule = c.args.rule in
     let rows = c.in_ok-new-2.ensures.ok in
     let beside = c.in_ok-new-3.ensures.ok in

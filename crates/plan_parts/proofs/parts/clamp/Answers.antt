@@ -7,8 +7,8 @@ use Rattle.plan_tree.specs.declared.node.Node.{Node}
 use Rattle.plan_work.specs.TreeBounds.{StaysWithin}
 use Rattle.plan_parts.proofs.parts.clamp.Goals as goal
 
-pub returns : goal.returns
-returns c =
+pub returns-clause-made : goal.returns-clause-made
+returns-clause-made c =
     let rule = c.args.rule in
     let rows = c.in_ok-new-2.ensures.ok in
     let low = c.in_ok-new-3.ensures.ok in

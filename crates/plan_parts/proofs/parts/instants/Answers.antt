@@ -3,8 +3,8 @@ use Rattle.plan_tree.specs.Shapes.{InstantsOf, Shape}
 use Rattle.plan_work.specs.TreeBounds.{StaysWithin}
 use Rattle.plan_parts.proofs.parts.instants.Goals as goal
 
-pub returns : goal.returns
-returns c =
+pub returns-clause-made : goal.returns-clause-made
+returns-clause-made c =
     let one = c.args.rule in
     let shape = ap InstantsOf c.in_ok-new.ensures.rule in
     record {

@@ -13,8 +13,8 @@ use Rattle.plan_parts.proofs.Giving.{once_gives}
 use Rattle.plan_parts.proofs.Grown.{onces_below, part_at}
 use Rattle.plan_parts.proofs.parts.repeated.Goals as goal
 
-pub returns : goal.returns
-returns c = λ asked walk below p inner begins w e i.
+pub returns-clause-part : goal.returns-clause-part
+returns-clause-part c = λ asked walk below p inner begins w e i.
     let child = c.in_ok-child.child in
     let box = c.in_ok-new.field-0 in
     let same = c.in_ok-new.ensures.ok in

@@ -8,8 +8,8 @@ use Rattle.plan_work.specs.TreeBounds.{StaysWithin}
 use Rattle.step_kernels.specs.Unaries.{KeepsPatterns, is_unary}
 use Rattle.plan_parts.proofs.parts.unary.Goals as goal
 
-pub returns : goal.returns
-returns c =
+pub returns-clause-made : goal.returns-clause-made
+returns-clause-made c =
     let rule = c.args.rule in
     let rows = c.args.rows.tree in
     let same = c.in_ok-new-2.ensures.ok in

@@ -12,15 +12,15 @@ use Rattle.window_parts.specs.Over.{IsArgument}
 use Rattle.window_parts.proofs.Made.{ok_at, points_part}
 use Rattle.window_parts.proofs.over.points.Goals as goal
 
-pub returns : goal.returns
-returns c = λ asked p inner q moment range step arguments e i inside r argued.
+pub returns-clause-part : goal.returns-clause-part
+returns-clause-part c = λ asked p inner q moment range step arguments e i inside r argued.
     let walk = c.args.outer.now.walk in
     let own = c.args.inside.now in
     let kernel = c.in_ok-kernel.kernel in
     let made = c.in_ok-kernel.ensures in
     let rows = c.in_ok-rows.rows in
     let scalar = c.in_ok-scalar.scalar in
-    let one = c.in_ok-scalar.ensures asked walk arguments (ok_at (IsArgument asked walk arguments) c.args.argument c.in_ok-argument.argument c.in_ok-argument.was argued) in
+    let one = c.in_ok-scalar.ensures.part asked walk arguments (ok_at (IsArgument asked walk arguments) c.args.argument c.in_ok-argument.argument c.in_ok-argument.was argued) in
     let below = c.requires in
     let child = subst (λ (w : Walk). IsPart asked w q rows) below (ok_at (IsPart asked own.course.walk q) c.args.rows rows c.in_ok-rows.was r) in
     let leads = coe 0 1 (k. multiples-times walk own.moment own.range own.step k) (subst LeadsToTimes below c.walk.ensures.times) in

@@ -12,8 +12,8 @@ use Rattle.window_parts.proofs.Giving.{filter_gives, range_gives}
 use Rattle.window_parts.proofs.Made.{some_at}
 use Rattle.window_parts.proofs.selectors.+range_selector.Goals as goal
 
-pub returns-in_ok-copy-in-Range : goal.returns-in_ok-copy-in-Range
-returns-in_ok-copy-in-Range t c = λ asked.
+pub returns-in_ok-copy-in-Range-clause-range : goal.returns-in_ok-copy-in-Range-clause-range
+returns-in_ok-copy-in-Range-clause-range t c = λ asked.
     let p = c.args.p.now in
     let rules = c.in-Range.rules in
     let moment = c.in-Range.moment in
@@ -25,14 +25,14 @@ returns-in_ok-copy-in-Range t c = λ asked.
       looks = subst (λ rs. LookAtNoMore asked.samples rs p) (sym same) (c.range_selectors_look.ensures.range asked.samples p rules moment range c.in-Range.is);
     }
 
-pub returns-in_ok-filtered-in-Some : goal.returns-in_ok-filtered-in-Some
-returns-in_ok-filtered-in-Some t c = λ asked.
+pub returns-in_ok-filtered-in-Some-clause-range : goal.returns-in_ok-filtered-in-Some-clause-range
+returns-in_ok-filtered-in-Some-clause-range t c = λ asked.
     let p = c.args.p.now in
     let base = c.in-Filter.base in
     let more = c.in-Filter.rules in
     let selector = c.in-Some.selector in
     let made = c.in_ok-filtered-in-Some.ensures in
-    let found = some_at (λ (s : RangeSelector). (asked : Asked) → IsRangeOf asked c.get.result.now s) _ selector c.in-Some.is c.in_ok-selector-in-Filter.ensures asked in
+    let found = some_at (λ (s : RangeSelector). (asked : Asked) → IsRangeOf asked c.get.result.now s) _ selector c.in-Some.is c.in_ok-selector-in-Filter.ensures.range asked in
     let below = subst (λ (q : Plan). IsRangeOf asked q selector) c.get.ensures found in
     record {
       gives = λ u.
