@@ -1,6 +1,6 @@
 -- Which plans stand below a plan that has a tree, and that they have one.
-use Rattle.std.proofs.Common.{◌≡◌, ◌∙◌, ◌≤◌, ◌+◌, ℕ, List, [], ◌∷◌, ◌++◌, map, length, Bool, true, false, ap, refl, sym, subst, arith}
-use Rattle.std.specs.Prelude.{◌&&◌, ◌||◌, Option, Result, MatchResult}
+use Rattle.std.proofs.Common.{◌≡◌, ◌∙◌, ℕ, List, [], ◌∷◌, map, Bool, true, false, ap, refl, sym, subst}
+use Rattle.std.specs.Prelude.{◌&&◌, ◌||◌, Option, Result}
 use Rattle.func_table.specs.declared.table.Aggregate.{Aggregate}
 use Rattle.func_table.specs.declared.table.Element.{Element}
 use Rattle.func_table.specs.declared.table.SetOp.{SetOp}
@@ -17,7 +17,7 @@ use Rattle.logical_plan.specs.declared.nodes.PlanNode.{PlanNode}
 use Rattle.logical_plan.specs.declared.nodes.PlanNode.TheVariants as node
 use Rattle.logical_plan.specs.declared.nodes.PlanNode.TheOpen.{PlanNode-F}
 use Rattle.op_labels.specs.Rules.{Kept}
-use Rattle.promql_type.specs.Kinds.{both, is_kind, is_number, is_scalar}
+use Rattle.promql_type.specs.Kinds.{is_kind, is_number, is_scalar}
 use Rattle.promql_type.specs.Rules.{comparison_refusals, matching_refusals}
 use Rattle.promql_type.specs.declared.kind.Kind.{Kind}
 use Rattle.promql_type.specs.declared.kind.Kind.TheVariants.{Scalar, Vector, Windows, Words}
@@ -35,7 +35,7 @@ use Rattle.phys_plan.proofs.KindsOf.{IsNumber, element_alone, element_beside_one
 
 -- ---- what nodes give
 
-abbrev T : Plan → Typing
+abbrev pub T : Plan → Typing
 T = typing
 
 -- what a node is, of what its children are

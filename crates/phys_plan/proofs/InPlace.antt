@@ -1,6 +1,6 @@
 -- Children of plans that are typed, within the limits and served are so too.
-use Rattle.std.proofs.Common.{◌≡◌, ◌≤◌, ◌∙◌, ℕ, ◌+◌, List, [], ◌∷◌, ◌++◌, map, Bool, true, false, ap, sym, subst, arith}
-use Rattle.std.specs.Prelude.{◌&&◌, max, ⊤}
+use Rattle.std.proofs.Common.{◌≡◌, ◌≤◌, ◌∙◌, ℕ, List, [], ◌∷◌, map, Bool, true, false, ap, sym, subst, arith}
+use Rattle.std.specs.Prelude.{◌&&◌, ⊤}
 use Rattle.std.specs.List.{AllByRecursion}
 use Rattle.frac_text.specs.Times.{time_limit}
 use Rattle.holders.specs.Joins.{back_of, front_of}
@@ -17,7 +17,7 @@ use Rattle.promql_ast.specs.Depth.{greatest}
 use Rattle.promql_ast.specs.Parts.{AreWithin, IsWithin, Part}
 use Rattle.promql_type.specs.Kinds.{is_kind}
 use Rattle.promql_type.specs.declared.kind.Kind.{Kind}
-use Rattle.promql_type.specs.declared.kind.Kind.TheVariants.{Scalar, Vector, Windows}
+use Rattle.promql_type.specs.declared.kind.Kind.TheVariants.{Scalar, Vector}
 use Rattle.ticks.specs.Durations.{hundred_years}
 use Rattle.plan_parts.specs.Parts.{IsChild}
 use Rattle.plan_parts.specs.Serving.{IsServed, Serving, all_patterns, all_rules, are_served, node_serving, own_patterns, own_rules, own_served, serving}

@@ -1,14 +1,14 @@
 -- Children of typed nodes are of the kinds that the nodes take.
-use Rattle.std.proofs.Common.{◌≡◌, ◌∙◌, ◌≤◌, ℕ, suc, length, ◌++◌, arith, length-append, List, [], ◌∷◌, map, Bool, true, false, ap, refl, sym, subst}
-use Rattle.std.specs.Prelude.{◌&&◌, ◌||◌, ◌==◌, Option}
+use Rattle.std.proofs.Common.{◌≡◌, ◌≤◌, ℕ, suc, length, ◌++◌, arith, length-append, List, [], ◌∷◌, Bool, true, false, refl, sym, subst}
+use Rattle.std.specs.Prelude.{◌&&◌, ◌||◌, ◌==◌}
 use Rattle.func_table.specs.declared.table.Aggregate.{Aggregate}
 use Rattle.func_table.specs.declared.table.Aggregate.TheVariants as aggregate
 use Rattle.func_table.specs.declared.table.Element.{Element}
 use Rattle.func_table.specs.declared.table.Element.TheVariants as element
 use Rattle.func_table.specs.declared.table.Window.{Window as WindowFunction}
 use Rattle.func_table.specs.declared.table.Window.TheVariants as window
-use Rattle.logical_plan.specs.PlanTypes.{has_none, is_element, is_filled, is_group, is_of, is_sound, is_window, operand_of}
-use Rattle.promql_type.specs.Kinds.{is_kind, is_number, is_scalar}
+use Rattle.logical_plan.specs.PlanTypes.{is_element, is_filled, is_group, is_of, is_sound, is_window}
+use Rattle.promql_type.specs.Kinds.{is_kind, is_number}
 use Rattle.promql_type.specs.declared.kind.Kind.{Kind}
 use Rattle.promql_type.specs.declared.kind.Kind.TheVariants.{Scalar, Vector, Windows, Words}
 use Rattle.logical_plan.specs.PlanTypes.{Typing}

@@ -1,19 +1,17 @@
 -- What stands below selectors and functions of windows of a plan that has a tree.
-use Rattle.std.proofs.Common.{◌≡◌, ◌∙◌, ◌<◌, ◌≤◌, ◌+◌, ◌⊎◌, ℕ, List, [], ◌∷◌, ◌++◌, map, length, Bool, true, false, ap, refl, sym, subst, arith}
-use Rattle.std.specs.Prelude.{◌&&◌, ◌||◌, max, Option}
+use Rattle.std.proofs.Common.{◌≡◌, ◌∙◌, ◌<◌, ◌+◌, ℕ, List, [], ◌∷◌, map, Bool, true, false, ap, refl, sym, subst, arith}
+use Rattle.std.specs.Prelude.{◌||◌}
 use Rattle.std.specs.List.{AllByRecursion}
-use Rattle.frac_text.specs.Times.{time_limit}
-use Rattle.func_table.specs.declared.table.Element.{Element}
 use Rattle.func_table.specs.declared.table.Window.{Window as WindowFunction}
-use Rattle.holders.specs.Joins.{back_of, front_of}
+use Rattle.holders.specs.Joins.{front_of}
 use Rattle.label_set.specs.declared.rules.PatternId.{PatternId}
 use Rattle.label_set.specs.declared.rules.Relabel.{Relabel as Relabelling}
 use Rattle.label_set.specs.declared.rules.Relabel.TheVariants as relabel
 use Rattle.label_set.specs.declared.rules.Rule.{Rule}
 use Rattle.logical_plan.specs.Lowering.{planned}
 use Rattle.logical_plan.specs.PlanFolds.{at_node, by_node, of, of-Filter, of-Relabel, of-Select, of-Subquery, of-Window}
-use Rattle.logical_plan.specs.PlanTypes.{is_of, is_relabel, is_sound, is_unstamped, node_typing, typing}
-use Rattle.logical_plan.specs.Validity.{Measure, all_parts, deepest, measured, node_measure}
+use Rattle.logical_plan.specs.PlanTypes.{is_of, is_unstamped, node_typing, typing}
+use Rattle.logical_plan.specs.Validity.{Measure, deepest, measured, node_measure}
 use Rattle.logical_plan.specs.declared.nodes.Plan.{Plan}
 use Rattle.logical_plan.specs.declared.nodes.PlanNode.{PlanNode}
 use Rattle.logical_plan.specs.declared.nodes.PlanNode.TheVariants as node
@@ -22,18 +20,16 @@ use Rattle.logical_plan.specs.declared.nodes.PlanNode.TheViews.{out-PlanNode, ou
 use Rattle.logical_plan.specs.declared.nodes.PlanNode.TheFolds.{map-PlanNode}
 use Rattle.match_rule.specs.Patterns.{HasItsPattern, HaveTheirPatterns, IsWholeId}
 use Rattle.op_labels.specs.Rules.{HasPatterns, Kept}
-use Rattle.promql_ast.specs.Parts.{AreWithin}
 use Rattle.promql_ast.specs.declared.tree.Moment.{Moment}
 use Rattle.promql_type.specs.declared.kind.Kind.TheVariants.{Vector}
-use Rattle.ticks.specs.Durations.{hundred_years}
 use Rattle.ticks.specs.declared.moment.Ms.{Ms}
 use Rattle.plan_parts.specs.Courses.{IsLength, IsMomentWithin}
 use Rattle.plan_parts.specs.Parts.{IsChild}
-use Rattle.plan_parts.specs.Serving.{IsServed, Serving, all_patterns, all_rules, are_served, node_points, node_serving, serving}
+use Rattle.plan_parts.specs.Serving.{Serving, all_rules, are_served, node_points, node_serving, serving}
 use Rattle.window_parts.specs.Over.{IsRangePlan}
 use Rattle.phys_plan.specs.Growth.{CanGrow, HasTree, IsInPlace}
 use Rattle.phys_plan.proofs.Growths.{told, typing-Relabel}
-use Rattle.phys_plan.proofs.InPlace.{Fits, in_place_below, left_true, right_true}
+use Rattle.phys_plan.proofs.InPlace.{Fits, in_place_below, left_true}
 use Rattle.phys_plan.proofs.KindsOf.{of_kind, vector_number}
 
 abbrev M : Plan → Measure

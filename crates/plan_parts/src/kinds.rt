@@ -9,8 +9,8 @@ ghost use Rattle.plan_parts.specs.Parts.{AreBuilt, IsBesideNumber, IsBuilt, IsPa
 ghost use Rattle.promql_meaning.specs.Selecting.{Asked};
 ghost use Rattle.promql_type.specs.Kinds.{both, is_scalar};
 ghost use Rattle.promql_type.specs.declared.kind.Kind.{Kind};
-ghost use Rattle.std.specs.Prelude.{◌≡◌, [], ◌∷◌, Bool, false, true, Ok, IfOk, IsTrue, MatchResult, OnOk};
-ghost use Rattle.step_kernels.specs.Binaries.{is_binary, takes_scalar};
+ghost use Rattle.std.specs.Prelude.{◌≡◌, [], ◌∷◌, Bool, false, true, Ok, IfOk, IsTrue};
+ghost use Rattle.step_kernels.specs.Binaries.{is_binary};
 ghost use Rattle.ticks.specs.declared.walk.Walk.{Walk};
 
 use crate::parts::{Part, binary, clamp, instants, unary};

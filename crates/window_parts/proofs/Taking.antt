@@ -1,5 +1,5 @@
 -- Which functions of windows take a scalar.
-use Rattle.std.proofs.Common.{◌≡◌, ◌∙◌, Bool, true, false, List, [], ◌∷◌, Option, None, Some, refl}
+use Rattle.std.proofs.Common.{◌≡◌, ◌∙◌, Bool, true, false, List, [], ◌∷◌, None, Some, refl}
 use Rattle.std.specs.Prelude.{◌&&◌}
 use Rattle.func_table.specs.declared.table.Window.{Window as WindowFunction}
 use Rattle.func_table.specs.declared.table.Window.TheVariants.{PredictLinear, QuantileOver}

@@ -1,12 +1,17 @@
 use Rattle.std.proofs.Common.{◌≡◌, ◌∙◌, Option, subst, sym}
-use Rattle.std.specs.Prelude.{IfSome}
-use Rattle.plan_parts.specs.Courses.{Courses}
+use Rattle.std.specs.Prelude.{IfSome, IsOkUnless, IsSomeAnd, Result}
+use Rattle.std.proofs.lemmas.Result.{err_from_is_err_and}
+use Rattle.plan_parts.specs.Courses.{Courses, IsCourseNear}
+use Rattle.plan_parts.specs.declared.unbuilt.Unbuilt.{Unbuilt}
+use Rattle.plan_parts.specs.declared.unbuilt.Unbuilt.TheVariants.{Memory}
+use Rattle.plan_tree.specs.declared.tree.Tree.{Tree}
 use Rattle.plan_tree.specs.Nodes.{shape_of}
 use Rattle.plan_work.specs.TreeBounds.{StaysWithin}
 use Rattle.promql_meaning.specs.Selecting.{asked_over}
 use Rattle.ticks.specs.Walks.{IsInstant}
 use Rattle.ticks.specs.declared.walk.Walk.{Walk}
 use Rattle.phys_plan.proofs.Built.{part_on}
+use Rattle.phys_plan.proofs.Windowed.{whole_grows}
 use Rattle.phys_plan.proofs.building.build.Goals as goal
 
 pub returns-clause-gives : goal.returns-clause-gives
@@ -34,3 +39,11 @@ returns-clause-within g c =
     let copied : c.in_ok-walk.walk ≡ c.in-Some.course.walk = c.in_ok-walk.ensures ∙ c.walk.ensures.walk in
     subst (λ (w : Walk). StaysWithin asked w p (shape_of c.planted.result.node)) (copied ∙ same)
     (c.planted.ensures.within asked p (part_on asked c.in-Some.course.walk c.in_ok-walk.walk p c.in_ok-part.part copied c.in_ok-part.ensures.part))
+
+pub returns-in_err-part-clause-total : goal.returns-in_err-part-clause-total
+returns-in_err-part-clause-total g c = λ tree asked.
+    let near : IsCourseNear 0 c.in-Some.course = subst (λ (o : Option Courses). IsSomeAnd o (IsCourseNear 0)) c.in-Some.is (c.in_ok-course.ensures.near asked) in
+    let e = c.in_err-part.ensures.total 0 near (whole_grows c.args.patterns.now c.args.p.now tree) in
+    let r = c.from_residual-in_err-part in
+    let p = err_from_is_err_and r.result r.ensures.1 in
+    subst (λ (built : Result Tree Unbuilt). IsOkUnless built Memory) (sym p.1) (p.2 ∙ e)
