@@ -1,5 +1,5 @@
 -- Which plans stand below a plan that has a tree, and that they have one.
-use Rattle.std.proofs.Common.{◌≡◌, ◌∙◌, ℕ, List, [], ◌∷◌, map, Bool, true, false, ap, refl, sym, subst}
+use Rattle.std.proofs.Common.{◌≡◌, ◌∙◌, ◌≤◌, ℕ, suc, arith, length, List, [], ◌∷◌, map, Bool, true, false, ap, refl, sym, subst}
 use Rattle.std.specs.Prelude.{◌&&◌, ◌||◌, Option, Result}
 use Rattle.func_table.specs.declared.table.Aggregate.{Aggregate}
 use Rattle.func_table.specs.declared.table.Element.{Element}
@@ -31,7 +31,7 @@ use Rattle.plan_parts.specs.declared.parts.Part.{Part}
 use Rattle.plan_parts.specs.declared.unbuilt.Unbuilt.{Unbuilt}
 use Rattle.phys_plan.specs.Growth.{CanGrow, GivesNumbers}
 use Rattle.phys_plan.proofs.InPlace.{in_place_below, left_true, right_true}
-use Rattle.phys_plan.proofs.KindsOf.{IsNumber, element_alone, element_beside_one, element_beside_two, group_alone, group_beside, of_kind, pair_numbers, scalar_number, vector_number, window_beside}
+use Rattle.phys_plan.proofs.KindsOf.{IsNumber, element_alone, element_beside_one, element_beside_two, element_few, group_alone, group_beside, group_few, of_kind, pair_numbers, scalar_number, vector_number, window_beside, window_few}
 
 -- ---- what nodes give
 
@@ -115,6 +115,10 @@ told e h = sym (ap (λ (t : Typing). t.typed) e) ∙ h
 -- windows are no numbers
 pub no_windows : (p : Plan) (t : Typing) → T p ≡ t → t.kind ≡ Windows → GivesNumbers p → ⊥
 no_windows p t e w h = let none : false ≡ true = sym (ap is_number (ap (λ (s : Typing). s.kind) e ∙ w)) ∙ h in absurd (cc)
+
+kinds_count : (ps : List Plan) → length (kinds_of (map T ps)) ≡ length ps
+kinds_count [] = refl
+kinds_count (p ∷ ps) = ap suc (kinds_count ps)
 
 -- ---- children that have trees
 
@@ -229,6 +233,12 @@ module _ (kept : Kept) (n : ℕ) where
       let ns = element_beside_two f (T inner).kind (T a).kind (T b).kind (takes-Element p f inner (a ∷ b ∷ []) e can) in
       (grow (IsChild.of_element f (a ∷ b ∷ []) e) can ns.0, grow (IsChild.of_element_argument f inner [] (b ∷ []) e) can ns.1, grow (IsChild.of_element_argument f inner (a ∷ []) [] e) can ns.2)
 
+  -- there are at most two arguments
+  pub few-Element : (p : Plan) (f : Element) (inner : Plan) (arguments : List Plan) → p.node ≡ node.Element f inner arguments → Can p → length arguments ≤ 2
+  few-Element p f inner arguments e can =
+      let few = element_few f (T inner).kind (kinds_of (map T arguments)) (takes-Element p f inner arguments e can) in
+      let count = kinds_count arguments in omega arith
+
   pub takes-Group : (p : Plan) (f : Aggregate) (by : Grouping) (arguments : List Plan) (label : List ℕ) → p.node ≡ node.Group f by arguments label → Can p → is_group f (kinds_of (map T arguments)) label ≡ true
   takes-Group p f by arguments label e can =
       right_true (are_sound (map T arguments)) (is_group f (kinds_of (map T arguments)) label) (told (typing-Group p f by arguments label e) can.placed.typed)
@@ -241,6 +251,12 @@ module _ (kept : Kept) (n : ℕ) where
       let ns = group_beside f (T a).kind (T b).kind label (takes-Group p f by (a ∷ b ∷ []) label e can) in
       (grow (IsChild.of_group f by [] (b ∷ []) label e) can ns.0, grow (IsChild.of_group f by (a ∷ []) [] label e) can ns.1)
 
+  -- there are one or two arguments
+  pub few-Group : (p : Plan) (f : Aggregate) (by : Grouping) (arguments : List Plan) (label : List ℕ) → p.node ≡ node.Group f by arguments label → Can p → (1 ≤ length arguments) × (length arguments ≤ 2)
+  few-Group p f by arguments label e can =
+      let few = group_few f (kinds_of (map T arguments)) label (takes-Group p f by arguments label e can) in
+      let count = kinds_count arguments in (omega arith, omega arith)
+
   -- ---- functions of windows
 
   pub takes-Window : (p : Plan) (f : WindowFunction) (inner : Plan) (arguments : List Plan) → p.node ≡ node.Window f inner arguments → Can p → is_window f (T inner).kind (kinds_of (map T arguments)) ≡ true
@@ -249,3 +265,9 @@ module _ (kept : Kept) (n : ℕ) where
 
   pub grows-Window : (p : Plan) (f : WindowFunction) (inner a : Plan) → p.node ≡ node.Window f inner (a ∷ []) → Can p → Can a
   grows-Window p f inner a e can = grow (IsChild.of_window_argument f inner [] [] e) can (window_beside f (T inner).kind (T a).kind (takes-Window p f inner (a ∷ []) e can))
+
+  -- there is at most one further argument
+  pub few-Window : (p : Plan) (f : WindowFunction) (inner : Plan) (arguments : List Plan) → p.node ≡ node.Window f inner arguments → Can p → length arguments ≤ 1
+  few-Window p f inner arguments e can =
+      let few = window_few f (T inner).kind (kinds_of (map T arguments)) (takes-Window p f inner arguments e can) in
+      let count = kinds_count arguments in omega arith

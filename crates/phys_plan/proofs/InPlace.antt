@@ -75,6 +75,7 @@ typed_all (PlanNode-F.Set op left right pairing) h = (of_typed Vector left (left
 typed_all (PlanNode-F.Filter base rules) h = (sound_typed base (left_true (is_sound base) _ h), tt)
 typed_all (PlanNode-F.Ratio sum count) h = (of_typed Vector sum (left_true (is_of Vector sum) (is_of Vector count) h), (of_typed Vector count (right_true (is_of Vector sum) (is_of Vector count) h), tt))
 typed_all (PlanNode-F.Once inner) h = (h, tt)
+typed_all (PlanNode-F.Gather expr kind engines) h = tt
 
 -- ---- limits and depths
 

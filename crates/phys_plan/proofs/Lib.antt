@@ -1,3 +1,4 @@
+mod Arguments
 mod Arms
 mod Built
 mod Growths

@@ -9,7 +9,7 @@ use Rattle.label_set.specs.declared.rules.Relabel.{Relabel as Relabelling}
 use Rattle.label_set.specs.declared.rules.Relabel.TheVariants as relabel
 use Rattle.label_set.specs.declared.rules.Rule.{Rule}
 use Rattle.logical_plan.specs.Lowering.{planned}
-use Rattle.logical_plan.specs.PlanFolds.{at_node, by_node, of, of-Filter, of-Relabel, of-Select, of-Subquery, of-Window}
+use Rattle.logical_plan.specs.PlanFolds.{at_node, by_node, of, of-Filter, of-Gather, of-Relabel, of-Select, of-Subquery, of-Window}
 use Rattle.logical_plan.specs.PlanTypes.{is_of, is_unstamped, node_typing, typing}
 use Rattle.logical_plan.specs.Validity.{Measure, deepest, measured, node_measure}
 use Rattle.logical_plan.specs.declared.nodes.Plan.{Plan}
@@ -20,8 +20,10 @@ use Rattle.logical_plan.specs.declared.nodes.PlanNode.TheViews.{out-PlanNode, ou
 use Rattle.logical_plan.specs.declared.nodes.PlanNode.TheFolds.{map-PlanNode}
 use Rattle.match_rule.specs.Patterns.{HasItsPattern, HaveTheirPatterns, IsWholeId}
 use Rattle.op_labels.specs.Rules.{HasPatterns, Kept}
+use Rattle.promql_ast.specs.declared.tree.Expr.{Expr}
 use Rattle.promql_ast.specs.declared.tree.Moment.{Moment}
 use Rattle.promql_type.specs.declared.kind.Kind.TheVariants.{Vector}
+use Rattle.step_table.specs.declared.cells.PartKind.{PartKind}
 use Rattle.ticks.specs.declared.moment.Ms.{Ms}
 use Rattle.plan_parts.specs.Courses.{IsLength, IsMomentWithin}
 use Rattle.plan_parts.specs.Parts.{IsChild}
@@ -71,6 +73,12 @@ whole_grows kept p h = record {
 module _ (kept : Kept) (n : ℕ) where
   abbrev Can : Plan → Type 0
   Can = CanGrow kept n
+
+  -- ---- parts that engines are asked for
+
+  pub no_gather : (p : Plan) (expr : Expr) (kind : PartKind) (engines : List ℕ) → p.node ≡ node.Gather expr kind engines → Can p → ⊥
+  no_gather p expr kind engines e can =
+      let none : false ≡ true = subst (λ (s : Serving). s.served ≡ true) (serving_there p (node.Gather expr kind engines) e ∙ of-Gather node_serving (λ q. q.node) p.at expr kind engines) can.placed.served.windows in absurd (cc)
 
   -- ---- selectors
 

@@ -67,6 +67,7 @@ pub(crate) fn grown<W: Ledger>(
         PlanNode::Filter { .. } => over_one(site, course, p, patterns, work),
         PlanNode::Range { .. } => Err(Unbuilt::Invalid),
         PlanNode::Subquery { .. } => Err(Unbuilt::Invalid),
+        PlanNode::Gather { .. } => Err(Unbuilt::Invalid),
     }
 }
 

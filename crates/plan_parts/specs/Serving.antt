@@ -1,5 +1,5 @@
--- Which plans kernels serve: functions of windows stand over range selectors, which filters may stand over, or over subqueries, and the
--- patterns that a plan names are kept. (This project's own.)
+-- Which plans kernels serve: functions of windows stand over range selectors, which filters may stand over, or over subqueries, engines are
+-- asked for no part, and the patterns that a plan names are kept. (This project's own.)
 use Rattle.std.specs.Prelude.{◌≡◌, ◌&&◌, ◌||◌, ◌++◌, Bool, true, false, List, [], ◌∷◌}
 use Rattle.std.specs.List.{AllByRecursion}
 use Rattle.label_set.specs.declared.rules.PatternId.{PatternId}
@@ -13,7 +13,7 @@ use Rattle.match_rule.specs.Patterns.{HaveTheirPatterns, IsWholeId}
 use Rattle.op_labels.specs.Rules.{Kept}
 
 -- Whether a plan gives the windows of a range selector, and whether those of a subquery; whether each function of windows in it stands
--- over one of these; the rules of its selectors and filters; and the patterns of its label_replace nodes.
+-- over one of these and engines are asked for no part; the rules of its selectors and filters; and the patterns of its label_replace nodes.
 pub record Serving : Type 0 where
   pub ranges : Bool
   pub points : Bool
@@ -34,6 +34,7 @@ node_points _ = false
 
 abbrev pub own_served : {A : Type 0} → PlanNode-F A Serving → Bool
 own_served (PlanNode-F.Window f inner arguments) = inner.ranges || inner.points
+own_served (PlanNode-F.Gather expr kind engines) = false
 own_served _ = true
 
 abbrev pub own_rules : {A B : Type 0} → PlanNode-F A B → List Rule

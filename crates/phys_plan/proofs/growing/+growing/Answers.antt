@@ -1,4 +1,4 @@
-use Rattle.std.proofs.Common.{◌∙◌, Bool, List, ap, arith, refl, subst, sym, ℕ, ◌≡◌, ◌+◌, true, [], ◌∷◌, map, rules}
+use Rattle.std.proofs.Common.{◌∙◌, Bool, List, length, None, Some, ap, arith, refl, subst, sym, ℕ, ◌≡◌, ◌≤◌, ◌+◌, true, [], ◌∷◌, map}
 use Rattle.label_set.specs.declared.rules.Relabel.TheVariants.{Filter}
 use Rattle.label_set.specs.declared.rules.Rule.{Rule}
 use Rattle.logical_plan.specs.declared.nodes.Plan.{Plan}
@@ -18,10 +18,12 @@ use Rattle.promql_ast.specs.declared.tree.Moment.{Moment}
 use Rattle.promql_type.specs.Kinds.{is_scalar}
 use Rattle.ticks.specs.declared.moment.Ms.{Ms}
 use Rattle.plan_parts.specs.Serving.{serving}
-use Rattle.window_parts.specs.Over.{IsRangePlan}
+use Rattle.window_parts.specs.Over.{IsArgumentBuilt, IsOfKinds, IsRangePlan}
 use Rattle.phys_plan.specs.Growth.{CanGrow, IsChange, IsRetyping, IsTwofold}
-use Rattle.phys_plan.proofs.Growths.{N, T, as_kind, grows-Absent, grows-Buckets, grows-Element, grows-Element-one, grows-Element-two, grows-Filter, grows-Group, grows-Group-two, grows-Once, grows-Pair, grows-Ratio, grows-Relabel, grows-ScalarOf, grows-Set, grows-Sort, grows-Stamp, grows-VectorOf, no_windows, scalar-Buckets, takes-Element, takes-Group, takes-Window, typing-Absent, typing-Buckets, typing-Element, typing-Group, typing-Number, typing-Once, typing-Pair, typing-Range, typing-Ratio, typing-Relabel, typing-ScalarOf, typing-Select, typing-Set, typing-Sort, typing-Stamp, typing-Subquery, typing-Time, typing-VectorOf, typing-Window, vector-Filter}
-use Rattle.phys_plan.proofs.Windowed.{filter_kept, range_plan, relabel_kept, select_few, select_kept, select_within, subquery_grows, subquery_within, window_few, windows_range}
+use Rattle.phys_plan.proofs.Arguments.{none_of, one_at, one_of, two_at, two_of, window_arguments, window_inner}
+use Rattle.phys_plan.proofs.Growths.{N, T, as_kind, few-Element, few-Group, few-Window, grows-Absent, grows-Buckets, grows-Element, grows-Element-one, grows-Element-two, grows-Filter, grows-Group, grows-Group-two, grows-Once, grows-Pair, grows-Ratio, grows-Relabel, grows-ScalarOf, grows-Set, grows-Sort, grows-Stamp, grows-VectorOf, grows-Window, no_windows, scalar-Buckets, takes-Element, takes-Group, takes-Window, typing-Absent, typing-Buckets, typing-Element, typing-Group, typing-Number, typing-Once, typing-Pair, typing-Range, typing-Ratio, typing-Relabel, typing-ScalarOf, typing-Select, typing-Set, typing-Sort, typing-Stamp, typing-Subquery, typing-Time, typing-VectorOf, typing-Window, vector-Filter}
+use Rattle.phys_plan.proofs.Windowed.{filter_kept, no_gather, range_plan, relabel_kept, select_few, select_kept, select_within, subquery_grows, subquery_within, window_few, windows_range}
+use Rattle.phys_plan.proofs.growing.+growing.Goals.{group-in_default-as_slice, group-in_default-as_slice-2}
 use Rattle.phys_plan.proofs.growing.+growing.Goals as goal
 
 pub grown-returns-in-Number-clause-part : goal.grown-returns-in-Number-clause-part
@@ -198,6 +200,11 @@ grown-returns-in-Subquery-clause-total g t c = λ n near can.
     let s = c.in-Subquery in
     absurd (no_windows p (N (PlanNode-F.Subquery (T s.inner) s.range s.step s.moment)) (typing-Subquery p s.inner s.range s.step s.moment s.is) refl can.number)
 
+pub grown-returns-in-Gather-clause-total : goal.grown-returns-in-Gather-clause-total
+grown-returns-in-Gather-clause-total g t c = λ n near can.
+    let it = c.in-Gather in
+    absurd (no_gather c.args.patterns.now n c.args.p.now it.expr it.kind it.asked it.is can)
+
 pub over_one-returns-in-Stamp-clause-total : goal.over_one-returns-in-Stamp-clause-total
 over_one-returns-in-Stamp-clause-total g t c = λ change n near can.
     let p = c.args.p.now in
@@ -311,7 +318,8 @@ element-returns-in-empty-clause-total g t c = λ f' inner' arguments is n near c
     let p = c.args.p.now in
     let f = c.in-Element.f in
     let inner = c.get.result.now in
-    let e : p.node ≡ node.Element f inner [] = search rules in
+    let none = none_of c.as_slice.result.now c.in-Element.arguments c.as_slice.ensures c.in-empty.len_below in
+    let e : p.node ≡ node.Element f inner [] = c.in-Element.is ∙ (λ i. node.Element f (sym c.get.ensures i) (none i)) in
     let rows = c.grown-rows.ensures.total n near (grows-Element c.args.patterns.now n p f inner e can) in
     as_kind p (N (PlanNode-F.Element f (T inner) [])) c.applied.result (typing-Element p f inner [] e)
     (c.applied.ensures.total (T inner).kind (takes-Element c.args.patterns.now n p f inner [] e can) rows)
@@ -319,16 +327,26 @@ element-returns-in-empty-clause-total g t c = λ f' inner' arguments is n near c
 pub element-returns-in-len1-clause-total : goal.element-returns-in-len1-clause-total
 element-returns-in-len1-clause-total g t c = λ f inner arguments is n near can.
     let p = c.args.p.now in
-    let a = c.in-Element.field-2 in
-    let e : p.node ≡ node.Element c.in-Element.f c.in-Element.inner (slice_index_or a 0 p ∷ []) = search rules in
-    c.beside_one.ensures.total c.in-Element.f c.in-Element.inner (slice_index_or a 0 p) e n near can
+    let s = c.as_slice.result.now in
+    let it = c.in-Element in
+    let one = one_at s it.arguments p c.as_slice.ensures c.in-len1.len_at_least c.in-len1.len_below in
+    c.beside_one.ensures.total it.f it.inner (slice_index_or s 0 p) (it.is ∙ ap (node.Element it.f it.inner) one) n near can
 
 pub element-returns-in-len2-clause-total : goal.element-returns-in-len2-clause-total
 element-returns-in-len2-clause-total g t c = λ f inner arguments is n near can.
     let p = c.args.p.now in
-    let a = c.in-Element.field-2 in
-    let e : p.node ≡ node.Element c.in-Element.f c.in-Element.inner (slice_index_or a 0 p ∷ slice_index_or a 1 p ∷ []) = search rules in
-    c.beside_two.ensures.total c.in-Element.f c.in-Element.inner (slice_index_or a 0 p) (slice_index_or a 1 p) e n near can
+    let s = c.as_slice.result.now in
+    let it = c.in-Element in
+    let two = two_at s it.arguments p c.as_slice.ensures c.in-len2.len_at_least c.in-len2.len_below in
+    c.beside_two.ensures.total it.f it.inner (slice_index_or s 0 p) (slice_index_or s 1 p) (it.is ∙ ap (node.Element it.f it.inner) two) n near can
+
+pub element-returns-in_default-as_slice-clause-total : goal.element-returns-in_default-as_slice-clause-total
+element-returns-in_default-as_slice-clause-total g t c = λ f inner arguments is n near can.
+    let it = c.in-Element in
+    let few = few-Element c.args.patterns.now n c.args.p.now it.f it.inner it.arguments it.is can in
+    let count = ap length c.as_slice.ensures in
+    let many = c.in_default-as_slice.len_at_least in
+    absurd (omega arith)
 
 pub beside_one-returns-clause-total : goal.beside_one-returns-clause-total
 beside_one-returns-clause-total g t c = λ f' inner' a' is n near can.
@@ -336,7 +354,8 @@ beside_one-returns-clause-total g t c = λ f' inner' a' is n near can.
     let f = c.in-Element.f in
     let inner = c.get.result.now in
     let a = c.a-item.result in
-    let e : p.node ≡ node.Element f inner (a ∷ []) = search rules in
+    let one = one_of c.as_slice.result.now c.in-Element.arguments a c.as_slice.ensures c.a-item.is c.in-len1.len_at_least c.in-len1.len_below in
+    let e : p.node ≡ node.Element f inner (a ∷ []) = c.in-Element.is ∙ (λ i. node.Element f (sym c.get.ensures i) (one i)) in
     let both = grows-Element-one c.args.patterns.now n p f inner a e can in
     let rows = c.grown-rows.ensures.total n near both.0 in
     let beside = c.grown-beside.ensures.total n near (subst (λ (k : Kept). CanGrow k n a) (sym c.grown-rows.ensures.same) both.1) in
@@ -350,7 +369,8 @@ beside_two-returns-clause-total g t c = λ f' inner' a' b' is n near can.
     let inner = c.get.result.now in
     let a = c.a-item.result in
     let b = c.b-item.result in
-    let e : p.node ≡ node.Element f inner (a ∷ b ∷ []) = search rules in
+    let two = two_of c.as_slice.result.now c.in-Element.arguments a b c.as_slice.ensures c.a-item.is c.b-item.is c.in-len2.len_at_least c.in-len2.len_below in
+    let e : p.node ≡ node.Element f inner (a ∷ b ∷ []) = c.in-Element.is ∙ (λ i. node.Element f (sym c.get.ensures i) (two i)) in
     let all = grows-Element-two c.args.patterns.now n p f inner a b e can in
     let rows = c.grown-rows.ensures.total n near all.0 in
     let low = c.grown-low.ensures.total n near (subst (λ (k : Kept). CanGrow k n a) (sym c.grown-rows.ensures.same) all.1) in
@@ -383,7 +403,7 @@ over_series-returns-clause-total g t c = λ f' inner' arguments' e' ranges' n ne
     let e = c.in-Window.is ∙ ap (λ (q : Plan). node.Window f q arguments) (sym c.get.ensures) in
     let beside = c.only_argument-beside.ensures.total n f c.in-Window.windows arguments c.in-Window.is near can in
     let j : node.Window f' inner' arguments' ≡ node.Window f c.in-Window.windows arguments = sym e' ∙ c.in-Window.is in
-    let same : inner' ≡ c.in-Window.windows = cc in
+    let same = window_inner f' f inner' c.in-Window.windows arguments' arguments j in
     let ranges : (serving windows).ranges ≡ true = subst (λ (q : Plan). (serving q).ranges ≡ true) (same ∙ sym c.get.ensures) ranges' in
     let plan = subst (λ (k : Kept). IsRangePlan k windows) (sym c.only_argument-beside.ensures.same) (range_plan kept n p f windows arguments e can ranges) in
     as_kind p (N (PlanNode-F.Window f (T windows) (map T arguments))) c.series.result (typing-Window p f windows arguments e)
@@ -407,6 +427,42 @@ over_points-returns-clause-total g t c = λ f' inner' arguments' q' range' step'
     as_kind p (N (PlanNode-F.Window f (T windows) (map T arguments))) c.points.result (typing-Window p f windows arguments e)
     (c.points.ensures.total (is_scalar (T q).kind) (T windows).kind (kinds_of (map T arguments)) (takes-Window kept n p f windows arguments e can) rows beside)
 
+pub only_argument-returns-in-empty-clause-total : goal.only_argument-returns-in-empty-clause-total
+only_argument-returns-in-empty-clause-total g t c = λ n f inner arguments is near can.
+    let own = c.in-Window.arguments in
+    let none = none_of c.as_slice.result.now own c.as_slice.ensures c.in-empty.len_below in
+    let same = window_arguments f c.in-Window.field-0 inner c.in-Window.field-1 arguments own (sym is ∙ c.in-Window.is) in
+    subst (λ (xs : List Plan). IsOfKinds (kinds_of (map T xs)) None) (sym (same ∙ none)) tt
+
+pub only_argument-returns-in_ok-grown-in-len1-clause-total : goal.only_argument-returns-in_ok-grown-in-len1-clause-total
+only_argument-returns-in_ok-grown-in-len1-clause-total g t c = λ n f inner arguments is near can.
+    let own = c.in-Window.arguments in
+    let a = c.a-item.result in
+    let one = one_of c.as_slice.result.now own a c.as_slice.ensures c.a-item.is c.in-len1.len_at_least c.in-len1.len_below in
+    let same = window_arguments f c.in-Window.field-0 inner c.in-Window.field-1 arguments own (sym is ∙ c.in-Window.is) in
+    let e = c.in-Window.is ∙ ap (node.Window c.in-Window.field-0 c.in-Window.field-1) one in
+    let grows = grows-Window c.args.patterns.now n c.args.p.now c.in-Window.field-0 c.in-Window.field-1 a e can in
+    subst (λ (xs : List Plan). IsOfKinds (kinds_of (map T xs)) (Some c.in_ok-grown-in-len1.field-0)) (sym (same ∙ one)) (c.in_ok-grown-in-len1.ensures.total n near grows)
+
+pub only_argument-returns-in_err-grown-in-len1-clause-total : goal.only_argument-returns-in_err-grown-in-len1-clause-total
+only_argument-returns-in_err-grown-in-len1-clause-total g t c = λ n f inner arguments is near can.
+    let own = c.in-Window.arguments in
+    let a = c.a-item.result in
+    let one = one_of c.as_slice.result.now own a c.as_slice.ensures c.a-item.is c.in-len1.len_at_least c.in-len1.len_below in
+    let e = c.in-Window.is ∙ ap (node.Window c.in-Window.field-0 c.in-Window.field-1) one in
+    let grows = grows-Window c.args.patterns.now n c.args.p.now c.in-Window.field-0 c.in-Window.field-1 a e can in
+    let r = c.from_residual in
+    let p = err_from_is_err_and r.result r.ensures.1 in
+    subst (IsArgumentBuilt (kinds_of (map T arguments))) (sym p.1) (p.2 ∙ c.in_err-grown-in-len1.ensures.total n near grows)
+
+pub only_argument-returns-in_default-as_slice-clause-total : goal.only_argument-returns-in_default-as_slice-clause-total
+only_argument-returns-in_default-as_slice-clause-total g t c = λ n f inner arguments is near can.
+    let it = c.in-Window in
+    let few = few-Window c.args.patterns.now n c.args.p.now it.field-0 it.field-1 it.arguments it.is can in
+    let count = ap length c.as_slice.ensures in
+    let many = c.in_default-as_slice.len_at_least in
+    absurd (omega arith)
+
 pub group-returns-in-len1-clause-total : goal.group-returns-in-len1-clause-total
 group-returns-in-len1-clause-total g t c = λ f' by' arguments' label' is n near can.
     let p = c.args.p.now in
@@ -414,7 +470,8 @@ group-returns-in-len1-clause-total g t c = λ f' by' arguments' label' is n near
     let by = c.in-Group.by in
     let label = c.in-Group.label in
     let a = c.a-item.result in
-    let e : p.node ≡ node.Group f by (a ∷ []) label = search rules in
+    let one = one_of c.as_slice.result.now c.in-Group.arguments a c.as_slice.ensures c.a-item.is c.in-len1.len_at_least c.in-len1.len_below in
+    let e : p.node ≡ node.Group f by (a ∷ []) label = c.in-Group.is ∙ ap (λ (xs : List Plan). node.Group f by xs label) one in
     let rows = c.grown-rows.ensures.total n near (grows-Group c.args.patterns.now n p f by a label e can) in
     let takes = takes-Group c.args.patterns.now n p f by (a ∷ []) label e can in
     as_kind p (N (PlanNode-F.Group f by (T a ∷ []) label)) c.grouped.result (typing-Group p f by (a ∷ []) label e)
@@ -426,15 +483,23 @@ group-returns-in-len2-clause-total g t c = λ f' by' arguments' label' is n near
     let f = c.in-Group.f in
     let by = c.in-Group.by in
     let label = c.in-Group.label in
-    let a = c.a-item-in-len2.result in
+    let a = c.a-item-then-this-lt3.result in
     let b = c.b-item.result in
-    let e : p.node ≡ node.Group f by (a ∷ b ∷ []) label = search rules in
+    let two = two_of c.as_slice.result.now c.in-Group.arguments a b c.as_slice.ensures c.a-item-then-this-lt3.is c.b-item.is c.in-len2.len_at_least c.in-len2.len_below in
+    let e : p.node ≡ node.Group f by (a ∷ b ∷ []) label = c.in-Group.is ∙ ap (λ (xs : List Plan). node.Group f by xs label) two in
     let both = grows-Group-two c.args.patterns.now n p f by a b label e can in
     let parameter = c.grown-parameter.ensures.total n near both.0 in
     let rows = c.grown-rows-in-len2.ensures.total n near (subst (λ (k : Kept). CanGrow k n b) (sym c.grown-parameter.ensures.same) both.1) in
     let takes = takes-Group c.args.patterns.now n p f by (a ∷ b ∷ []) label e can in
     as_kind p (N (PlanNode-F.Group f by (T a ∷ T b ∷ []) label)) c.ranked.result (typing-Group p f by (a ∷ b ∷ []) label e)
     (c.ranked.ensures.total (T b).kind (T a).kind (subst (λ (l : List ℕ). is_group f ((T a).kind ∷ (T b).kind ∷ []) l ≡ true) (sym c.in_ok-label.ensures) takes) rows parameter)
+
+pub group-returns-clause-total : goal.group-returns-clause-total
+group-returns-clause-total g t c = λ f by arguments label is n near can.
+    let it = c.in-Group in
+    let few = few-Group c.args.patterns.now n c.args.p.now it.f it.by it.arguments it.label it.is can in
+    let count = ap length c.as_slice.ensures in
+    elim c.if-as_slice-lt1.branch [ group-in_default-as_slice w ↦ (let short = w.in_default-as_slice.len_below in absurd (omega arith)) | group-in_default-as_slice-2 w ↦ (let long = w.in_default-as_slice.len_at_least in absurd (omega arith)) ]
 
 pub once-returns-clause-total : goal.once-returns-clause-total
 once-returns-clause-total g t c = λ inner' is n near can.
