@@ -3,4 +3,5 @@ pub mod Chosen
 pub mod Giving
 pub mod Grown
 pub mod Handed
+pub mod Taking
 pub mod Windows

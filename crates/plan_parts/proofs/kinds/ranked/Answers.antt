@@ -1,4 +1,4 @@
-use Rattle.std.proofs.Common.{◌≡◌, true, false, [], ◌∷◌, rules, inr}
+use Rattle.std.proofs.Common.{◌≡◌, ◌∙◌, true, false, [], ◌∷◌, rules, inr}
 use Rattle.ticks.specs.Walks.{IsInstant}
 use Rattle.plan_parts.proofs.Grown.{ok_then, binary_part, part_at}
 use Rattle.plan_parts.proofs.Giving.{ranked_gives}
@@ -8,6 +8,7 @@ use Rattle.plan_work.specs.PlanLaws.{IsBeside}
 use Rattle.std.proofs.lemmas.Result.{err_from_is_err_and}
 use Rattle.promql_type.specs.Kinds.{is_scalar}
 use Rattle.plan_parts.proofs.Handed.{handed_on}
+use Rattle.plan_parts.proofs.Taking.{built_as, parameter_taken}
 use Rattle.plan_parts.proofs.kinds.ranked.Goals as goal
 
 pub returns-clause-part : goal.returns-clause-part
@@ -27,3 +28,9 @@ pub returns-in_err-rows-clause-total : goal.returns-in_err-rows-clause-total
 returns-in_err-rows-clause-total c = λ kind first takes h k.
     let p = err_from_is_err_and c.from_residual.result c.from_residual.ensures.1 in
     handed_on false _ _ _ p.1 p.2 (c.in_err-rows.ensures.total (is_scalar kind) (is_scalar first) h k)
+
+pub returns-clause-total : goal.returns-clause-total
+returns-clause-total c = λ kind first takes h k.
+    let t = parameter_taken c.args.f c.args.by first kind c.args.label takes in
+    let scalar : c.in_ok-rows.parameter.scalar ≡ true = built_as (is_scalar first) c.args.parameter c.in_ok-rows.parameter c.in_ok-rows.ensures.second k ∙ t.1 in
+    c.binary.ensures.total t.0 (λ reads. scalar)
