@@ -1,4 +1,4 @@
-use Rattle.std.proofs.Common.{◌∙◌, Bool, [], ap, subst}
+use Rattle.std.proofs.Common.{◌≡◌, ◌∙◌, Bool, [], ap, subst}
 use Rattle.ticks.specs.Walks.{IsInstant}
 use Rattle.plan_parts.proofs.Grown.{ok_then, keeps_one, not_true, part_at, unary_part}
 use Rattle.plan_parts.proofs.Giving.{alone_gives}
