@@ -38,15 +38,14 @@ module _ {X : Type 0} where
 
 -- ---- functions of windows
 
-module _ (f g : WindowFunction) (p q : Plan) (xs ys : List Plan) (e : node.Window f p xs ≡ node.Window g q ys) where
-  window_same : PlanNode-F.Window f p xs ≡ PlanNode-F.Window g q ys
-  window_same =
-      let one : out-PlanNode (node.Window f p xs) ≡ PlanNode-F.Window f p xs = rw outs-Window refl in
-      let other : out-PlanNode (node.Window g q ys) ≡ PlanNode-F.Window g q ys = rw outs-Window refl in
-      sym one ∙ ap out-PlanNode e ∙ other
+pub window_inner : (f g : WindowFunction) (p q : Plan) (xs ys : List Plan) → node.Window f p xs ≡ node.Window g q ys → p ≡ q
+window_inner f g p q xs ys e =
+    let one : out-PlanNode (node.Window f p xs) ≡ PlanNode-F.Window f p xs = rw outs-Window refl in
+    let other : out-PlanNode (node.Window g q ys) ≡ PlanNode-F.Window g q ys = rw outs-Window refl in
+    let same : PlanNode-F.Window f p xs ≡ PlanNode-F.Window g q ys = sym one ∙ ap out-PlanNode e ∙ other in cc
 
-  pub window_inner : p ≡ q
-  window_inner = let same = window_same in cc
-
-  pub window_arguments : xs ≡ ys
-  window_arguments = let same = window_same in cc
+pub window_arguments : (f g : WindowFunction) (p q : Plan) (xs ys : List Plan) → node.Window f p xs ≡ node.Window g q ys → xs ≡ ys
+window_arguments f g p q xs ys e =
+    let one : out-PlanNode (node.Window f p xs) ≡ PlanNode-F.Window f p xs = rw outs-Window refl in
+    let other : out-PlanNode (node.Window g q ys) ≡ PlanNode-F.Window g q ys = rw outs-Window refl in
+    let same : PlanNode-F.Window f p xs ≡ PlanNode-F.Window g q ys = sym one ∙ ap out-PlanNode e ∙ other in cc

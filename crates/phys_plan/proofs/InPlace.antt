@@ -20,7 +20,7 @@ use Rattle.promql_type.specs.declared.kind.Kind.{Kind}
 use Rattle.promql_type.specs.declared.kind.Kind.TheVariants.{Scalar, Vector}
 use Rattle.ticks.specs.Durations.{hundred_years}
 use Rattle.plan_parts.specs.Parts.{IsChild}
-use Rattle.plan_parts.specs.Serving.{IsServed, Serving, all_patterns, all_rules, are_served, node_serving, own_patterns, own_rules, own_served, serving}
+use Rattle.plan_serving.specs.Serving.{IsServed, Serving, all_patterns, all_rules, are_served, node_serving, own_patterns, own_rules, own_served, serving}
 use Rattle.phys_plan.specs.Growth.{IsInPlace}
 use Rattle.phys_plan.proofs.Layers.{child_in, in_all, layer}
 

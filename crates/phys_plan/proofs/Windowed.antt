@@ -27,7 +27,7 @@ use Rattle.step_table.specs.declared.cells.PartKind.{PartKind}
 use Rattle.ticks.specs.declared.moment.Ms.{Ms}
 use Rattle.plan_parts.specs.Courses.{IsLength, IsMomentWithin}
 use Rattle.plan_parts.specs.Parts.{IsChild}
-use Rattle.plan_parts.specs.Serving.{Serving, all_rules, are_served, node_points, node_serving, serving}
+use Rattle.plan_serving.specs.Serving.{Serving, all_rules, are_served, node_points, node_serving, serving}
 use Rattle.window_parts.specs.Over.{IsRangePlan}
 use Rattle.phys_plan.specs.Growth.{CanGrow, HasTree, IsInPlace}
 use Rattle.phys_plan.proofs.Growths.{told, typing-Relabel}

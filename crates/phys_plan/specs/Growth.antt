@@ -10,7 +10,7 @@ use Rattle.logical_plan.specs.Validity.{IsValid, deepest, measured}
 use Rattle.logical_plan.specs.declared.nodes.Plan.{Plan}
 use Rattle.logical_plan.specs.declared.nodes.PlanNode.TheVariants as node
 use Rattle.op_labels.specs.Rules.{Kept}
-use Rattle.plan_parts.specs.Serving.{IsServed}
+use Rattle.plan_serving.specs.Serving.{IsServed}
 use Rattle.promql_ast.specs.Parts.{AreWithin}
 use Rattle.promql_type.specs.Kinds.{is_number}
 use Rattle.step_table.specs.Groups.{Names}

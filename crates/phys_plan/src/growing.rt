@@ -4,7 +4,7 @@ ghost use Rattle.logical_plan.specs.declared.nodes.PlanNode.TheVariants as node;
 ghost use Rattle.phys_plan.specs.Growth.{CanGrow, IsChange, IsRetyping, IsTwofold};
 ghost use Rattle.plan_parts.specs.Courses.{IsCourseNear};
 ghost use Rattle.plan_parts.specs.Parts.{IsBuilt, IsPartOf};
-ghost use Rattle.plan_parts.specs.Serving.{serving};
+ghost use Rattle.plan_serving.specs.Serving.{serving};
 ghost use Rattle.plan_work.specs.Looks.{LooksAt, arguments_look, plan_looks};
 ghost use Rattle.promql_meaning.specs.Selecting.{asked_over};
 ghost use Rattle.promql_type.specs.Kinds.{is_scalar};

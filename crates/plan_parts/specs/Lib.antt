@@ -1,4 +1,3 @@
 pub mod Courses
 pub mod Gives
 pub mod Parts
-pub mod Serving

@@ -17,7 +17,7 @@ use Rattle.logical_plan.specs.declared.nodes.PlanNode.TheFolds.{map-PlanNode}
 use Rattle.match_rule.specs.Patterns.{HasItsPattern, HaveTheirPatterns}
 use Rattle.op_labels.specs.Rules.{Kept}
 use Rattle.plan_parts.specs.Courses.{IsLength, IsMomentWithin}
-use Rattle.plan_parts.specs.Serving.{Serving, node_ranges, node_serving, serving}
+use Rattle.plan_serving.specs.Serving.{Serving, node_ranges, node_serving, serving}
 use Rattle.promql_ast.specs.Parts.{IsWithin, Part}
 use Rattle.promql_ast.specs.declared.tree.Moment.{Moment}
 use Rattle.ticks.specs.Durations.{hundred_years}
@@ -82,7 +82,7 @@ module _ (kept : Kept) where
       → ((base : Plan) (rules : List Rule) → p.node ≡ node.Filter base rules → ⊥) → IsRangePlan kept p → ⊥
   no_range p not_range not_filter is =
       let off : (serving p).ranges ≡ false = ap (λ (s : Serving). s.ranges) (by_node node_serving (λ q. q.node) p)
-          ∙ by (out-PlanNode p.node) (λ rules moment range e. not_range rules moment range (sym (roll-out-PlanNode p.node) ∙ e)) (λ base rules e. not_filter base rules (sym (roll-out-PlanNode p.node) ∙ e)) in
+      ∙ by (out-PlanNode p.node) (λ rules moment range e. not_range rules moment range (sym (roll-out-PlanNode p.node) ∙ e)) (λ base rules e. not_filter base rules (sym (roll-out-PlanNode p.node) ∙ e)) in
       let none : false ≡ true = sym off ∙ is.ranges in absurd (cc)
     where
       by : (y : PlanNode-F PlanNode Plan) → ((rules : List Rule) (moment : Moment) (range : Ms) → roll-PlanNode y ≡ node.Range rules moment range → ⊥)

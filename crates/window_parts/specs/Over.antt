@@ -11,7 +11,7 @@ use Rattle.match_rule.specs.Patterns.{HaveTheirPatterns}
 use Rattle.op_labels.specs.Rules.{Kept}
 use Rattle.op_window.specs.Rules.{takes_scalar}
 use Rattle.plan_parts.specs.Courses.{IsLength, IsMomentWithin}
-use Rattle.plan_parts.specs.Serving.{serving}
+use Rattle.plan_serving.specs.Serving.{serving}
 use Rattle.plan_parts.specs.Parts.{IsPart, IsSound, OncesStay}
 use Rattle.plan_parts.specs.declared.parts.Part.{Part}
 use Rattle.plan_parts.specs.declared.unbuilt.Unbuilt.{Unbuilt}

@@ -17,13 +17,13 @@ use Rattle.op_labels.specs.Rules.{HasPatterns, Kept}
 use Rattle.promql_ast.specs.declared.tree.Moment.{Moment}
 use Rattle.promql_type.specs.Kinds.{is_scalar}
 use Rattle.ticks.specs.declared.moment.Ms.{Ms}
-use Rattle.plan_parts.specs.Serving.{serving}
+use Rattle.plan_serving.specs.Serving.{serving}
 use Rattle.window_parts.specs.Over.{IsArgumentBuilt, IsOfKinds, IsRangePlan}
 use Rattle.phys_plan.specs.Growth.{CanGrow, IsChange, IsRetyping, IsTwofold}
 use Rattle.phys_plan.proofs.Arguments.{none_of, one_at, one_of, two_at, two_of, window_arguments, window_inner}
 use Rattle.phys_plan.proofs.Growths.{N, T, as_kind, few-Element, few-Group, few-Window, grows-Absent, grows-Buckets, grows-Element, grows-Element-one, grows-Element-two, grows-Filter, grows-Group, grows-Group-two, grows-Once, grows-Pair, grows-Ratio, grows-Relabel, grows-ScalarOf, grows-Set, grows-Sort, grows-Stamp, grows-VectorOf, grows-Window, no_windows, scalar-Buckets, takes-Element, takes-Group, takes-Window, typing-Absent, typing-Buckets, typing-Element, typing-Group, typing-Number, typing-Once, typing-Pair, typing-Range, typing-Ratio, typing-Relabel, typing-ScalarOf, typing-Select, typing-Set, typing-Sort, typing-Stamp, typing-Subquery, typing-Time, typing-VectorOf, typing-Window, vector-Filter}
 use Rattle.phys_plan.proofs.Windowed.{filter_kept, no_gather, range_plan, relabel_kept, select_few, select_kept, select_within, subquery_grows, subquery_within, window_few, windows_range}
-use Rattle.phys_plan.proofs.growing.+growing.Goals.{group-in_default-as_slice, group-in_default-as_slice-2}
+use Rattle.phys_plan.proofs.growing.+growing.Goals.{group-in_default-as_slice-via-then-as_slice-lt1, group-in_default-as_slice-via-else-as_slice-lt1+else-this-lt2+else-this-lt3}
 use Rattle.phys_plan.proofs.growing.+growing.Goals as goal
 
 pub grown-returns-in-Number-clause-part : goal.grown-returns-in-Number-clause-part
@@ -246,7 +246,7 @@ over_one-returns-in_ok-copy-in-Filter-clause-total g t c = λ change n near can.
     (c.relabelled-in-Filter.ensures.total (is_scalar (T base).kind) (subst (λ (r : List Rule). HaveTheirPatterns c.grown-rows-in-Filter.new.patterns r) (sym c.in_ok-copy-in-Filter.ensures) these) rows)
 
 pub retyped-returns-in-ScalarOf-clause-total : goal.retyped-returns-in-ScalarOf-clause-total
-retyped-returns-in-ScalarOf-clause-total g t c = λ node n near can.
+retyped-returns-in-ScalarOf-clause-total g t c = λ retyping n near can.
     let p = c.args.p.now in
     let inner = c.get.result.now in
     let e = c.in-ScalarOf.is ∙ ap (λ (q : Plan). node.ScalarOf q) (sym c.get.ensures) in
@@ -254,7 +254,7 @@ retyped-returns-in-ScalarOf-clause-total g t c = λ node n near can.
     as_kind p (N (PlanNode-F.ScalarOf (T inner))) c.as_scalar.result (typing-ScalarOf p inner e) (c.as_scalar.ensures.total (is_scalar (T inner).kind) rows)
 
 pub retyped-returns-in-Sort-clause-total : goal.retyped-returns-in-Sort-clause-total
-retyped-returns-in-Sort-clause-total g t c = λ node n near can.
+retyped-returns-in-Sort-clause-total g t c = λ retyping n near can.
     let p = c.args.p.now in
     let inner = c.get-in-Sort.result.now in
     let e = c.in-Sort.is ∙ ap (λ (q : Plan). node.Sort c.in-Sort.down q) (sym c.get-in-Sort.ensures) in
@@ -262,7 +262,7 @@ retyped-returns-in-Sort-clause-total g t c = λ node n near can.
     as_kind p (N (PlanNode-F.Sort c.in-Sort.down (T inner))) c.as_vector.result (typing-Sort p c.in-Sort.down inner e) (c.as_vector.ensures.total (is_scalar (T inner).kind) rows)
 
 pub retyped-returns-in-VectorOf-clause-total : goal.retyped-returns-in-VectorOf-clause-total
-retyped-returns-in-VectorOf-clause-total g t c = λ node n near can.
+retyped-returns-in-VectorOf-clause-total g t c = λ retyping n near can.
     let p = c.args.p.now in
     let inner = c.get-in-VectorOf.result.now in
     let e = c.in-VectorOf.is ∙ ap (λ (q : Plan). node.VectorOf q) (sym c.get-in-VectorOf.ensures) in
@@ -273,8 +273,8 @@ pub over_two-returns-in-Buckets-clause-total : goal.over_two-returns-in-Buckets-
 over_two-returns-in-Buckets-clause-total g t c = λ twofold n near can.
     let p = c.args.p.now in
     let one = c.get.result.now in
-    let other = c.get-2.result.now in
-    let e = c.in-Buckets.is ∙ (λ i. node.Buckets (sym c.get-2.ensures i) (sym c.get.ensures i)) in
+    let other = c.get-in-Buckets.result.now in
+    let e = c.in-Buckets.is ∙ (λ i. node.Buckets (sym c.get-in-Buckets.ensures i) (sym c.get.ensures i)) in
     let both = grows-Buckets c.args.patterns.now n p other one e can in
     let rows = c.grown-rows.ensures.total n near both.1 in
     let beside = c.grown-beside.ensures.total n near (subst (λ (k : Kept). CanGrow k n other) (sym c.grown-rows.ensures.same) both.0) in
@@ -385,12 +385,12 @@ window-returns-in-Subquery-clause-total g t c = λ f inner arguments e n near ca
     let i = sym (ap (λ (q : Plan). q.node) c.get.ensures) ∙ s.is in
     c.over_points.ensures.total c.in-Window.field-0 windows c.in-Window.field-2 s.inner s.range s.step s.moment c.in-Window.is i n near can
 
-pub window-returns-in_default-clause-total : goal.window-returns-in_default-clause-total
-window-returns-in_default-clause-total g t c = λ f inner arguments e n near can.
+pub window-returns-in_default-node-clause-total : goal.window-returns-in_default-node-clause-total
+window-returns-in_default-node-clause-total g t c = λ f inner arguments e n near can.
     let p = c.args.p.now in
     let w = c.in-Window in
     let none : (q : Plan) (range step : Ms) (moment : Moment) → w.windows.node ≡ node.Subquery q range step moment → ⊥ =
-    λ q range step moment i. c.in_default.not-Subquery q range step moment (ap (λ (q : Plan). q.node) c.get.ensures ∙ i) in
+    λ q range step moment i. c.in_default-node.not-Subquery q range step moment (ap (λ (q : Plan). q.node) c.get.ensures ∙ i) in
     c.over_series.ensures.total w.field-0 w.windows w.field-2 w.is (windows_range c.args.patterns.now n p w.field-0 w.windows w.field-2 w.is can none) n near can
 
 pub over_series-returns-clause-total : goal.over_series-returns-clause-total
@@ -494,19 +494,19 @@ group-returns-in-len2-clause-total g t c = λ f' by' arguments' label' is n near
     as_kind p (N (PlanNode-F.Group f by (T a ∷ T b ∷ []) label)) c.ranked.result (typing-Group p f by (a ∷ b ∷ []) label e)
     (c.ranked.ensures.total (T b).kind (T a).kind (subst (λ (l : List ℕ). is_group f ((T a).kind ∷ (T b).kind ∷ []) l ≡ true) (sym c.in_ok-label.ensures) takes) rows parameter)
 
-pub group-returns-clause-total : goal.group-returns-clause-total
-group-returns-clause-total g t c = λ f by arguments label is n near can.
+pub group-returns-in_default-as_slice-clause-total : goal.group-returns-in_default-as_slice-clause-total
+group-returns-in_default-as_slice-clause-total g t c = λ f by arguments label is n near can.
     let it = c.in-Group in
     let few = few-Group c.args.patterns.now n c.args.p.now it.f it.by it.arguments it.label it.is can in
     let count = ap length c.as_slice.ensures in
-    elim c.if-as_slice-lt1.branch [ group-in_default-as_slice w ↦ (let short = w.in_default-as_slice.len_below in absurd (omega arith)) | group-in_default-as_slice-2 w ↦ (let long = w.in_default-as_slice.len_at_least in absurd (omega arith)) ]
+    elim c.in_default-as_slice.branch [ group-in_default-as_slice-via-then-as_slice-lt1 w ↦ absurd (omega arith) | group-in_default-as_slice-via-else-as_slice-lt1+else-this-lt2+else-this-lt3 w ↦ absurd (omega arith) ]
 
 pub once-returns-clause-total : goal.once-returns-clause-total
 once-returns-clause-total g t c = λ inner' is n near can.
     let p = c.args.p.now in
     let inner = c.get.result.now in
     let e = c.in-Once.is ∙ ap (λ (q : Plan). node.Once q) (sym c.get.ensures) in
-    let below = c.in-Some.ensures.near n (c.first.ensures.near n near) in
+    let below = c.in-Some.ensures.near n (c.first-first.ensures.near n near) in
     let child = c.grown-child.ensures.total n below (grows-Once c.args.patterns.now n p inner e can) in
     as_kind p (T inner) c.repeated.result (typing-Once p inner e) (c.repeated.ensures.total (is_scalar (T inner).kind) child)
 
