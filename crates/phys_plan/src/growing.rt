@@ -399,6 +399,7 @@ fn group<W: Ledger>(
     let by = by.copy()?;
     let label = label.copy()?;
     match arguments.as_slice() {
+        [] => Err(Unbuilt::Invalid),
         [a] => {
             let rows = grown(site, course, a, patterns, work);
             grouped(site.alloc, *f, by, label, rows, patterns)

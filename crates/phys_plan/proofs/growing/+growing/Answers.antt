@@ -23,7 +23,6 @@ use Rattle.phys_plan.specs.Growth.{CanGrow, IsChange, IsRetyping, IsTwofold}
 use Rattle.phys_plan.proofs.Arguments.{none_of, one_at, one_of, two_at, two_of, window_arguments, window_inner}
 use Rattle.phys_plan.proofs.Growths.{N, T, as_kind, few-Element, few-Group, few-Window, grows-Absent, grows-Buckets, grows-Element, grows-Element-one, grows-Element-two, grows-Filter, grows-Group, grows-Group-two, grows-Once, grows-Pair, grows-Ratio, grows-Relabel, grows-ScalarOf, grows-Set, grows-Sort, grows-Stamp, grows-VectorOf, grows-Window, no_windows, scalar-Buckets, takes-Element, takes-Group, takes-Window, typing-Absent, typing-Buckets, typing-Element, typing-Group, typing-Number, typing-Once, typing-Pair, typing-Range, typing-Ratio, typing-Relabel, typing-ScalarOf, typing-Select, typing-Set, typing-Sort, typing-Stamp, typing-Subquery, typing-Time, typing-VectorOf, typing-Window, vector-Filter}
 use Rattle.phys_plan.proofs.Windowed.{filter_kept, no_gather, range_plan, relabel_kept, select_few, select_kept, select_within, subquery_grows, subquery_within, window_few, windows_range}
-use Rattle.phys_plan.proofs.growing.+growing.Goals.{group-in_default-as_slice-via-then-as_slice-lt1, group-in_default-as_slice-via-else-as_slice-lt1+else-this-lt2+else-this-lt3}
 use Rattle.phys_plan.proofs.growing.+growing.Goals as goal
 
 pub grown-returns-in-Number-clause-part : goal.grown-returns-in-Number-clause-part
@@ -494,12 +493,21 @@ group-returns-in-len2-clause-total g t c = λ f' by' arguments' label' is n near
     as_kind p (N (PlanNode-F.Group f by (T a ∷ T b ∷ []) label)) c.ranked.result (typing-Group p f by (a ∷ b ∷ []) label e)
     (c.ranked.ensures.total (T b).kind (T a).kind (subst (λ (l : List ℕ). is_group f ((T a).kind ∷ (T b).kind ∷ []) l ≡ true) (sym c.in_ok-label.ensures) takes) rows parameter)
 
+pub group-returns-in-empty-clause-total : goal.group-returns-in-empty-clause-total
+group-returns-in-empty-clause-total g t c = λ f by arguments label is n near can.
+    let it = c.in-Group in
+    let few = few-Group c.args.patterns.now n c.args.p.now it.f it.by it.arguments it.label it.is can in
+    let count = ap length c.as_slice.ensures in
+    let none = c.in-empty.len_below in
+    absurd (omega arith)
+
 pub group-returns-in_default-as_slice-clause-total : goal.group-returns-in_default-as_slice-clause-total
 group-returns-in_default-as_slice-clause-total g t c = λ f by arguments label is n near can.
     let it = c.in-Group in
     let few = few-Group c.args.patterns.now n c.args.p.now it.f it.by it.arguments it.label it.is can in
     let count = ap length c.as_slice.ensures in
-    elim c.in_default-as_slice.branch [ group-in_default-as_slice-via-then-as_slice-lt1 w ↦ absurd (omega arith) | group-in_default-as_slice-via-else-as_slice-lt1+else-this-lt2+else-this-lt3 w ↦ absurd (omega arith) ]
+    let many = c.in_default-as_slice.len_at_least in
+    absurd (omega arith)
 
 pub once-returns-clause-total : goal.once-returns-clause-total
 once-returns-clause-total g t c = λ inner' is n near can.
