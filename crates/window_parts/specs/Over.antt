@@ -27,7 +27,7 @@ use Rattle.promql_meaning.specs.Meaning.{step_at, windowed_by}
 use Rattle.promql_meaning.specs.Selecting.{Asked}
 use Rattle.promql_meaning.specs.WalkMoments.{IsMomentOf}
 use Rattle.promql_meaning.specs.declared.given.Windows.{Windows}
-use Rattle.promql_type.specs.Kinds.{is_scalar}
+use Rattle.promql_type.specs.Kinds.{is_scalar as is_scalar_kind}
 use Rattle.promql_type.specs.declared.kind.Kind.{Kind}
 use Rattle.ticks.specs.Durations.{hundred_years}
 use Rattle.ticks.specs.Walks.{IsInstant}
@@ -51,7 +51,7 @@ IsArgumentOf asked walk arguments built = IfOk built (λ part. IsArgument asked 
 -- the only argument is of a scalar or of a vector, as its kind says, or there is no argument
 abbrev pub IsOfKinds : List Kind → Option Part → Type 0
 IsOfKinds [] None = ⊤
-IsOfKinds (kind ∷ []) (Some part) = part.scalar ≡ is_scalar kind
+IsOfKinds (kind ∷ []) (Some part) = part.scalar ≡ is_scalar_kind kind
 IsOfKinds kinds part = ⊥
 
 -- it is built so; the only error is want of memory
