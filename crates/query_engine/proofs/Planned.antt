@@ -59,5 +59,5 @@ module _ (p : Plan) (e : Expr) (placed : List Placed) (is : p ≡ with_onces (lo
       → IfOk result (λ q. (kept : Kept) → IsServed kept p → IsServed kept q) → IfOk result (IsServedWhereKept placed e)
   served_still (Ok q) law onces none stays =
       λ kept longest latest within there.
-          stays kept (subst (IsServed kept) (sym is) (onces kept (lowered placed e) (law kept placed longest latest e none within there)).served)
+      stays kept (subst (IsServed kept) (sym is) (onces kept (lowered placed e) (law kept placed longest latest e none within there)).served)
   served_still (Err fault) law onces none stays = tt
