@@ -1,4 +1,5 @@
 pub mod Giving
+pub mod Handed
 pub mod Made
 pub mod Ranges
 pub mod Taking

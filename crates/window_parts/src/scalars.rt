@@ -26,7 +26,6 @@ fn takes_scalar(f: Window) -> bool
 /// The part of the scalar that a function of windows takes; where it takes none, a number, which isn't read. It is `Invalid` where
 /// there is an argument and the function takes none or the other way round, and where the argument isn't a scalar; else the only error
 /// is want of memory.
-#[tactic(auto, using(crate::proofs::Taking::none_taken, crate::proofs::Taking::one_taken))]
 pub(crate) fn scalar_for(alloc: Global, f: Window, argument: Option<Part>) -> Result<Part, Unbuilt>
     ensures part { IfOk result (λ part. (asked : Asked) (walk : Walk) (arguments : List Plan) → IsArgument asked walk arguments argument → IsScalarOf asked walk f arguments part) }
     ensures total { (given : Kind) (kinds : List Kind) → is_window f given kinds ≡ true → IsOfKinds kinds argument → IsBuilt true result }

@@ -1,4 +1,5 @@
-use Rattle.std.proofs.Common.{◌∙◌, None, refl, subst, sym}
+use Rattle.std.proofs.Common.{◌≡◌, ◌∙◌, None, false, refl, subst, sym, true}
+use Rattle.match_rule.specs.Patterns.{HaveTheirPatterns}
 use Rattle.op_window.specs.Sliding.{walked_of}
 use Rattle.plan_tree.specs.Nodes.{CanGo, shape_of}
 use Rattle.plan_tree.specs.Shapes.{SeriesOf}
@@ -30,3 +31,12 @@ returns-clause-part g c = λ p inner arguments e i one.
     )
     (subst IsFresh (sym same) one.sound.fresh) c.in_ok-series.ensures.selected c.in_ok-series.ensures.chosen (c.settled-moment.ensures.moment c.args.store.now c.args.patterns.now) c.settled-moment.ensures.closed
     (c.if-not-are_within.ensures.forward refl) c.walk.ensures.instants (c.if-not-are_within.ensures.times refl) i
+
+pub returns-then-not-are_rules_kept-clause-total : goal.returns-then-not-are_rules_kept-clause-total
+returns-then-not-are_rules_kept-clause-total g c = λ n few near within.
+    let these = subst (HaveTheirPatterns c.args.patterns.now) (sym c.as_slice.ensures) within.rules in
+    let none : false ≡ true = c.if-not-are_rules_kept.ensures.1 these in absurd (cc)
+
+pub returns-then-not-are_within-clause-total : goal.returns-then-not-are_within-clause-total
+returns-then-not-are_within-clause-total g c = λ n few near within.
+    let none : false ≡ true = c.if-not-are_within.ensures.near n few (record { near = near; timed = c.settled-moment.ensures.near within.timed; long = within.long }) in absurd (cc)

@@ -1,6 +1,7 @@
-use Rattle.std.proofs.Common.{◌∙◌, None, refl, subst, sym}
+use Rattle.std.proofs.Common.{◌∙◌, None, false, refl, subst, sym}
+use Rattle.std.proofs.lemmas.Result.{err_from_is_err_and}
 use Rattle.logical_plan.specs.declared.nodes.PlanNode.TheVariants as node
-use Rattle.plan_parts.specs.Parts.{IsPart}
+use Rattle.plan_parts.specs.Parts.{IsBuilt, IsPart}
 use Rattle.plan_tree.specs.Nodes.{CanGo, shape_of}
 use Rattle.plan_tree.specs.Shapes.{PointsOf, rule}
 use Rattle.plan_tree.specs.Spending.{IsFresh}
@@ -8,7 +9,8 @@ use Rattle.plan_tree.specs.declared.node.Node.{Node}
 use Rattle.ticks.specs.Walks.{LeadsToTimes, multiples-times}
 use Rattle.ticks.specs.declared.walk.Walk.{Walk}
 use Rattle.ticks.specs.declared.walk.Walk.TheVariants.{Multiples}
-use Rattle.window_parts.specs.Over.{IsArgument}
+use Rattle.window_parts.specs.Over.{IsArgument, IsArgumentBuilt}
+use Rattle.window_parts.proofs.Handed.{handed_on}
 use Rattle.window_parts.proofs.Made.{ok_at, points_part}
 use Rattle.window_parts.proofs.over.points.Goals as goal
 
@@ -35,3 +37,18 @@ returns-clause-part c = λ asked p inner q moment range step arguments e i insid
       subst (λ (n : Node). CanGo asked.samples asked.kept None n) (sym same) one.sound.can,
     )
     (refl, subst IsFresh (sym inner_same) child.sound.fresh, subst IsFresh (sym same) one.sound.fresh) child inside.timed inside.closed leads.2 c.walk-2.ensures.instants (i ∙ (λ j. node.Subquery q (sym inside.range_is j) (sym inside.step_is j) moment))
+
+pub returns-in_err-rows-clause-total : goal.returns-in_err-rows-clause-total
+returns-in_err-rows-clause-total c = λ scalar given kinds takes rows built.
+    let p = err_from_is_err_and c.from_residual.result c.from_residual.ensures.1 in
+    handed_on false _ _ _ p.1 p.2 (subst (IsBuilt scalar) c.in_err-rows.was rows)
+
+pub returns-in_err-argument-clause-total : goal.returns-in_err-argument-clause-total
+returns-in_err-argument-clause-total c = λ scalar given kinds takes rows built.
+    let p = err_from_is_err_and c.from_residual-in_err-argument.result c.from_residual-in_err-argument.ensures.1 in
+    handed_on false _ _ _ p.1 p.2 (subst (IsArgumentBuilt kinds) c.in_err-argument.was built)
+
+pub returns-in_err-scalar-clause-total : goal.returns-in_err-scalar-clause-total
+returns-in_err-scalar-clause-total c = λ scalar given kinds takes rows built.
+    let p = err_from_is_err_and c.from_residual-in_err-scalar.result c.from_residual-in_err-scalar.ensures.1 in
+    handed_on false _ _ _ p.1 p.2 (c.in_err-scalar.ensures.total given kinds takes (subst (IsArgumentBuilt kinds) c.in_ok-argument.was built))

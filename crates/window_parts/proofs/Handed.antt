@@ -1,0 +1,14 @@
+-- Why a part isn't built is handed on; and what isn't there isn't asked of anything.
+use Rattle.std.proofs.Common.{◌≡◌, ◌∙◌, Bool, Option, None, Some, refl, subst, sym}
+use Rattle.std.specs.Prelude.{Err, IsSomeAnd, Result}
+use Rattle.plan_parts.specs.Parts.{IsBuilt}
+use Rattle.plan_parts.specs.declared.parts.Part.{Part}
+use Rattle.plan_parts.specs.declared.unbuilt.Unbuilt.{Unbuilt}
+use Rattle.plan_parts.specs.declared.unbuilt.Unbuilt.TheVariants.{Memory}
+
+pub handed_on : (scalar : Bool) (built : Result Part Unbuilt) (e y : Unbuilt) → built ≡ Err y → y ≡ e → e ≡ Memory → IsBuilt scalar built
+handed_on scalar built e y is same h = subst (IsBuilt scalar) (sym is) (same ∙ h)
+
+pub none_and : {X : Type 0} (P : X → Type 0) (o : Option X) → ((x : X) → o ≡ Some x → ⊥) → IsSomeAnd o P → ⊥
+none_and P None none h = h
+none_and P (Some x) none h = none x refl
