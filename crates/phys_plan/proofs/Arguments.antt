@@ -1,11 +1,12 @@
 -- Lists of arguments by their lengths, and the parts of a node that is seen in two ways.
 use Rattle.std.proofs.Common.{◌≡◌, ◌∙◌, ◌<◌, ◌≤◌, arith, length, List, [], ◌∷◌, ap, refl, sym}
 use Rattle.std.specs.Prelude.{slice_index_or}
+use Rattle.func_table.specs.declared.table.Element.{Element}
 use Rattle.func_table.specs.declared.table.Window.{Window as WindowFunction}
 use Rattle.logical_plan.specs.declared.nodes.Plan.{Plan}
 use Rattle.logical_plan.specs.declared.nodes.PlanNode.TheVariants as node
 use Rattle.logical_plan.specs.declared.nodes.PlanNode.TheOpen.{PlanNode-F}
-use Rattle.logical_plan.specs.declared.nodes.PlanNode.TheViews.{out-PlanNode, outs-Window}
+use Rattle.logical_plan.specs.declared.nodes.PlanNode.TheViews.{out-PlanNode, outs-Element, outs-Window}
 
 -- ---- lists
 
@@ -49,3 +50,11 @@ window_arguments f g p q xs ys e =
     let one : out-PlanNode (node.Window f p xs) ≡ PlanNode-F.Window f p xs = rw outs-Window refl in
     let other : out-PlanNode (node.Window g q ys) ≡ PlanNode-F.Window g q ys = rw outs-Window refl in
     let same : PlanNode-F.Window f p xs ≡ PlanNode-F.Window g q ys = sym one ∙ ap out-PlanNode e ∙ other in cc
+
+-- ---- functions of rows
+
+pub element_arguments : (f g : Element) (p q : Plan) (xs ys : List Plan) → node.Element f p xs ≡ node.Element g q ys → xs ≡ ys
+element_arguments f g p q xs ys e =
+    let one : out-PlanNode (node.Element f p xs) ≡ PlanNode-F.Element f p xs = rw outs-Element refl in
+    let other : out-PlanNode (node.Element g q ys) ≡ PlanNode-F.Element g q ys = rw outs-Element refl in
+    let same : PlanNode-F.Element f p xs ≡ PlanNode-F.Element g q ys = sym one ∙ ap out-PlanNode e ∙ other in cc

@@ -6,4 +6,5 @@ mod InPlace
 mod KindsOf
 mod Layers
 mod Onced
+mod Refused
 mod Windowed

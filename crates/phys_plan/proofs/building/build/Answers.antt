@@ -11,6 +11,7 @@ use Rattle.promql_meaning.specs.Selecting.{asked_over}
 use Rattle.ticks.specs.Walks.{IsInstant}
 use Rattle.ticks.specs.declared.walk.Walk.{Walk}
 use Rattle.phys_plan.proofs.Built.{part_on}
+use Rattle.phys_plan.proofs.Refused.{none_and}
 use Rattle.phys_plan.proofs.Windowed.{whole_grows}
 use Rattle.phys_plan.proofs.building.build.Goals as goal
 
@@ -39,6 +40,21 @@ returns-clause-within g c =
     let copied : c.in_ok-walk.walk ≡ c.in-Some.course.walk = c.in_ok-walk.ensures ∙ c.walk.ensures.walk in
     subst (λ (w : Walk). StaysWithin asked w p (shape_of c.planted.result.node)) (copied ∙ same)
     (c.planted.ensures.within asked p (part_on asked c.in-Some.course.walk c.in_ok-walk.walk p c.in_ok-part.part copied c.in_ok-part.ensures.part))
+
+pub returns-in_err-course-clause-total : goal.returns-in_err-course-clause-total
+returns-in_err-course-clause-total g c = λ tree asked.
+    let r = c.from_residual in
+    let p = err_from_is_err_and r.result r.ensures.1 in
+    subst (λ (built : Result Tree Unbuilt). IsOkUnless built Memory) (sym p.1) p.2
+
+pub returns-in_default-clause-total : goal.returns-in_default-clause-total
+returns-in_default-clause-total g c = λ tree asked. absurd (none_and (IsCourseNear 0) c.in_ok-course.field-0 c.in_default.not-Some (c.in_ok-course.ensures.near asked))
+
+pub returns-in_err-walk-clause-total : goal.returns-in_err-walk-clause-total
+returns-in_err-walk-clause-total g c = λ tree asked.
+    let r = c.from_residual-in_err-walk in
+    let p = err_from_is_err_and r.result r.ensures.1 in
+    subst (λ (built : Result Tree Unbuilt). IsOkUnless built Memory) (sym p.1) p.2
 
 pub returns-in_err-part-clause-total : goal.returns-in_err-part-clause-total
 returns-in_err-part-clause-total g c = λ tree asked.

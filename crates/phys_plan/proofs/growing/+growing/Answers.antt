@@ -20,8 +20,9 @@ use Rattle.ticks.specs.declared.moment.Ms.{Ms}
 use Rattle.plan_serving.specs.Serving.{serving}
 use Rattle.window_parts.specs.Over.{IsArgumentBuilt, IsOfKinds, IsRangePlan}
 use Rattle.phys_plan.specs.Growth.{CanGrow, IsChange, IsRetyping, IsTwofold}
-use Rattle.phys_plan.proofs.Arguments.{none_of, one_at, one_of, two_at, two_of, window_arguments, window_inner}
+use Rattle.phys_plan.proofs.Arguments.{element_arguments, none_of, one_at, one_of, two_at, two_of, window_arguments, window_inner}
 use Rattle.phys_plan.proofs.Growths.{N, T, as_kind, few-Element, few-Group, few-Window, grows-Absent, grows-Buckets, grows-Element, grows-Element-one, grows-Element-two, grows-Filter, grows-Group, grows-Group-two, grows-Once, grows-Pair, grows-Ratio, grows-Relabel, grows-ScalarOf, grows-Set, grows-Sort, grows-Stamp, grows-VectorOf, grows-Window, no_windows, scalar-Buckets, takes-Element, takes-Group, takes-Window, typing-Absent, typing-Buckets, typing-Element, typing-Group, typing-Number, typing-Once, typing-Pair, typing-Range, typing-Ratio, typing-Relabel, typing-ScalarOf, typing-Select, typing-Set, typing-Sort, typing-Stamp, typing-Subquery, typing-Time, typing-VectorOf, typing-Window, vector-Filter}
+use Rattle.phys_plan.proofs.Refused.{no_change, no_retyping, no_twofold, none_some}
 use Rattle.phys_plan.proofs.Windowed.{filter_kept, no_gather, range_plan, relabel_kept, select_few, select_kept, select_within, subquery_grows, subquery_within, window_few, windows_range}
 use Rattle.phys_plan.proofs.growing.+growing.Goals as goal
 
@@ -545,5 +546,129 @@ over_two-returns-in_err-pairing-in-Pair-clause-total g t c = λ twofold n near c
 pub over_two-returns-in_err-pairing-in-Set-clause-total : goal.over_two-returns-in_err-pairing-in-Set-clause-total
 over_two-returns-in_err-pairing-in-Set-clause-total g t c = λ twofold n near can.
     let r = c.from_residual-in_err-pairing-in-Set in
+    let p = err_from_is_err_and r.result r.ensures.1 in
+    subst (IsBuilt (is_scalar (T c.args.p.now).kind)) (sym p.1) p.2
+
+-- ---- other nodes
+
+pub over_one-returns-in_default-clause-total : goal.over_one-returns-in_default-clause-total
+over_one-returns-in_default-clause-total g t c = λ change n near can.
+    let other = c.in_default in
+    absurd (no_change c.args.p.now other.not-Stamp other.not-Absent other.not-Relabel other.not-Filter change)
+
+pub retyped-returns-in_default-clause-total : goal.retyped-returns-in_default-clause-total
+retyped-returns-in_default-clause-total g t c = λ retyping n near can.
+    let other = c.in_default in
+    absurd (no_retyping c.args.p.now other.not-ScalarOf other.not-Sort other.not-VectorOf retyping)
+
+pub over_two-returns-in_default-clause-total : goal.over_two-returns-in_default-clause-total
+over_two-returns-in_default-clause-total g t c = λ twofold n near can.
+    let other = c.in_default in
+    absurd (no_twofold c.args.p.now other.not-Buckets other.not-Pair other.not-Set other.not-Ratio twofold)
+
+pub element-returns-in_default-clause-total : goal.element-returns-in_default-clause-total
+element-returns-in_default-clause-total g t c = λ f inner arguments is n near can. absurd (c.in_default.not-Element f inner arguments is)
+
+pub beside_one-returns-in_default-clause-total : goal.beside_one-returns-in_default-clause-total
+beside_one-returns-in_default-clause-total g t c = λ f inner a is n near can. absurd (c.in_default.not-Element f inner (a ∷ []) is)
+
+pub beside_two-returns-in_default-clause-total : goal.beside_two-returns-in_default-clause-total
+beside_two-returns-in_default-clause-total g t c = λ f inner a b is n near can. absurd (c.in_default.not-Element f inner (a ∷ b ∷ []) is)
+
+pub window-returns-in_default-clause-total : goal.window-returns-in_default-clause-total
+window-returns-in_default-clause-total g t c = λ f inner arguments is n near can. absurd (c.in_default.not-Window f inner arguments is)
+
+pub over_series-returns-in_default-clause-total : goal.over_series-returns-in_default-clause-total
+over_series-returns-in_default-clause-total g t c = λ f inner arguments is ranges n near can. absurd (c.in_default.not-Window f inner arguments is)
+
+pub over_points-returns-in_default-clause-total : goal.over_points-returns-in_default-clause-total
+over_points-returns-in_default-clause-total g t c = λ f inner arguments q range step moment is i n near can. absurd (c.in_default.not-Window f inner arguments is)
+
+pub only_argument-returns-in_default-clause-total : goal.only_argument-returns-in_default-clause-total
+only_argument-returns-in_default-clause-total g t c = λ n f inner arguments is near can. absurd (c.in_default.not-Window f inner arguments is)
+
+pub group-returns-in_default-clause-total : goal.group-returns-in_default-clause-total
+group-returns-in_default-clause-total g t c = λ f by arguments label is n near can. absurd (c.in_default.not-Group f by arguments label is)
+
+pub once-returns-in_default-clause-total : goal.once-returns-in_default-clause-total
+once-returns-in_default-clause-total g t c = λ inner is n near can. absurd (c.in_default.not-Once inner is)
+
+-- ---- nodes with other arguments
+
+pub beside_one-returns-in_default-as_slice-clause-total : goal.beside_one-returns-in_default-as_slice-clause-total
+beside_one-returns-in_default-as_slice-clause-total g t c = λ f inner a is n near can.
+    let it = c.in-Element in
+    let same = element_arguments f it.f inner it.inner (a ∷ []) it.arguments (sym is ∙ it.is) in
+    let count = ap length c.as_slice.ensures in
+    let wanted = ap length same in
+    let short = c.in_default-as_slice.len_below in
+    absurd (omega arith)
+
+pub beside_one-returns-in_default-as_slice-2-clause-total : goal.beside_one-returns-in_default-as_slice-2-clause-total
+beside_one-returns-in_default-as_slice-2-clause-total g t c = λ f inner a is n near can.
+    let it = c.in-Element in
+    let same = element_arguments f it.f inner it.inner (a ∷ []) it.arguments (sym is ∙ it.is) in
+    let count = ap length c.as_slice.ensures in
+    let wanted = ap length same in
+    let many = c.in_default-as_slice.len_at_least in
+    absurd (omega arith)
+
+pub beside_two-returns-in_default-as_slice-clause-total : goal.beside_two-returns-in_default-as_slice-clause-total
+beside_two-returns-in_default-as_slice-clause-total g t c = λ f inner a b is n near can.
+    let it = c.in-Element in
+    let same = element_arguments f it.f inner it.inner (a ∷ b ∷ []) it.arguments (sym is ∙ it.is) in
+    let count = ap length c.as_slice.ensures in
+    let wanted = ap length same in
+    let short = c.in_default-as_slice.len_below in
+    absurd (omega arith)
+
+pub beside_two-returns-in_default-as_slice-2-clause-total : goal.beside_two-returns-in_default-as_slice-2-clause-total
+beside_two-returns-in_default-as_slice-2-clause-total g t c = λ f inner a b is n near can.
+    let it = c.in-Element in
+    let same = element_arguments f it.f inner it.inner (a ∷ b ∷ []) it.arguments (sym is ∙ it.is) in
+    let count = ap length c.as_slice.ensures in
+    let wanted = ap length same in
+    let many = c.in_default-as_slice.len_at_least in
+    absurd (omega arith)
+
+-- ---- other windows, and instants beyond the times
+
+pub over_points-returns-in_default-node-clause-total : goal.over_points-returns-in_default-node-clause-total
+over_points-returns-in_default-node-clause-total g t c = λ f inner arguments q range step moment is i n near can.
+    let it = c.in-Window in
+    let same = window_inner f it.f inner it.windows arguments it.field-2 (sym is ∙ it.is) in
+    absurd (c.in_default-node.not-Subquery q range step moment (ap (λ (r : Plan). r.node) (c.get.ensures ∙ sym same) ∙ i))
+
+pub once-returns-in_default-at-clause-total : goal.once-returns-in_default-at-clause-total
+once-returns-in_default-at-clause-total g t c = λ inner is n near can.
+    absurd (none_some c.at.result c.in_default-at.not-Some (c.at.ensures.there c.first-first.ensures.time))
+
+-- ---- want of memory
+
+pub over_points-returns-in_err-below-clause-total : goal.over_points-returns-in_err-below-clause-total
+over_points-returns-in_err-below-clause-total g t c = λ f' inner' arguments' q' range' step' moment' e' i' n near can.
+    let p = c.args.p.now in
+    let f = c.in-Window.f in
+    let windows = c.in-Window.windows in
+    let arguments = c.in-Window.field-2 in
+    let kept = c.args.patterns.now in
+    let s = c.in-Subquery in
+    let e = c.in-Window.is in
+    let i = sym (ap (λ (q : Plan). q.node) c.get.ensures) ∙ s.is in
+    let limits = subquery_within kept n p f windows arguments e can s.inner s.range s.step s.moment i in
+    let short = c.in_err-below.ensures.total n (window_few kept n p f windows arguments e can) near limits.0 limits.1 limits.2 in
+    let r = c.from_residual in
+    let h = err_from_is_err_and r.result r.ensures.1 in
+    subst (IsBuilt (is_scalar (T p).kind)) (sym h.1) (h.2 ∙ short)
+
+pub group-returns-in_err-by-clause-total : goal.group-returns-in_err-by-clause-total
+group-returns-in_err-by-clause-total g t c = λ f by arguments label is n near can.
+    let r = c.from_residual in
+    let p = err_from_is_err_and r.result r.ensures.1 in
+    subst (IsBuilt (is_scalar (T c.args.p.now).kind)) (sym p.1) p.2
+
+pub group-returns-in_err-label-clause-total : goal.group-returns-in_err-label-clause-total
+group-returns-in_err-label-clause-total g t c = λ f by arguments label is n near can.
+    let r = c.from_residual-in_err-label in
     let p = err_from_is_err_and r.result r.ensures.1 in
     subst (IsBuilt (is_scalar (T c.args.p.now).kind)) (sym p.1) p.2
