@@ -1,4 +1,5 @@
--- A plan that is rewritten means what its tree means, is typed and valid, gives a scalar or a vector, and is served by kernels.
+-- A plan that is rewritten is that of its tree behind the rewrites; it means what its tree means, is typed and valid, gives a scalar or a
+-- vector, and is served by kernels.
 use Rattle.std.proofs.Common.{◌≡◌, ◌∙◌, ℕ, List, [], length, ap, arith, refl, subst, sym, true}
 use Rattle.std.specs.Prelude.{ℤ, Result, Ok, Err, IfOk}
 use Rattle.logical_plan.specs.Lowering.{PatternsArePlaced, lowered}
@@ -9,6 +10,8 @@ use Rattle.logical_plan.specs.Shown.{shown}
 use Rattle.logical_plan.specs.Validity.{IsValid, IsWithinLimits}
 use Rattle.logical_plan.specs.declared.nodes.Plan.{Plan}
 use Rattle.opt_matchers.specs.Handing.{HaveLabelSets}
+use Rattle.plan_rewrites.specs.Rewriting.{evaluating, rewrites}
+use Rattle.plan_rewrites.specs.declared.choosing.Choices.{Choices}
 use Rattle.plan_serving.specs.Serving.{IsServed}
 use Rattle.plan_serving.specs.ServingLaws.{LoweredPlansAreServed, LoweredPlansGiveNumbers, OncesKeepServing}
 use Rattle.promql_ast.specs.declared.tree.Expr.{Expr}
@@ -22,6 +25,7 @@ use Rattle.promql_type.specs.Settled.{kind_of}
 use Rattle.promql_type.specs.declared.kind.Kind.{Kind}
 use Rattle.promql_type.specs.declared.kind.Kind.TheVariants.{Scalar, Vector, Windows, Words}
 use Rattle.promql_type.specs.declared.replace.Placed.{Placed}
+use Rattle.query_engine.specs.Bounds.{evaluated_plan}
 use Rattle.query_engine.specs.Planning.{GivesNumbers, IsServedWhereKept}
 use Rattle.rewrite_laws.specs.Keeping.{StaysTyped}
 
@@ -49,6 +53,12 @@ number_result Windows is = absurd (omega (arith, ap length is))
 number_result Words is = absurd (omega (arith, ap length is))
 
 module _ (p : Plan) (e : Expr) (placed : List Placed) (is : p ≡ with_onces (lowered placed e)) where
+  pub plan_still : {E : Type 0} (choices given : Choices) (kept : Kept) (result : Result Plan E) → given ≡ choices → IfOk result (λ q. q ≡ rewrites (evaluating given) kept p)
+      → IfOk result (λ q. q ≡ evaluated_plan choices kept placed e)
+  plan_still choices given kept (Ok q) same rewritten =
+      rewritten ∙ ap (rewrites (evaluating given) kept) is ∙ ap (λ (c : Choices). rewrites (evaluating c) kept (with_onces (lowered placed e))) same
+  plan_still choices given kept (Err fault) same rewritten = tt
+
   pub numbers_still : {E : Type 0} (result : Result Plan E) → LoweredPlansGiveNumbers → result_refusals (kind_of e) ≡ [] → IsTyped p → IfOk result (λ q. IsTyped p → StaysTyped p q)
       → IfOk result GivesNumbers
   numbers_still (Ok q) gives none typed stays =

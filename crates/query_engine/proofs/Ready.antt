@@ -2,6 +2,7 @@
 use Rattle.std.proofs.Common.{◌≡◌, ◌∙◌, ◌≤◌, ◌++◌, ℕ, Bool, List, [], Some, ap, refl, sym, subst}
 use Rattle.std.specs.Prelude.{Result, Ok, Err, IfErr, IfOk, OnOk}
 use Rattle.frac_text.specs.Times.{time_limit}
+use Rattle.logical_plan.specs.Validity.{CheckedTreesAreWithinLimits}
 use Rattle.match_rule.specs.Gains.{Gains}
 use Rattle.match_rule.specs.Patterns.{HaveTheirPatterns}
 use Rattle.promql_ast.specs.Depth.{depth}
@@ -40,7 +41,12 @@ module _ (closed : Bool) (tree : Expr) (judged_alike : EdgesAreJudgedAlike) (ref
   }
 
 module _ (text : List ℕ) (closed : Bool) (read kept : Kept) (tree : Expr) (parses : Parses text [] read (Ok tree)) (judged_alike : EdgesAreJudgedAlike) (refused_alike : EdgesAreRefusedAlike)
-    (typed_alike : EdgesStayTyped) where
+    (typed_alike : EdgesStayTyped) (limited : CheckedTreesAreWithinLimits) where
+  -- what the parts of the tree are known for stays known of the tree with an edge, while more patterns are kept
+  within_still : AreWithin (HaveTheirPatterns read) hundred_years time_limit (parts_of tree) → Gains read kept → AreWithin (HaveTheirPatterns kept) hundred_years time_limit (parts_of (edged closed tree))
+  within_still within gains =
+      parts_stay read kept gains hundred_years time_limit (parts_of (edged closed tree)) (edged_within (HaveTheirPatterns read) hundred_years time_limit closed tree within)
+
   pub ready : (result : Result Typed TypeFault) → AreWithin (HaveTheirPatterns read) hundred_years time_limit (parts_of tree) → depth tree ≤ 128 → Gains read kept
       → IfOk result (λ t. tree_of t ≡ settled (edged closed tree)) → OnOk result (refusals_of (edged closed tree) ≡ []) → OnOk result (AreTaken read (judged (edged closed tree)).replacements kept)
       → IfOk result (λ t. AreKept kept (judged (tree_of t)).replacements (placed_of t)) → IfOk result (λ t. parts_of (tree_of t) ≡ parts_of (edged closed tree))
@@ -56,9 +62,8 @@ module _ (text : List ℕ) (closed : Bool) (read kept : Kept) (tree : Expr) (par
       typed = refl;
     };
     edge = typed ∙ typed_alike closed tree;
-    within = subst (λ ps. AreWithin (HaveTheirPatterns kept) hundred_years time_limit ps) (sym parts)
-        (parts_stay read kept gains hundred_years time_limit (parts_of (edged closed tree)) (edged_within (HaveTheirPatterns read) hundred_years time_limit closed tree within));
-    shallow = subst (λ n. n ≤ 128) (sym (deep ∙ edged_depth closed tree)) few;
+    within = subst (λ ps. AreWithin (HaveTheirPatterns kept) hundred_years time_limit ps) (sym parts) (within_still within gains);
+    limits = limited kept hundred_years time_limit (edged closed tree) (tree_of t) typed taken parts deep (within_still within gains) (subst (λ n. n ≤ 128) (sym (edged_depth closed tree)) few);
     placed = placed;
   }
   ready (Err fault) within few gains typed taken built placed parts deep = tt

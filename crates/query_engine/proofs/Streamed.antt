@@ -1,6 +1,6 @@
 -- The steps of a tree that gives what a plan means are those that the query's expression means.
 use Rattle.std.proofs.Common.{◌≡◌, ◌∙◌, zero, suc, Bool, List, [], ◌∷◌, Option, refl, sym, ap, ap₂, subst, arith}
-use Rattle.std.specs.Prelude.{ℤ}
+use Rattle.std.specs.Prelude.{ℤ, Result, IfOk, ⊤}
 use Rattle.std.specs.List.{AllByRecursion, Contains}
 use Rattle.std.proofs.lemmas.List.Elements.{All-contains_itself, recursion_from_All}
 use Rattle.label_set.specs.Entries.{recursion_map}
@@ -12,13 +12,16 @@ use Rattle.promql_ast.specs.declared.tree.Expr.{Expr}
 use Rattle.promql_meaning.specs.Givens.{step_of}
 use Rattle.promql_meaning.specs.Meaning.{meaning, meaning_step}
 use Rattle.promql_meaning.specs.Orders.{ByValue}
-use Rattle.promql_meaning.specs.Results.{gives_scalar, grid_times, judged, order_asked}
+use Rattle.promql_meaning.specs.Results.{gives_scalar, grid_times, judged, order_asked, result_of}
 use Rattle.promql_meaning.specs.declared.answer.Answer.{Answer}
 use Rattle.promql_meaning.specs.declared.answer.Outcome.{Outcome}
 use Rattle.promql_meaning.specs.declared.answer.Outcome.TheVariants as outcome
-use Rattle.promql_meaning.specs.Selecting.{Asked}
+use Rattle.promql_meaning.specs.Selecting.{AllSeries, Asked, asked_over}
 use Rattle.promql_meaning.specs.declared.given.Given.{Given}
 use Rattle.promql_meaning.specs.declared.given.Given.TheVariants as given
+use Rattle.plan_parts.specs.declared.unbuilt.Unbuilt.{Unbuilt}
+use Rattle.plan_parts.specs.declared.unbuilt.Unbuilt.TheVariants.{Invalid, Memory}
+use Rattle.promql_type.specs.Replacements.{Kept}
 use Rattle.promql_type.specs.declared.replace.Replacement.{Replacement}
 use Rattle.query_places.specs.Apart.{StandApart}
 use Rattle.result_rows.specs.Judged.{CollectedIsJudged}
@@ -75,7 +78,23 @@ steps_are_meant asked grid p e rule listed gives means =
     each : (t : Ms) → Contains (grid_times grid) t → rule t.0 ≡ meaning_step asked e t.0
     each t there = gives t.0 ((listed.instants t).0 there) ∙ ap step_of (means t.0) ∙ shown_step (meaning asked e t.0)
 
+-- ---- trees
+
+-- a fault of which it is known that it is want of memory is no other one
+abbrev IsInvalid : Unbuilt → Type 0
+IsInvalid Invalid = ⊤
+IsInvalid Memory = ⊥
+
+pub never_invalid : (fault : Unbuilt) → fault ≡ Invalid → fault ≡ Memory → ⊥
+never_invalid fault invalid memory = subst IsInvalid memory (subst IsInvalid (sym invalid) tt)
+
 -- ---- results
+
+-- over patterns that stayed as they were
+pub over_kept : {E : Type 0} (samples : AllSeries) (kept now : Kept) (e : Expr) (grid : Grid) (instant : Bool) (result : Result Outcome E) → now ≡ kept
+    → IfOk result (λ o. o ≡ result_of (asked_over samples now grid) e grid instant) → IfOk result (λ o. o ≡ result_of (asked_over samples kept grid) e grid instant)
+over_kept samples kept now e grid instant result same is =
+    subst (λ (k : Kept). IfOk result (λ o. o ≡ result_of (asked_over samples k grid) e grid instant)) same is
 
 -- the outcome of steps that end early, which are those of an expression, is its result
 pub by_stop : (instant : Bool) (e : Expr) (steps meant : List StepAt) (o : Outcome) → IsDrained steps (Stopped o) → steps ≡ meant → o ≡ judged instant e meant

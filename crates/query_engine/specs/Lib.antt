@@ -1,4 +1,5 @@
 pub mod Batches
+pub mod Bounds
 pub mod Evaluating
 pub mod Planning
 pub mod Readiness

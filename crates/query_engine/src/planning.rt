@@ -9,6 +9,7 @@ ghost use Rattle.opt_matchers.specs.Handing.{HaveLabelSets};
 ghost use Rattle.promql_meaning.specs.Meaning.{meaning};
 ghost use Rattle.promql_meaning.specs.Selecting.{Asked};
 ghost use Rattle.promql_type.specs.TypedTrees.{placed_of, tree_of};
+ghost use Rattle.query_engine.specs.Bounds.{evaluated_plan};
 ghost use Rattle.query_engine.specs.Evaluating.{IsRefusedWith};
 ghost use Rattle.query_engine.specs.Planning.{GivesNumbers, HasPlan, IsServedWhereKept, MayRefuse, choices_of, plan_of};
 ghost use Rattle.std.specs.Prelude.{◌≡◌, ℕ, ℤ, [], IfErr, IfOk};
@@ -37,9 +38,10 @@ fn planned(
     plan_rewrites::rewritten(alloc, plan, options.choices(), patterns)
 }
 
-/// The plan that a typed tree is evaluated by over a store. Over samples whose labels are label sets it means what the tree means.
-/// It gives a scalar or a vector, each of its nodes is typed, within the limits of the language it is valid, and kernels serve it
-/// where the patterns of the tree are kept. The only error is want of memory.
+/// The plan that a typed tree is evaluated by over a store: behind the rewrites that are chosen, but that no selectors are merged and no
+/// average is split. Over samples whose labels are label sets it means what the tree means. It gives a scalar or a vector, each of its
+/// nodes is typed, within the limits of the language it is valid, and kernels serve it where the patterns of the tree are kept. The only
+/// error is want of memory.
 pub(crate) fn evaluated(
     alloc: Global,
     typed: &Typed,
@@ -49,6 +51,7 @@ pub(crate) fn evaluated(
     // where the pattern that stands at the place of a label_replace call is that call's own
     ensures means { IfOk result (λ p. (asked : Asked) (t : ℤ) → HaveLabelSets asked → PatternsArePlaced asked.kept (placed_of typed.now) (tree_of typed.now)
         → plan_meaning asked p t ≡ shown (meaning asked (tree_of typed.now) t)) }
+    ensures plan { IfOk result (λ p. p ≡ evaluated_plan (choices_of options.now) patterns.now (placed_of typed.now) (tree_of typed.now)) }
     ensures onces { IfOk result OncesAreSteady }
     ensures typed { IfOk result IsTyped }
     ensures valid { IfOk result (λ p. (longest latest : ℕ) → IsWithinLimits longest latest (tree_of typed.now) → IsValid longest latest p) }

@@ -4,6 +4,7 @@ ghost use Rattle.query_engine.specs.Evaluating.{IsRefusedWith};
 ghost use Rattle.query_engine.specs.Readiness.{IsReadyTree};
 ghost use Rattle.std.specs.Prelude.{◌≡◌, [], IfErr, IfOk};
 
+use logical_plan::checked_trees_are_within_limits;
 use match_rule::Patterns;
 use promql_lex::LexFault;
 use promql_parse::parse;
@@ -24,6 +25,7 @@ pub fn typed_tree(
     ensures refused { IfErr result (MayFault (IsRefusedWith text.now)) }
 {
     edges_are_typed_alike();
+    checked_trees_are_within_limits();
     match parse(alloc, text, patterns) {
         Ok(tree) => check(alloc, tree.edged(closed)?, patterns),
         Err(LexFault::Refused(refusal)) => Err(TypeFault::Refused(refusal)),

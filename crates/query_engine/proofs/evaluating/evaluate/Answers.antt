@@ -1,4 +1,4 @@
-use Rattle.std.proofs.Common.{◌∙◌, [], ap, sym, subst}
+use Rattle.std.proofs.Common.{◌∙◌, [], ap, refl, sym, subst}
 use Rattle.promql_ast.specs.Edged.{edged}
 use Rattle.promql_ast.specs.declared.refusal.QueryRefusal.{QueryRefusal}
 use Rattle.promql_ast.specs.declared.tree.Expr.{Expr}
@@ -6,10 +6,12 @@ use Rattle.promql_meaning.specs.declared.answer.Outcome.TheVariants as outcome
 use Rattle.promql_meaning.specs.Selecting.{asked_over}
 use Rattle.promql_type.specs.Answers.{MayFault}
 use Rattle.promql_type.specs.Judging.{judged}
-use Rattle.promql_type.specs.TypedTrees.{tree_of}
+use Rattle.promql_type.specs.TypedTrees.{placed_of, tree_of}
+use Rattle.query_engine.specs.Bounds.{nothing}
 use Rattle.query_engine.specs.Evaluating.{ComesTo, IsRefusedWith, refused}
-use Rattle.query_engine.proofs.Gridded.{grid_met}
+use Rattle.query_engine.specs.Planning.{choices_of}
 use Rattle.query_engine.proofs.Results.{comes_to, not_refused}
+use Rattle.query_engine.proofs.Spent.{text_spends}
 use Rattle.query_engine.proofs.Streamed.{told_apart}
 use Rattle.query_engine.proofs.evaluating.evaluate.Goals as goal
 use Rattle.query_places.specs.Apart.{StandApart}
@@ -17,10 +19,14 @@ use Rattle.query_places.specs.Apart.{StandApart}
 pub answered-requires-clause-batch : goal.answered-requires-clause-batch
 answered-requires-clause-batch g c = c.requires.batch.0
 
-pub answered-requires-clause-met : goal.answered-requires-clause-met
-answered-requires-clause-met g c =
-    let ready = c.in-Ok.ensures.tree in
-    grid_met c.args.store.now c.typed_tree.new.patterns c.args.grid.now (tree_of c.in-Ok.typed) c.needs_are_met.ensures ready.shallow ready.within
+pub answered-requires-clause-within : goal.answered-requires-clause-within
+answered-requires-clause-within g c = c.in-Ok.ensures.tree.within
+
+pub answered-requires-clause-limits : goal.answered-requires-clause-limits
+answered-requires-clause-limits g c = c.in-Ok.ensures.tree.limits
+
+pub answered-requires-clause-kept : goal.answered-requires-clause-kept
+answered-requires-clause-kept g c = c.in-Ok.ensures.tree.placed
 
 pub answered-requires-clause-apart : goal.answered-requires-clause-apart
 answered-requires-clause-apart g c =
@@ -33,6 +39,21 @@ pub returns-in-Ok-clause-outcome : goal.returns-in-Ok-clause-outcome
 returns-in-Ok-clause-outcome g c =
     let ready = c.in-Ok.ensures.tree in
     comes_to c.args.text.now c.args.store.now c.typed_tree.new.patterns c.args.grid.now ready.open_tree (tree_of c.in-Ok.typed) c.args.instant c.args.options.now.closed ready.stands ready.edge c.answered.result c.answered.ensures.result
+
+pub returns-in_err-room-clause-bounded : goal.returns-in_err-room-clause-bounded
+returns-in_err-room-clause-bounded g c = nothing refl
+
+pub returns-in-Ok-clause-bounded : goal.returns-in-Ok-clause-bounded
+returns-in-Ok-clause-bounded g c =
+    let ready = c.in-Ok.ensures.tree in
+    text_spends c.args.text.now c.args.store.now c.args.grid.now (choices_of c.args.options.now) c.args.options.now.closed c.typed_tree.new.patterns ready.open_tree (tree_of c.in-Ok.typed)
+    (placed_of c.in-Ok.typed) c.args.work.now c.answered.new.work ready.stands ready.edge ready.placed c.answered.ensures.bounded
+
+pub returns-in-Err-Refused-clause-bounded : goal.returns-in-Err-Refused-clause-bounded
+returns-in-Err-Refused-clause-bounded g c = nothing refl
+
+pub returns-in-Err-Memory-clause-bounded : goal.returns-in-Err-Memory-clause-bounded
+returns-in-Err-Memory-clause-bounded g c = nothing refl
 
 pub returns-in-Ok-clause-idle : goal.returns-in-Ok-clause-idle
 returns-in-Ok-clause-idle g c =

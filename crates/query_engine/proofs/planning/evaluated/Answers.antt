@@ -4,12 +4,18 @@ use Rattle.promql_type.specs.Judging.{judged}
 use Rattle.promql_type.specs.Rules.{result_refusals}
 use Rattle.promql_type.specs.Settled.{kind_of}
 use Rattle.promql_type.specs.TypedTrees.{placed_of, tree_of}
-use Rattle.query_engine.proofs.Planned.{means_its_tree, numbers_still, served_still, typed_still, valid_still}
+use Rattle.query_engine.proofs.Planned.{means_its_tree, numbers_still, plan_still, served_still, typed_still, valid_still}
 use Rattle.query_engine.proofs.planning.evaluated.Goals as goal
+use Rattle.query_engine.specs.Planning.{choices_of}
 
 pub returns-clause-means : goal.returns-clause-means
 returns-clause-means c =
     means_its_tree c.in_ok-plan.plan (tree_of c.args.typed.now) (placed_of c.args.typed.now) c.evaluated.result c.in_ok-plan.ensures.typed c.in_ok-plan.ensures.means c.evaluated.ensures.means
+
+pub returns-clause-plan : goal.returns-clause-plan
+returns-clause-plan c =
+    plan_still c.in_ok-plan.plan (tree_of c.args.typed.now) (placed_of c.args.typed.now) c.in_ok-plan.ensures.plan (choices_of c.args.options.now) c.choices.result c.args.patterns.now c.evaluated.result
+    c.choices.ensures c.evaluated.ensures.plan
 
 pub returns-clause-typed : goal.returns-clause-typed
 returns-clause-typed c = typed_still c.in_ok-plan.plan c.evaluated.result c.in_ok-plan.ensures.typed c.evaluated.ensures.typed

@@ -10,14 +10,14 @@ pub returns-in_ok-edged-in-Ok-clause-tree : goal.returns-in_ok-edged-in-Ok-claus
 returns-in_ok-edged-in-Ok-clause-tree c =
     let read = c.parse.new.patterns in
     let parses : Parses c.args.text.now [] read (Ok c.in-Ok.tree) = subst (λ (k : Kept). Parses c.args.text.now k read (Ok c.in-Ok.tree)) c.requires c.in-Ok.ensures.tree in
-    ready_of c.args.text.now c.args.closed read c.check.new.patterns c.in-Ok.tree parses c.edges_are_typed_alike.ensures.judged c.edges_are_typed_alike.ensures.refused c.edges_are_typed_alike.ensures.typed c.in_ok-edged-in-Ok.field-0 c.in_ok-edged-in-Ok.ensures c.check.result c.in-Ok.ensures.within c.in-Ok.ensures.shallow c.check.ensures.gains
+    ready_of c.args.text.now c.args.closed read c.check.new.patterns c.in-Ok.tree parses c.edges_are_typed_alike.ensures.judged c.edges_are_typed_alike.ensures.refused c.edges_are_typed_alike.ensures.typed c.checked_trees_are_within_limits.ensures c.in_ok-edged-in-Ok.field-0 c.in_ok-edged-in-Ok.ensures c.check.result c.in-Ok.ensures.within c.in-Ok.ensures.shallow c.check.ensures.gains
     c.check.ensures.tree c.check.ensures.taken c.check.ensures.kept c.check.ensures.placed c.check.ensures.parts c.check.ensures.depth
 
 pub returns-in_ok-edged-in-Ok-clause-refused : goal.returns-in_ok-edged-in-Ok-clause-refused
 returns-in_ok-edged-in-Ok-clause-refused c =
     let read = c.parse.new.patterns in
     let parses : Parses c.args.text.now [] read (Ok c.in-Ok.tree) = subst (λ (k : Kept). Parses c.args.text.now k read (Ok c.in-Ok.tree)) c.requires c.in-Ok.ensures.tree in
-    refused_of c.args.text.now c.args.closed read c.check.new.patterns c.in-Ok.tree parses c.edges_are_typed_alike.ensures.judged c.edges_are_typed_alike.ensures.refused c.edges_are_typed_alike.ensures.typed c.in_ok-edged-in-Ok.field-0 c.in_ok-edged-in-Ok.ensures c.check.result c.check.ensures.refused
+    refused_of c.args.text.now c.args.closed read c.check.new.patterns c.in-Ok.tree parses c.edges_are_typed_alike.ensures.judged c.edges_are_typed_alike.ensures.refused c.edges_are_typed_alike.ensures.typed c.checked_trees_are_within_limits.ensures c.in_ok-edged-in-Ok.field-0 c.in_ok-edged-in-Ok.ensures c.check.result c.check.ensures.refused
 
 pub returns-in-Err-Refused-clause-refused : goal.returns-in-Err-Refused-clause-refused
 returns-in-Err-Refused-clause-refused c =
