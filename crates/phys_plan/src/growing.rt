@@ -231,12 +231,15 @@ fn beside_one<W: Ledger>(
     let PlanNode::Element(f, inner, arguments) = &p.node else {
         return Err(Unbuilt::Invalid);
     };
-    let [a] = arguments.as_slice() else {
-        return Err(Unbuilt::Invalid);
-    };
-    let rows = grown(site, course, inner.get(), patterns, work);
-    let beside = grown(site, course, a, patterns, work);
-    applied_with(site.alloc, *f, rows, beside)
+    match arguments.as_slice() {
+        [] => Err(Unbuilt::Invalid),
+        [a] => {
+            let rows = grown(site, course, inner.get(), patterns, work);
+            let beside = grown(site, course, a, patterns, work);
+            applied_with(site.alloc, *f, rows, beside)
+        }
+        _ => Err(Unbuilt::Invalid),
+    }
 }
 
 /// The tree of a function of rows and of two scalars; none of another node.
@@ -257,13 +260,17 @@ fn beside_two<W: Ledger>(
     let PlanNode::Element(f, inner, arguments) = &p.node else {
         return Err(Unbuilt::Invalid);
     };
-    let [a, b] = arguments.as_slice() else {
-        return Err(Unbuilt::Invalid);
-    };
-    let rows = grown(site, course, inner.get(), patterns, work);
-    let low = grown(site, course, a, patterns, work);
-    let high = grown(site, course, b, patterns, work);
-    clamped(site.alloc, *f, rows, low, high)
+    match arguments.as_slice() {
+        [] => Err(Unbuilt::Invalid),
+        [_] => Err(Unbuilt::Invalid),
+        [a, b] => {
+            let rows = grown(site, course, inner.get(), patterns, work);
+            let low = grown(site, course, a, patterns, work);
+            let high = grown(site, course, b, patterns, work);
+            clamped(site.alloc, *f, rows, low, high)
+        }
+        _ => Err(Unbuilt::Invalid),
+    }
 }
 
 /// The tree of a function of windows; none of another node.

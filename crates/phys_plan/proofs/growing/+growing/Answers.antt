@@ -348,8 +348,8 @@ element-returns-in_default-as_slice-clause-total g t c = λ f inner arguments is
     let many = c.in_default-as_slice.len_at_least in
     absurd (omega arith)
 
-pub beside_one-returns-clause-total : goal.beside_one-returns-clause-total
-beside_one-returns-clause-total g t c = λ f' inner' a' is n near can.
+pub beside_one-returns-in-len1-clause-total : goal.beside_one-returns-in-len1-clause-total
+beside_one-returns-in-len1-clause-total g t c = λ f' inner' a' is n near can.
     let p = c.args.p.now in
     let f = c.in-Element.f in
     let inner = c.get.result.now in
@@ -362,8 +362,8 @@ beside_one-returns-clause-total g t c = λ f' inner' a' is n near can.
     as_kind p (N (PlanNode-F.Element f (T inner) (T a ∷ []))) c.applied_with.result (typing-Element p f inner (a ∷ []) e)
     (c.applied_with.ensures.total (T inner).kind (T a).kind (takes-Element c.args.patterns.now n p f inner (a ∷ []) e can) rows beside)
 
-pub beside_two-returns-clause-total : goal.beside_two-returns-clause-total
-beside_two-returns-clause-total g t c = λ f' inner' a' b' is n near can.
+pub beside_two-returns-in-len2-clause-total : goal.beside_two-returns-in-len2-clause-total
+beside_two-returns-in-len2-clause-total g t c = λ f' inner' a' b' is n near can.
     let p = c.args.p.now in
     let f = c.in-Element.f in
     let inner = c.get.result.now in
@@ -595,22 +595,40 @@ once-returns-in_default-clause-total g t c = λ inner is n near can. absurd (c.i
 
 -- ---- nodes with other arguments
 
+pub beside_one-returns-in-empty-clause-total : goal.beside_one-returns-in-empty-clause-total
+beside_one-returns-in-empty-clause-total g t c = λ f inner a is n near can.
+    let it = c.in-Element in
+    let same = element_arguments f it.f inner it.inner (a ∷ []) it.arguments (sym is ∙ it.is) in
+    let count = ap length c.as_slice.ensures in
+    let wanted = ap length same in
+    let other = c.in-empty.len_below in
+    absurd (omega arith)
+
 pub beside_one-returns-in_default-as_slice-clause-total : goal.beside_one-returns-in_default-as_slice-clause-total
 beside_one-returns-in_default-as_slice-clause-total g t c = λ f inner a is n near can.
     let it = c.in-Element in
     let same = element_arguments f it.f inner it.inner (a ∷ []) it.arguments (sym is ∙ it.is) in
     let count = ap length c.as_slice.ensures in
     let wanted = ap length same in
-    let short = c.in_default-as_slice.len_below in
+    let other = c.in_default-as_slice.len_at_least in
     absurd (omega arith)
 
-pub beside_one-returns-in_default-as_slice-2-clause-total : goal.beside_one-returns-in_default-as_slice-2-clause-total
-beside_one-returns-in_default-as_slice-2-clause-total g t c = λ f inner a is n near can.
+pub beside_two-returns-in-empty-clause-total : goal.beside_two-returns-in-empty-clause-total
+beside_two-returns-in-empty-clause-total g t c = λ f inner a b is n near can.
     let it = c.in-Element in
-    let same = element_arguments f it.f inner it.inner (a ∷ []) it.arguments (sym is ∙ it.is) in
+    let same = element_arguments f it.f inner it.inner (a ∷ b ∷ []) it.arguments (sym is ∙ it.is) in
     let count = ap length c.as_slice.ensures in
     let wanted = ap length same in
-    let many = c.in_default-as_slice.len_at_least in
+    let other = c.in-empty.len_below in
+    absurd (omega arith)
+
+pub beside_two-returns-in-len1-clause-total : goal.beside_two-returns-in-len1-clause-total
+beside_two-returns-in-len1-clause-total g t c = λ f inner a b is n near can.
+    let it = c.in-Element in
+    let same = element_arguments f it.f inner it.inner (a ∷ b ∷ []) it.arguments (sym is ∙ it.is) in
+    let count = ap length c.as_slice.ensures in
+    let wanted = ap length same in
+    let other = c.in-len1.len_below in
     absurd (omega arith)
 
 pub beside_two-returns-in_default-as_slice-clause-total : goal.beside_two-returns-in_default-as_slice-clause-total
@@ -619,16 +637,7 @@ beside_two-returns-in_default-as_slice-clause-total g t c = λ f inner a b is n 
     let same = element_arguments f it.f inner it.inner (a ∷ b ∷ []) it.arguments (sym is ∙ it.is) in
     let count = ap length c.as_slice.ensures in
     let wanted = ap length same in
-    let short = c.in_default-as_slice.len_below in
-    absurd (omega arith)
-
-pub beside_two-returns-in_default-as_slice-2-clause-total : goal.beside_two-returns-in_default-as_slice-2-clause-total
-beside_two-returns-in_default-as_slice-2-clause-total g t c = λ f inner a b is n near can.
-    let it = c.in-Element in
-    let same = element_arguments f it.f inner it.inner (a ∷ b ∷ []) it.arguments (sym is ∙ it.is) in
-    let count = ap length c.as_slice.ensures in
-    let wanted = ap length same in
-    let many = c.in_default-as_slice.len_at_least in
+    let other = c.in_default-as_slice.len_at_least in
     absurd (omega arith)
 
 -- ---- other windows, and instants beyond the times
