@@ -16,7 +16,7 @@ use Rattle.promql_meaning.specs.Selecting.{AllSeries, Asked, asked_over}
 use Rattle.promql_type.specs.Judging.{judged}
 use Rattle.promql_type.specs.Replacements.{AreKept, Kept}
 use Rattle.promql_type.specs.declared.replace.Placed.{Placed}
-use Rattle.query_engine.specs.Bounds.{Spends, SpendsAtMost, at_most, evaluated_plan}
+use Rattle.query_engine.specs.Bounds.{Spends, SpendsAtMost, at_most, evaluated_plan, nothing}
 use Rattle.query_engine.specs.Evaluating.{StandsFor}
 use Rattle.ticks.specs.Listed.{IsListed}
 use Rattle.ticks.specs.Works.{Counts}
@@ -73,3 +73,7 @@ pub text_spends : (text : List ℕ) (samples : AllSeries) (grid : Grid) (choices
 text_spends text samples grid choices closed kept e tree placed before after stands edge there spends =
     at_most kept e placed stands (subst (λ (x : Expr). AreKept kept (judged x).replacements placed) edge there)
     (subst (λ (x : Expr). SpendsAtMost (asked_over samples kept grid) grid (evaluated_plan choices kept placed x) before after) edge spends)
+
+-- of a text that isn't evaluated nothing is spent
+pub text_spends_nothing : (text : List ℕ) (samples : AllSeries) (grid : Grid) (choices : Choices) (closed : Bool) (now : Counts) → Spends text samples grid choices closed now now
+text_spends_nothing text samples grid choices closed now = nothing refl

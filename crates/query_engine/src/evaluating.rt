@@ -22,6 +22,7 @@ use ticks::{Grid, Work};
 /// is an instant query, whose root may ask for an order by value. Samples are read by counted calls alone, and of a refused text
 /// none; on any answer the counters rise by at most what the plan costs that the text is evaluated by. The only error is want of
 /// memory. (Prometheus querying.)
+#[tactic(auto, using(crate::proofs::Spent::text_spends_nothing))]
 pub fn evaluate<W: Ledger>(
     alloc: Global,
     text: &str,

@@ -52,9 +52,6 @@ returns-in-Ok-clause-bounded g c =
 pub returns-in-Err-Refused-clause-bounded : goal.returns-in-Err-Refused-clause-bounded
 returns-in-Err-Refused-clause-bounded g c = nothing refl
 
-pub returns-in-Err-Memory-clause-bounded : goal.returns-in-Err-Memory-clause-bounded
-returns-in-Err-Memory-clause-bounded g c = nothing refl
-
 pub returns-in-Ok-clause-idle : goal.returns-in-Ok-clause-idle
 returns-in-Ok-clause-idle g c =
     not_refused _ (asked_over c.args.store.now c.typed_tree.new.patterns c.args.grid.now) (tree_of c.in-Ok.typed) c.args.grid.now c.args.instant c.answered.result c.answered.ensures.result
