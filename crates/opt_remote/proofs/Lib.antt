@@ -1,0 +1,11 @@
+mod Ands
+mod Follows
+mod Gathered
+mod Meanings
+mod Measures
+mod Numbers
+mod Onces
+mod Parts
+mod Rebuilt
+mod Stamped
+mod Types

@@ -1,0 +1,4 @@
+pub mod Engines
+pub mod Gathering
+pub mod Laws
+pub mod Parts
