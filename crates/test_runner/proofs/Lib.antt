@@ -1,3 +1,4 @@
 pub mod Loading
 pub mod Standing
 pub mod Carrying
+pub mod Spending

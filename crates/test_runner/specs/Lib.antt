@@ -3,4 +3,5 @@ pub mod Loading
 pub mod Verdicts
 pub mod Lines
 pub mod Running
+pub mod Spending
 pub mod Steps

@@ -3,6 +3,7 @@ ghost use Rattle.query_engine.specs.Batches.{IsBatch};
 ghost use Rattle.script_check.specs.Verdicts.{HasPatterns};
 ghost use Rattle.std.specs.Prelude.{◌≡◌, IfOk};
 ghost use Rattle.test_runner.specs.Lines.{is_pass};
+ghost use Rattle.test_runner.specs.Spending.{EvaluationSpends};
 ghost use Rattle.test_runner.specs.Steps.{IsJudgementOn, IsLine};
 ghost use Rattle.test_runner.specs.Verdicts.{judgement};
 
@@ -69,7 +70,7 @@ fn judge_outcome(
 }
 
 /// What an evaluation comes to over the samples of a store, against what is expected of it. Its batch is lowered for many
-/// series. The only error is want of memory.
+/// series. On any answer the counters rise by at most what its plan costs. The only error is want of memory.
 pub fn judge_evaluation<W: Ledger>(
     alloc: Global,
     path: &str,
@@ -82,6 +83,7 @@ pub fn judge_evaluation<W: Ledger>(
     requires batch { IsBatch asked.options.now.batch }
     ensures line { IfOk result (λ line. IsLine path.now (IsJudgementOn searches.old store.now asked.entry) line.text.items line.passed) }
     ensures same { searches.new ≡ searches.old }
+    ensures bounded { EvaluationSpends store.now asked.entry work.old work.new }
 {
     let text = asked.text.as_str();
     let options = options_over(asked.options, store);

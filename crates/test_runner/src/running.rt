@@ -5,6 +5,7 @@ ghost use Rattle.script_check.specs.Verdicts.{HasItsPatterns, HasPatterns, Keeps
 ghost use Rattle.std.specs.Prelude.{◌≡◌, ◌<◌, ◌+◌, ◌^◌, [], ◌∷◌, Ok, length, IfErr, IfOk, IsErrOf};
 ghost use Rattle.test_runner.specs.Loads.{left_by, samples_left};
 ghost use Rattle.test_runner.specs.Running.{AnswersLoads, CarriedOut, HasRun, IfCut, IfOfLoads, WasCut, WasCutOff};
+ghost use Rattle.test_runner.specs.Spending.{CommandSpends, CommandsSpend, EvaluationSpends};
 ghost use Rattle.test_runner.specs.Steps.{IsJudgementOn, WroteLess, WroteLine};
 
 use crate::evaluation::{Evaluation, judge_evaluation};
@@ -38,6 +39,7 @@ fn run_evaluation<S: Sink, W: Ledger>(
     ensures never { S.sound out.old → IsErrOf result SinkFail.Failed → ⊥ }
     ensures sound { S.sound out.old → S.sound out.new }
     ensures same { searches.new ≡ searches.old }
+    ensures bounded { EvaluationSpends store.now asked.entry work.old work.new }
 {
     let line = judge_evaluation(alloc, path, asked, store, searches, work)?;
     write_all(out, &line.text)?;
@@ -66,6 +68,7 @@ fn run_command<S: Sink, W: Ledger>(
     ensures never { S.sound out.old → IsErrOf result RunnerFault.Write → ⊥ }
     ensures sound { S.sound out.old → S.sound out.new }
     ensures same { searches.new ≡ searches.old }
+    ensures bounded { CommandSpends options.now store.old command.now.what work.old work.new }
 {
     match &command.what {
         What::Eval {
@@ -113,6 +116,7 @@ fn run_commands<S: Sink, W: Ledger>(
     ensures never { S.sound out.old → IsErrOf result RunnerFault.Write → ⊥ }
     ensures sound { S.sound out.old → S.sound out.new }
     ensures same { searches.new ≡ searches.old }
+    ensures bounded { CommandsSpend options.now [] script.now.commands work.old work.new }
 {
     let mut store = Store::new(alloc);
     let mut totals = Totals::NONE;
@@ -130,7 +134,7 @@ fn run_commands<S: Sink, W: Ledger>(
 /// series are loaded. `searches` keeps the patterns that the script names. `Refused` and `Range` come
 /// exactly where a load is refused, with the first refusal; then nothing was evaluated or written. After `Write`, which
 /// comes only where a write failed, and after want of memory, a front of the lines of the script's first evaluations was
-/// written. (The files of promqltest.)
+/// written. On any answer the counters rise by at most what the plans of its evaluations cost. (The files of promqltest.)
 pub fn run<S: Sink, W: Ledger>(
     alloc: Global,
     path: &str,
@@ -159,6 +163,9 @@ pub fn run<S: Sink, W: Ledger>(
     ensures sound { S.sound out.old → S.sound out.new }
     ensures cut { IfErr result (λ fault. IfCut fault (WasCut options.now.closed searches.old path.now script.now (S.written out.old) (S.written out.new))) }
     ensures same { searches.new ≡ searches.old }
+
+    // The counters rise by at most what the plans of the evaluations cost, each over the samples that stand then.
+    ensures bounded { CommandsSpend options.now [] script.now.commands work.old work.new }
 {
     load_all(alloc, script)?;
     run_commands(alloc, path, script, searches, options, out, work)

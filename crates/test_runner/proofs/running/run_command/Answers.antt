@@ -1,5 +1,6 @@
 use Rattle.std.proofs.Common.{refl}
 use Rattle.test_runner.proofs.Carrying.{carried_change, carried_evaluation, cut_evaluation, cut_none, is_change, when_cut}
+use Rattle.test_runner.proofs.Spending.{change_spends, evaluation_spends}
 use Rattle.test_runner.proofs.running.run_command.Goals as goal
 
 pub returns-in_err-passed-in-Eval-clause-cut : goal.returns-in_err-passed-in-Eval-clause-cut
@@ -22,3 +23,19 @@ pub returns-in_ok-change_store-in-Clear-clause-ran : goal.returns-in_ok-change_s
 returns-in_ok-change_store-in-Clear-clause-ran g c =
     carried_change c.args.options.now.closed c.args.searches.now c.args.path.now c.args.store.now c.change_store.new.store c.args.command.now (g.S.Sink.written c.args.out.now) _
     (is_change c.args.command.now.what c.in-Clear.is) c.in_ok-change_store-in-Clear.ensures refl refl
+
+pub returns-in_err-passed-in-Eval-clause-bounded : goal.returns-in_err-passed-in-Eval-clause-bounded
+returns-in_err-passed-in-Eval-clause-bounded g c =
+    evaluation_spends c.args.options.now c.args.store.now c.args.command.now.what _ c.args.work.now c.run_evaluation.new.work c.in-Eval.is c.run_evaluation.ensures.bounded
+
+pub returns-in_ok-passed-in-Eval-clause-bounded : goal.returns-in_ok-passed-in-Eval-clause-bounded
+returns-in_ok-passed-in-Eval-clause-bounded g c =
+    evaluation_spends c.args.options.now c.args.store.now c.args.command.now.what _ c.args.work.now c.run_evaluation.new.work c.in-Eval.is c.run_evaluation.ensures.bounded
+
+pub returns-in_err-change_store-in-Clear-clause-bounded : goal.returns-in_err-change_store-in-Clear-clause-bounded
+returns-in_err-change_store-in-Clear-clause-bounded g c =
+    change_spends c.args.options.now c.args.store.now c.args.command.now.what c.args.work.now (is_change c.args.command.now.what c.in-Clear.is)
+
+pub returns-in_ok-change_store-in-Clear-clause-bounded : goal.returns-in_ok-change_store-in-Clear-clause-bounded
+returns-in_ok-change_store-in-Clear-clause-bounded g c =
+    change_spends c.args.options.now c.args.store.now c.args.command.now.what c.args.work.now (is_change c.args.command.now.what c.in-Clear.is)

@@ -7,7 +7,9 @@ use Rattle.script_check.specs.Verdicts.{HasItsPatterns, PatternList}
 use Rattle.script_read.specs.declared.script.Command.{Command}
 use Rattle.test_runner.specs.Loads.{left_by, left_by_all}
 use Rattle.test_runner.specs.Running.{CarriedOut, IfCut, WasCutOff}
+use Rattle.test_runner.specs.Spending.{CommandsSpend, ended, further}
 use Rattle.test_runner.proofs.Carrying.{at_drop, at_take, carried_join, carried_none, cut_join, cut_on, explained_on, few_counted, left_more, left_refused, parted}
+use Rattle.test_runner.proofs.Spending.{cut_there}
 use Rattle.test_runner.proofs.running.run_commands.Goals as goal
 
 pub loop-command-init : goal.loop-command-init
@@ -19,6 +21,7 @@ loop-command-init g c = record {
   same = search rules;
   later = search rules;
   sound = search rules;
+  spent = λ after more. subst (λ (s : AllSeries). CommandsSpend c.args.options.now s c.as_slice-command-items.result.now c.args.work.now after) c.new-store.ensures more;
 }
 
 pub run_command-requires-clause-kept : goal.run_command-requires-clause-kept
@@ -68,7 +71,28 @@ loop-command-preserved g c =
       same = c.in_ok-more.ensures.same ∙ sofar.same;
       later = omega (arith, sofar.later, c.in_ok-more.ensures.cause.later);
       sound = λ s. c.in_ok-more.ensures.sound (sofar.sound s);
+      spent = λ after rest. sofar.spent after (subst (λ (cs : List Command). CommandsSpend c.args.options.now mid cs c.loop-command.work after) (sym (at_drop all i command c.loop-command-test.true c.command-item.is))
+          (further mid c.run_command.new.store command (drop (i + 1) all) c.loop-command.work c.run_command.new.work after c.run_command.ensures.bounded c.in_ok-more.ensures.left rest));
     }
+
+pub returns-in_err-more-clause-bounded : goal.returns-in_err-more-clause-bounded
+returns-in_err-more-clause-bounded g c =
+    let all = c.as_slice-command-items.result.now in
+    let i = c.loop-command.command-index in
+    let command = c.command-item.result in
+    let options = c.args.options.now in
+    let mid = c.loop-command.store in
+    let now = c.run_command.new.work in
+    let here = cut_there options mid command (drop (i + 1) all) c.loop-command.work now c.run_command.ensures.bounded in
+    let rest = subst (λ (cs : List Command). CommandsSpend options mid cs c.loop-command.work now) (sym (at_drop all i command c.loop-command-test.true c.command-item.is)) here in
+    subst (λ (cs : List Command). CommandsSpend options [] cs c.args.work.now now) c.as_slice-command-items.ensures (c.loop-command.invariant.spent now rest)
+
+pub returns-clause-bounded : goal.returns-clause-bounded
+returns-clause-bounded g c =
+    let all = c.as_slice-command-items.result.now in
+    let now = c.loop-command.work in
+    subst (λ (cs : List Command). CommandsSpend c.args.options.now [] cs c.args.work.now now) c.as_slice-command-items.ensures
+    (c.loop-command.invariant.spent now (ended c.loop-command.store (drop c.loop-command.command-index all) now))
 
 pub returns-in_err-more-clause-cut : goal.returns-in_err-more-clause-cut
 returns-in_err-more-clause-cut g c =

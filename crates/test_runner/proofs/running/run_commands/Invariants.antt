@@ -4,6 +4,8 @@ use Rattle.script_check.specs.Verdicts.{HasItsPatterns}
 use Rattle.script_read.specs.declared.script.Command.{Command}
 use Rattle.test_runner.specs.Loads.{left_by_all}
 use Rattle.test_runner.specs.Running.{CarriedOut}
+use Rattle.test_runner.specs.Spending.{CommandsSpend}
+use Rattle.ticks.specs.Works.{Counts}
 use Rattle.test_runner.proofs.running.run_commands.Given as goal
 
 -- the commands so far were carried out
@@ -16,4 +18,5 @@ invariant-loop-command g l = record {
   same : l.searches ≡ l.fn.searches;
   later : g.S.Sink.faults l.fn.out ≤ g.S.Sink.faults l.out;
   sound : g.S.Sink.sound l.fn.out → g.S.Sink.sound l.out;
+  spent : (after : Counts) → CommandsSpend l.options l.store (drop l.command-index l.command-items) l.work after → CommandsSpend l.options [] l.command-items l.fn.work after;
 }

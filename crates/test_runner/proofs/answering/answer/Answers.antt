@@ -1,0 +1,22 @@
+use Rattle.std.proofs.Common.{refl}
+use Rattle.test_runner.specs.Loads.{samples_left}
+use Rattle.test_runner.proofs.Spending.{nothing_over, spent_over, with_batch}
+use Rattle.test_runner.proofs.answering.answer.Goals as goal
+
+pub returns-in_err-store-clause-bounded : goal.returns-in_err-store-clause-bounded
+returns-in_err-store-clause-bounded g c =
+    nothing_over (samples_left c.args.script.now) c.args.text.now c.args.grid.now c.args.options.now c.args.work.now
+
+pub returns-in_err-outcome-clause-bounded : goal.returns-in_err-outcome-clause-bounded
+returns-in_err-outcome-clause-bounded g c =
+    let series = c.in_ok-store.store in
+    let options = c.args.options.now in
+    spent_over (samples_left c.args.script.now) series c.args.text.now c.args.grid.now options c.args.work.now c.evaluate.new.work c.in_ok-store.ensures.left
+    (with_batch c.args.text.now c.args.text.now series c.args.grid.now options c.options_over-options.result _ c.args.work.now c.evaluate.new.work refl c.options_over-options.ensures.is c.evaluate.ensures.bounded)
+
+pub returns-clause-bounded : goal.returns-clause-bounded
+returns-clause-bounded g c =
+    let series = c.in_ok-store.store in
+    let options = c.args.options.now in
+    spent_over (samples_left c.args.script.now) series c.args.text.now c.args.grid.now options c.args.work.now c.evaluate.new.work c.in_ok-store.ensures.left
+    (with_batch c.args.text.now c.args.text.now series c.args.grid.now options c.options_over-options.result _ c.args.work.now c.evaluate.new.work refl c.options_over-options.ensures.is c.evaluate.ensures.bounded)
