@@ -13,3 +13,4 @@ pub mod OneReport
 pub mod WorkloadRun
 pub mod Alike
 pub mod Formatting
+pub mod Spending

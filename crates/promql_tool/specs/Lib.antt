@@ -11,3 +11,4 @@ pub mod Runs
 pub mod Reached
 pub mod Settled
 pub mod Alike
+pub mod Spending

@@ -4,6 +4,7 @@ ghost use Rattle.edge_io.specs.Fetches.{FetchesFront};
 ghost use Rattle.promql_tool.specs.Found.{IsFound, Just};
 ghost use Rattle.promql_tool.specs.Reached.{ReachesFiles, status_of};
 ghost use Rattle.promql_tool.specs.Runs.{Ends, IsCutFiles, ReportsFiles};
+ghost use Rattle.promql_tool.specs.Spending.{FileSpends, FilesSpend};
 ghost use Rattle.query_engine.specs.Batches.{IsBatch};
 ghost use Rattle.std.specs.Prelude.{◌≡◌, ◌+◌, ◌<◌, ◌^◌, [], ◌∷◌, IfOk, IsErrOf};
 
@@ -63,6 +64,7 @@ pub fn run_files<L: Library, S: Sink, W: Ledger>(
     ensures cause { HasCause (S.faults out.old) (S.faults out.new) (IsErrOf result SinkFail.Failed) }
     ensures sound { S.sound out.old → S.sound out.new }
     ensures never { S.sound out.old → IsErrOf result SinkFail.Failed → ⊥ }
+    ensures bounded { FilesSpend options.now (IsFound (L.told library.old) (L.sound library.old)) files.now work.old work.new }
 {
     let mut tally = Tally {
         passed: 0,
@@ -94,6 +96,7 @@ pub fn run_text<S: Sink, W: Ledger>(
     ensures cause { HasCause (S.faults out.old) (S.faults out.new) (IsErrOf result SinkFail.Failed) }
     ensures sound { S.sound out.old → S.sound out.new }
     ensures never { S.sound out.old → IsErrOf result SinkFail.Failed → ⊥ }
+    ensures bounded { FileSpends options.now (Just text.now) path.now work.old work.new }
 {
     match run_bytes(alloc, path, text, options, out, work)? {
         FileEnd::Judged(totals) => {

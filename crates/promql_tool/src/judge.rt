@@ -2,11 +2,13 @@
 ghost use Rattle.edge_io.specs.Causes.{HasCause, Rose};
 ghost use Rattle.promql_tool.specs.Found.{IsFound, Just};
 ghost use Rattle.promql_tool.specs.Runs.{ComesTo, IsCutFile, IsCutScript, RestsIfNone, ScriptComesTo};
+ghost use Rattle.promql_tool.specs.Spending.{FileSpends};
 ghost use Rattle.promql_tool.specs.declared.fault.Stop.TheVariants.{Gone};
 ghost use Rattle.promql_tool.specs.declared.judge.FileEnd.TheVariants.{Stopped};
 ghost use Rattle.query_engine.specs.Batches.{IsBatch};
 ghost use Rattle.script_check.specs.Verdicts.{KeepsPatterns};
-ghost use Rattle.std.specs.Prelude.{◌≡◌, ◌≤◌, ◌<◌, ◌^◌, length, IfOk, OnErr, IsErrOf};
+ghost use Rattle.std.specs.Prelude.{◌≡◌, ◌≤◌, ◌<◌, ◌^◌, [], length, IfOk, OnErr, IsErrOf};
+ghost use Rattle.test_runner.specs.Spending.{CommandsSpend};
 
 use crate::fault::{Refusal, Stop};
 use crate::fetch::{File, fetch_file, read_script};
@@ -54,6 +56,7 @@ fn run_script<S: Sink, W: Ledger>(
     ensures cause { HasCause (S.faults out.old) (S.faults out.new) (IsErrOf result SinkFail.Failed) }
     ensures sound { S.sound out.old → S.sound out.new }
     ensures never { S.sound out.old → IsErrOf result SinkFail.Failed → ⊥ }
+    ensures bounded { CommandsSpend options.now [] script.now.commands work.old work.new }
 {
     match run(alloc, path, script, searches, options, out, work) {
         Ok(totals) => Ok(FileEnd::Judged(totals)),
@@ -81,6 +84,7 @@ pub fn run_bytes<S: Sink, W: Ledger>(
     ensures cause { HasCause (S.faults out.old) (S.faults out.new) (IsErrOf result SinkFail.Failed) }
     ensures sound { S.sound out.old → S.sound out.new }
     ensures never { S.sound out.old → IsErrOf result SinkFail.Failed → ⊥ }
+    ensures bounded { FileSpends options.now (Just bytes.now) path.now work.old work.new }
 {
     let mut room = PatternRoom::new(alloc)?;
     let mut searches = Patterns::new(alloc, &mut room);
@@ -113,6 +117,7 @@ pub fn run_file<L: Library, S: Sink, W: Ledger>(
     ensures cause { HasCause (S.faults out.old) (S.faults out.new) (IsErrOf result SinkFail.Failed) }
     ensures sound { S.sound out.old → S.sound out.new }
     ensures never { S.sound out.old → IsErrOf result SinkFail.Failed → ⊥ }
+    ensures bounded { FileSpends options.now (IsFound (L.told library.old) (L.sound library.old)) path.now work.old work.new }
 {
     match fetch_file(alloc, path, library)? {
         File::Bytes(bytes) => run_bytes(alloc, path, bytes.as_slice(), options, out, work),

@@ -3,10 +3,14 @@ ghost use Rattle.edge_io.specs.Causes.{HasCause, Rose};
 ghost use Rattle.promql_tool.specs.Found.{IsFound, Just};
 ghost use Rattle.promql_tool.specs.Query.{Queried};
 ghost use Rattle.promql_tool.specs.Runs.{AnswersFile, AnswersScript, Ends, IsCutReport, ReportsAnswered, ReportsQuery};
+ghost use Rattle.promql_tool.specs.Spending.{QuerySpends};
 ghost use Rattle.promql_tool.specs.declared.fault.Stop.TheVariants.{Gone};
 ghost use Rattle.promql_tool.specs.declared.query.Answered.TheVariants.{Stopped};
 ghost use Rattle.query_engine.specs.Batches.{IsBatch};
-ghost use Rattle.std.specs.Prelude.{◌≡◌, ℕ, List, IfOk, IsErrOf};
+ghost use Rattle.query_engine.specs.Bounds.{Spends};
+ghost use Rattle.query_engine.specs.Planning.{choices_of};
+ghost use Rattle.std.specs.Prelude.{◌≡◌, ℕ, List, IfErr, IfOk, IsErrOf};
+ghost use Rattle.test_runner.specs.Loads.{samples_left};
 
 use crate::fault::{Refusal, Stop};
 use crate::fetch::{File, fetch_file, read_script};
@@ -54,7 +58,9 @@ fn answer_script<W: Ledger>(
     work: &mut Work<W>,
 ) -> Result<Answered, AllocError>
     requires { IsBatch question.options.now.batch }
-    ensures { IfOk result (AnswersScript question.entry.options.now.closed script.now question.entry.expr.now question.entry.grid.now question.entry.instant (work.new ≡ work.old)) }
+    ensures answered { IfOk result (AnswersScript question.entry.options.now.closed script.now question.entry.expr.now question.entry.grid.now question.entry.instant (work.new ≡ work.old)) }
+    ensures idle { IfErr (samples_left script.now) (λ _. work.new ≡ work.old) }
+    ensures bounded { IfOk (samples_left script.now) (λ series. Spends question.entry.expr.now series question.entry.grid.now (choices_of question.entry.options.now) question.entry.options.now.closed work.old work.new) }
 {
     let Question {
         expr,
@@ -79,7 +85,8 @@ fn answer_bytes<W: Ledger>(
     work: &mut Work<W>,
 ) -> Result<Answered, AllocError>
     requires { IsBatch question.options.now.batch }
-    ensures { (path : List ℕ) → IfOk result (AnswersFile question.entry.options.now.closed (Just bytes.now) path question.entry.expr.now question.entry.grid.now question.entry.instant (work.new ≡ work.old)) }
+    ensures answered { (path : List ℕ) → IfOk result (AnswersFile question.entry.options.now.closed (Just bytes.now) path question.entry.expr.now question.entry.grid.now question.entry.instant (work.new ≡ work.old)) }
+    ensures bounded { (path : List ℕ) → QuerySpends question.entry.options.now (Just bytes.now) path question.entry.expr.now question.entry.grid.now work.old work.new }
 {
     let mut room = PatternRoom::new(alloc)?;
     let mut searches = Patterns::new(alloc, &mut room);
@@ -104,6 +111,7 @@ fn answer_file<L: Library, W: Ledger>(
     ensures sound { L.sound library.old → L.sound library.new }
     ensures gone { IfOk result (λ answered. answered ≡ Stopped Gone → Rose (L.faults library.old) (L.faults library.new)) }
     ensures answered { IfOk result (AnswersFile question.entry.options.now.closed (IsFound (L.told library.old) (L.sound library.old)) path.now question.entry.expr.now question.entry.grid.now question.entry.instant (work.new ≡ work.old)) }
+    ensures bounded { QuerySpends question.entry.options.now (IsFound (L.told library.old) (L.sound library.old)) path.now question.entry.expr.now question.entry.grid.now work.old work.new }
 {
     match fetch_file(alloc, path, library)? {
         File::Bytes(bytes) => answer_bytes(alloc, bytes.as_slice(), question, work),
@@ -154,6 +162,7 @@ pub fn run_query<L: Library, S: Sink, W: Ledger>(
     ensures cause { HasCause (S.faults out.old) (S.faults out.new) (IsErrOf result SinkFail.Failed) }
     ensures sound { S.sound out.old → S.sound out.new }
     ensures never { S.sound out.old → IsErrOf result SinkFail.Failed → ⊥ }
+    ensures bounded { QuerySpends question.entry.options.now (IsFound (L.told library.old) (L.sound library.old)) path.now question.entry.expr.now question.entry.grid.now work.old work.new }
 {
     let answered = answer_file(alloc, path, question, library, work)?;
     print_answered(alloc, path, &answered, out)

@@ -8,6 +8,7 @@ ghost use Rattle.promql_tool.specs.Reached.{Reaches, status_of};
 ghost use Rattle.promql_tool.specs.Reading.{IsNoScript};
 ghost use Rattle.promql_tool.specs.Report.{AsksToPrint, HasReport, closed_of, files_of};
 ghost use Rattle.promql_tool.specs.Runs.{Ends, ReportsWords};
+ghost use Rattle.promql_tool.specs.Spending.{WordsSpend, engine_options};
 ghost use Rattle.promql_tool.specs.Texts.{usage};
 ghost use Rattle.std.specs.Prelude.{◌≡◌, ◌≤◌, ◌⊎◌, ℕ, [], ◌∷◌, List, Contains, Err, None, length, map, string_bytes, IfOk, IfSome, IsErrOf};
 ghost use Rattle.tool_words.specs.Asked.{asked};
@@ -38,16 +39,7 @@ fn cut_status(cause: SinkFail) -> Status
 
 /// What is chosen for evaluations, as the engine takes it.
 fn options_of(choices: Choices) -> Options
-    ensures { result ≡ record {
-      sort = choices.optimisers.sort;
-      propagate = choices.optimisers.propagate;
-      merge = choices.optimisers.merge;
-      trim = choices.optimisers.trim;
-      avg = choices.optimisers.avg;
-      remote = choices.optimisers.remote;
-      batch = choices.batch;
-      closed = choices.closed;
-    } }
+    ensures { result ≡ engine_options choices }
 {
     let Choices {
         closed,
@@ -86,6 +78,7 @@ fn run_words<L: Library, S: Sink, W: Ledger>(
     ensures cause { HasCause (S.faults out.old) (S.faults out.new) (IsErrOf result SinkFail.Failed) }
     ensures sound { S.sound out.old → S.sound out.new }
     ensures never { S.sound out.old → IsErrOf result SinkFail.Failed → ⊥ }
+    ensures bounded { WordsSpend (map string_bytes words.now) (IsFound (L.told library.old) (L.sound library.old)) work.old work.new }
 {
     match read_words(alloc, words)? {
         None => print_usage(out),
@@ -128,7 +121,7 @@ fn run_words<L: Library, S: Sink, W: Ledger>(
 /// its canonical form; or `explain EXPR`: prints its plan. These neither fetch nor evaluate anything. With `--edges v2` windows have their left
 /// edge too, as in Prometheus 2. With `--batch B` at most B instants are computed at once, which changes nothing that is printed. `--opts`
 /// chooses the rewrites of plans, which change nothing but the plan that `explain` prints.
-/// Samples are read by counted calls, in `work`. Status 0: all pass, the query has an answer, or the expression or its plan was printed. 1: some
+/// Samples are read by counted calls, in `work`, whose counters rise by at most what the plans of the evaluations cost. Status 0: all pass, the query has an answer, or the expression or its plan was printed. 1: some
 /// don't pass, the query was refused or failed, or the expression was refused. 2: the words are no command. 3: a file can't be fetched. 4: a write failed. 6: a file is no script, or a load of it is refused.
 /// 7: memory ran out.
 pub fn run_tool<L: Library, S: Sink, W: Ledger>(
@@ -182,6 +175,9 @@ pub fn run_tool<L: Library, S: Sink, W: Ledger>(
 
     // Of an expression that is printed, or its plan, nothing is evaluated.
     ensures unevaluated { AsksToPrint (asked (map string_bytes words.now)) → work.new ≡ work.old }
+
+    // The counters rise by at most what the plans of all evaluations cost, each over the samples that stand then.
+    ensures bounded { WordsSpend (map string_bytes words.now) (IsFound (L.told library.old) (L.sound library.old)) work.old work.new }
 
     // 3: a fetch failed, of a file of the words; then its fault is printed behind the verdicts of the files before it, and no more.
     // Over a sound library that tells, exactly where it isn't there.

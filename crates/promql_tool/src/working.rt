@@ -1,6 +1,9 @@
 //! Running a workload.
 ghost use Rattle.edge_io.specs.Causes.{HasCause};
+ghost use Rattle.promql_tool.specs.Found.{Just};
 ghost use Rattle.promql_tool.specs.Runs.{Ends, IsCutWorkload, ReportsWorkload};
+ghost use Rattle.promql_tool.specs.Spending.{FileSpends};
+ghost use Rattle.promql_tool.specs.Workload.{workload_path, workload_text};
 ghost use Rattle.query_engine.specs.Batches.{IsBatch};
 ghost use Rattle.std.specs.Prelude.{◌≡◌, ◌≤◌, IsErrOf};
 
@@ -29,6 +32,7 @@ pub fn run_workload<S: Sink, W: Ledger>(
     ensures cause { HasCause (S.faults out.old) (S.faults out.new) (IsErrOf result SinkFail.Failed) }
     ensures sound { S.sound out.old → S.sound out.new }
     ensures never { S.sound out.old → IsErrOf result SinkFail.Failed → ⊥ }
+    ensures bounded { FileSpends options.now (Just (workload_text series)) workload_path work.old work.new }
 {
     let text = workload_text(alloc, series)?;
     print_loaded(alloc, series, out)?;

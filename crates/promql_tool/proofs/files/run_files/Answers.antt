@@ -8,6 +8,8 @@ use Rattle.promql_tool.proofs.Fetched.{fetched_next, front_fetched, next_file}
 use Rattle.promql_tool.proofs.Fetching.{found_since}
 use Rattle.promql_tool.proofs.FilesRun.{RunSoFar, cut_reaches, next_cut, none_run, one_more, stop_printed, stop_reaches, totals_printed, totals_reach}
 use Rattle.promql_tool.proofs.Mapped.{comes_so, cut_so}
+use Rattle.promql_tool.specs.Spending.{FilesSpend, no_file_left, one_file_more}
+use Rattle.promql_tool.proofs.Spending.{file_so}
 use Rattle.promql_tool.proofs.files.run_files.Goals as goal
 
 pub returns-in_err-totals-clause-fetched : goal.returns-in_err-totals-clause-fetched
@@ -72,6 +74,7 @@ loop-file-init g c =
       library_later = omega arith;
       sound = λ s. s;
       later = omega arith;
+      spent = λ after more. more;
     }
 
 pub loop-file-preserved : goal.loop-file-preserved
@@ -108,6 +111,8 @@ loop-file-preserved g c =
       library_later = omega (arith, c.run_file.ensures.later);
       sound = λ s. c.run_file.ensures.sound (c.loop-file.invariant.sound s);
       later = omega (arith, c.run_file.ensures.cause.later);
+      spent = λ after rest. c.loop-file.invariant.spent after (subst (λ (left : List (List ℕ)). FilesSpend c.args.options.now found left c.loop-file.work after) (sym here)
+          (one_file_more path (drop (i + 1) files) c.loop-file.work c.run_file.new.work after (file_so c.args.options.now later found path to c.loop-file.work c.run_file.new.work c.run_file.ensures.bounded) rest));
     }
 
 pub returns-clause-ends : goal.returns-clause-ends
@@ -173,3 +178,34 @@ returns-clause-reached g c =
     let run = subst (λ (left : List (List ℕ)). RunSoFar c.args.options.now.closed found files left before mid idle tally.passed tally.failed) none c.loop-file.invariant.run in
     let fetched = subst (λ (ps : List (List ℕ)). Fetches g.L.Library.fetches ps c.args.library.now c.loop-file.library) (take_all c.loop-file.file-index files c.loop-file-test.false) c.loop-file.invariant.fetched in
     totals_reach _ g.L.Library.fetches c.args.library.now c.loop-file.library c.args.options.now.closed found files before mid idle tally.passed tally.failed run fetched (g.S.Sink.written c.print_totals.new.out) idle c.print_totals.result c.print_totals.ensures.ok c.print_totals.ensures.err
+
+pub returns-in_err-totals-clause-bounded : goal.returns-in_err-totals-clause-bounded
+returns-in_err-totals-clause-bounded g c =
+    let files = c.args.files.now in
+    let i = c.loop-file.file-index in
+    let path = c.as_str-path.result.now in
+    let options = c.args.options.now in
+    let later = IsFound (g.L.Library.told c.loop-file.library) (g.L.Library.sound c.loop-file.library) in
+    let found = IsFound (g.L.Library.told c.args.library.now) (g.L.Library.sound c.args.library.now) in
+    let mid = c.loop-file.work in
+    let now = c.run_file.new.work in
+    let here = next_file files i c.file-item.result path c.loop-file-test.true c.as_str-path.ensures c.file-item.is in
+    let spends = file_so options later found path (found_since _ _ _ _ c.loop-file.invariant.told c.loop-file.invariant.library_sound path) mid now c.run_file.ensures.bounded in
+    c.loop-file.invariant.spent now (subst (λ (left : List (List ℕ)). FilesSpend options found left mid now) (sym here) (one_file_more path (drop (i + 1) files) mid now now spends (no_file_left (drop (i + 1) files) now)))
+
+pub returns-in-Stopped-clause-bounded : goal.returns-in-Stopped-clause-bounded
+returns-in-Stopped-clause-bounded g c =
+    let files = c.args.files.now in
+    let i = c.loop-file.file-index in
+    let path = c.as_str-path.result.now in
+    let options = c.args.options.now in
+    let later = IsFound (g.L.Library.told c.loop-file.library) (g.L.Library.sound c.loop-file.library) in
+    let found = IsFound (g.L.Library.told c.args.library.now) (g.L.Library.sound c.args.library.now) in
+    let mid = c.loop-file.work in
+    let now = c.run_file.new.work in
+    let here = next_file files i c.file-item.result path c.loop-file-test.true c.as_str-path.ensures c.file-item.is in
+    let spends = file_so options later found path (found_since _ _ _ _ c.loop-file.invariant.told c.loop-file.invariant.library_sound path) mid now c.run_file.ensures.bounded in
+    c.loop-file.invariant.spent now (subst (λ (left : List (List ℕ)). FilesSpend options found left mid now) (sym here) (one_file_more path (drop (i + 1) files) mid now now spends (no_file_left (drop (i + 1) files) now)))
+
+pub returns-clause-bounded : goal.returns-clause-bounded
+returns-clause-bounded g c = c.loop-file.invariant.spent c.loop-file.work (no_file_left (drop c.loop-file.file-index c.args.files.now) c.loop-file.work)

@@ -1,6 +1,8 @@
 use Rattle.std.proofs.Common.{◌≡◌, ◌≤◌, ◌*◌, ◌^◌, drop, take}
 use Rattle.edge_io.specs.Fetches.{Fetches}
 use Rattle.promql_tool.specs.Found.{IsFound}
+use Rattle.promql_tool.specs.Spending.{FilesSpend}
+use Rattle.ticks.specs.Works.{Counts}
 use Rattle.promql_tool.proofs.FilesRun.{RunSoFar}
 use Rattle.promql_tool.proofs.files.run_files.Given as goal
 
@@ -16,4 +18,6 @@ invariant-loop-file g l = record {
   library_later : g.L.Library.faults l.fn.library ≤ g.L.Library.faults l.library;
   sound : g.S.Sink.sound l.fn.out → g.S.Sink.sound l.out;
   later : g.S.Sink.faults l.fn.out ≤ g.S.Sink.faults l.out;
+  spent : (after : Counts) → FilesSpend l.options (IsFound (g.L.Library.told l.fn.library) (g.L.Library.sound l.fn.library)) (drop l.file-index l.files) l.work after
+      → FilesSpend l.options (IsFound (g.L.Library.told l.fn.library) (g.L.Library.sound l.fn.library)) l.files l.fn.work after;
 }

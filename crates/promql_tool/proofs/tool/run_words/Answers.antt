@@ -6,6 +6,10 @@ use Rattle.promql_tool.specs.Found.{IsFound}
 use Rattle.promql_tool.specs.Reached.{files, no_file, no_memory, one_file}
 use Rattle.promql_tool.specs.Report.{AsksToPrint, files_asked}
 use Rattle.promql_tool.proofs.WordsRun.{explain_end, files_end, format_end, misuse_ends, one_fetched, query_end, workload_end}
+use Rattle.query_engine.specs.declared.options.Options.{Options}
+use Rattle.promql_tool.specs.Found.{Just}
+use Rattle.promql_tool.specs.Spending.{FileSpends, FilesSpend, QuerySpends, no_evaluation, queries, tests, works}
+use Rattle.promql_tool.specs.Workload.{workload_path, workload_text}
 use Rattle.promql_tool.proofs.tool.run_words.Goals as goal
 
 pub returns-in-None-clause-ends : goal.returns-in-None-clause-ends
@@ -128,3 +132,46 @@ pub returns-in-Some-Explain-clause-reached : goal.returns-in-Some-Explain-clause
 returns-in-Some-Explain-clause-reached g c =
     let wish = rw (c.in-Some-Explain.is, c.in-Some-Explain.field-0-is) at c.in_ok-read_words.ensures.wish in
     no_file (ap files_asked (sym wish)) refl
+
+pub returns-in_err-read_words-clause-bounded : goal.returns-in_err-read_words-clause-bounded
+returns-in_err-read_words-clause-bounded g c = no_evaluation refl
+
+pub returns-in-None-clause-bounded : goal.returns-in-None-clause-bounded
+returns-in-None-clause-bounded g c = no_evaluation refl
+
+pub returns-in-Some-Test-clause-bounded : goal.returns-in-Some-Test-clause-bounded
+returns-in-Some-Test-clause-bounded g c =
+    let words = map string_bytes c.args.words.now in
+    let found = IsFound (g.L.Library.told c.args.library.now) (g.L.Library.sound c.args.library.now) in
+    let wish = rw (c.in-Some-Test.is, c.in-Some-Test.field-0-is) at c.in_ok-read_words.ensures.wish in
+    let is : asked words ≡ Some (test c.in-Some-Test.choices c.as_slice.result.now) = sym wish ∙ ap (λ (paths : List (List ℕ)). Some (test c.in-Some-Test.choices paths)) (sym c.as_slice.ensures) in
+    tests c.in-Some-Test.choices c.as_slice.result.now is
+    (subst (λ (o : Options). FilesSpend o found c.as_slice.result.now c.args.work.now c.run_files.new.work) c.options_of-options.ensures c.run_files.ensures.bounded)
+
+pub returns-in-Some-Query-clause-bounded : goal.returns-in-Some-Query-clause-bounded
+returns-in-Some-Query-clause-bounded g c =
+    let words = map string_bytes c.args.words.now in
+    let found = IsFound (g.L.Library.told c.args.library.now) (g.L.Library.sound c.args.library.now) in
+    let path = c.as_str-in-Some-Query.result.now in
+    let expr = c.as_str.result.now in
+    let grid = c.in-Some-Query.grid in
+    let instant = c.in-Some-Query.instant in
+    let moments = moments_in grid instant in
+    let wish = rw (c.in-Some-Query.is, c.in-Some-Query.field-0-is) at c.in_ok-read_words.ensures.wish in
+    let is : asked words ≡ Some (query c.in-Some-Query.choices moments path expr) =
+    sym wish ∙ ap (λ (p : List ℕ). Some (query c.in-Some-Query.choices moments p c.in-Some-Query.expr)) (sym c.as_str-in-Some-Query.ensures) ∙ ap (λ (e : List ℕ). Some (query c.in-Some-Query.choices moments path e)) (sym c.as_str.ensures) in
+    queries c.in-Some-Query.choices grid instant path expr is
+    (subst (λ (o : Options). QuerySpends o found path expr grid c.args.work.now c.run_query.new.work) c.options_of-options-in-Some-Query.ensures c.run_query.ensures.bounded)
+
+pub returns-in-Some-Workload-clause-bounded : goal.returns-in-Some-Workload-clause-bounded
+returns-in-Some-Workload-clause-bounded g c =
+    let series = c.in-Some-Workload.count in
+    let wish = rw (c.in-Some-Workload.is, c.in-Some-Workload.field-0-is) at c.in_ok-read_words.ensures.wish in
+    works c.in-Some-Workload.choices series (sym wish)
+    (subst (λ (o : Options). FileSpends o (Just (workload_text series)) workload_path c.args.work.now c.run_workload.new.work) c.options_of-options-in-Some-Workload.ensures c.run_workload.ensures.bounded)
+
+pub returns-in-Some-Format-clause-bounded : goal.returns-in-Some-Format-clause-bounded
+returns-in-Some-Format-clause-bounded g c = no_evaluation refl
+
+pub returns-in-Some-Explain-clause-bounded : goal.returns-in-Some-Explain-clause-bounded
+returns-in-Some-Explain-clause-bounded g c = no_evaluation refl
