@@ -6,12 +6,12 @@ ghost use Rattle.plan_parts.specs.Courses.{IsAsked};
 ghost use Rattle.plan_parts.specs.Parts.{IsPart, OncesStay};
 ghost use Rattle.plan_tree.specs.Chains.{IsReady};
 ghost use Rattle.plan_tree.specs.Nodes.{shape_of};
-ghost use Rattle.plan_tree.specs.Shapes.{rule};
+ghost use Rattle.plan_tree.specs.Shapes.{is_single, rule};
 ghost use Rattle.plan_tree.specs.Spending.{IsFresh};
 ghost use Rattle.plan_work.specs.Looks.{LooksAt, plan_looks};
 ghost use Rattle.plan_work.specs.TreeBounds.{StaysWithin};
 ghost use Rattle.promql_meaning.specs.Selecting.{Asked, asked_over};
-ghost use Rattle.std.specs.Prelude.{◌≡◌, ◌<◌, ℤ, None, IfOk, IsOkUnless};
+ghost use Rattle.std.specs.Prelude.{◌≡◌, ◌<◌, ℤ, None, IfOk, IsOkUnless, if◌then◌else◌};
 ghost use Rattle.ticks.specs.Walks.{IsInstant, LeadsToTimes};
 
 use crate::growing::grown;
@@ -48,6 +48,8 @@ pub fn build<W: Ledger>(
     ensures fed { IfOk result (λ tree. tree.fed ≡ None) }
     ensures fresh { IfOk result (λ tree. IsFresh tree.node) }
     ensures walk { IfOk result (λ tree. tree.walk ≡ walk.now) }
+    // it is fed at most so many instants at once, and one where there is a subquery
+    ensures batch { IfOk result (λ tree. tree.batch ≡ (if is_single (shape_of tree.node) then 1 else batch)) }
     // where what stands below Once nodes is the same at all instants, the tree gives at each instant what the plan gives
     ensures gives { IfOk result (λ tree. OncesStay (asked_over store.now patterns.old span.now) p.now
         → (t : ℤ) → IsInstant walk.now t → rule store.now patterns.old (shape_of tree.node) t ≡ plan_step (asked_over store.now patterns.old span.now) p.now t) }
@@ -74,6 +76,7 @@ fn planted(alloc: Global, part: Part, walk: Walk, batch: u32) -> Tree
     ensures fed { result.fed ≡ None }
     ensures fresh { (asked : Asked) (p : Plan) → IsPart asked walk p part → IsFresh result.node }
     ensures walk { result.walk ≡ walk }
+    ensures batch { result.batch ≡ (if is_single (shape_of result.node) then 1 else batch) }
     ensures within { (asked : Asked) (p : Plan) → IsPart asked walk p part → StaysWithin asked walk p (shape_of result.node) }
     ensures gives { (asked : Asked) (p : Plan) → IsPart asked walk p part → OncesStay asked p
         → (t : ℤ) → IsInstant walk t → rule asked.samples asked.kept (shape_of result.node) t ≡ plan_step asked p t }

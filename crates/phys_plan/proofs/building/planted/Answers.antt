@@ -1,10 +1,11 @@
-use Rattle.std.proofs.Common.{◌≡◌, subst, sym}
+use Rattle.std.proofs.Common.{◌≡◌, ◌∙◌, ap, subst, sym}
 use Rattle.logical_plan.specs.PlanMeaning.{plan_step}
 use Rattle.plan_tree.specs.Nodes.{shape_of}
-use Rattle.plan_tree.specs.Shapes.{rule}
+use Rattle.plan_tree.specs.Shapes.{is_single, rule}
 use Rattle.plan_tree.specs.Spending.{IsFresh}
 use Rattle.plan_work.specs.TreeBounds.{StaysWithin}
 use Rattle.plan_tree.specs.declared.node.Node.{Node}
+use Rattle.std.specs.Prelude.{if◌then◌else◌}
 use Rattle.ticks.specs.Walks.{IsInstant}
 use Rattle.phys_plan.proofs.Built.{IsNew, gives_steps, new_ready}
 use Rattle.phys_plan.proofs.building.planted.Goals as goal
@@ -23,6 +24,9 @@ returns-clause-ready c = λ asked p is.
 
 pub returns-clause-fresh : goal.returns-clause-fresh
 returns-clause-fresh c = λ asked p is. subst IsFresh (sym c.new.ensures.node) is.sound.fresh
+
+pub returns-clause-batch : goal.returns-clause-batch
+returns-clause-batch c = c.new.ensures.batch ∙ ap (λ (n : Node). if is_single (shape_of n) then 1 else c.args.batch) (sym c.new.ensures.node)
 
 pub returns-clause-within : goal.returns-clause-within
 returns-clause-within c = λ asked p is. subst (λ (n : Node). StaysWithin asked c.args.walk p (shape_of n)) (sym c.new.ensures.node) is.within
