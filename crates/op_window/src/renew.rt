@@ -126,8 +126,8 @@ fn renew<W: Ledger>(
     match reached {
         None => {
             let to = begin(store, s, span.edge, span.moment, slices, work)?;
+            // a window that no other one follows isn't worth counting
             slices.forget(span.edge);
-            slices.settle()?;
             Ok(to)
         }
         Some(reached) => {

@@ -6,20 +6,20 @@ use Rattle.op_window.specs.Sliding.{columns_of, window_of}
 use Rattle.op_window.proofs.Windows.{window_begun_at, window_slides_at}
 use Rattle.op_window.proofs.renew.renew.Goals as goal
 
-pub returns-in_ok-settle-in-None-clause-window : goal.returns-in_ok-settle-in-None-clause-window
-returns-in_ok-settle-in-None-clause-window g c =
+pub returns-in_ok-to-in-None-clause-window : goal.returns-in_ok-to-in-None-clause-window
+returns-in_ok-to-in-None-clause-window g c =
     let S = samples_at c.args.store.now c.args.s in
     let span = c.args.span in
-    c.settle.ensures ∙ c.forget.ensures
+    c.forget.ensures
     ∙ window_begun_at span.closed span.edge.0 span.moment.0 span.range.0 S c.args.slices.now c.begin.new.slices c.requires.rises c.requires.span.edge c.requires.span.range
     (c.requires.window ∙ ap (λ (r : Reached). columns_of (window_of span.closed span.range.0 r S)) c.in-None.is) c.in_ok-to-in-None.ensures.window
 
-pub returns-in_ok-settle-in-Some-clause-window : goal.returns-in_ok-settle-in-Some-clause-window
-returns-in_ok-settle-in-Some-clause-window g c =
+pub returns-in_ok-settle-clause-window : goal.returns-in_ok-settle-clause-window
+returns-in_ok-settle-clause-window g c =
     let S = samples_at c.args.store.now c.args.s in
     let span = c.args.span in
     let r = c.in-Some.reached in
-    c.settle-in-Some.ensures ∙ c.forget-in-Some.ensures
+    c.settle.ensures ∙ c.forget-in-Some.ensures
     ∙ window_slides_at span.closed r.0.0 r.1.0 span.moment.0 span.range.0 span.edge.0 S c.args.slices.now c.go_on.new.slices c.requires.rises
     (subst (λ (z : Reached). IsReached span.closed span.range.0 z) c.in-Some.is c.requires.begun) (subst (λ (z : Reached). IsNoEarlier z span.moment) c.in-Some.is c.requires.later) c.requires.span.edge c.requires.span.range
     (c.requires.window ∙ ap (λ (z : Reached). columns_of (window_of span.closed span.range.0 z S)) c.in-Some.is) c.in_ok-to-in-Some.ensures.window
