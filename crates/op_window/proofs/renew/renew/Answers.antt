@@ -14,7 +14,7 @@ returns-in_ok-to-in-None-clause-window g c =
     ∙ window_begun_at span.closed span.edge.0 span.moment.0 span.range.0 S c.args.slices.now c.begin.new.slices c.requires.rises c.requires.span.edge c.requires.span.range
     (c.requires.window ∙ ap (λ (r : Reached). columns_of (window_of span.closed span.range.0 r S)) c.in-None.is) c.in_ok-to-in-None.ensures.window
 
-pub returns-in_ok-settle-in-Some-clause-window : goal.returns-in_ok-settle-clause-window
+pub returns-in_ok-settle-in-Some-clause-window : goal.returns-in_ok-settle-in-Some-clause-window
 returns-in_ok-settle-in-Some-clause-window g c =
     let S = samples_at c.args.store.now c.args.s in
     let span = c.args.span in
