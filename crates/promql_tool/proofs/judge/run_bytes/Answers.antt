@@ -25,6 +25,3 @@ returns-in-Ok-clause-bounded g c =
 
 pub returns-in-Err-Refused-clause-bounded : goal.returns-in-Err-Refused-clause-bounded
 returns-in-Err-Refused-clause-bounded g c = no_file refl
-
-pub returns-in-Err-Memory-clause-bounded : goal.returns-in-Err-Memory-clause-bounded
-returns-in-Err-Memory-clause-bounded g c = no_file refl
