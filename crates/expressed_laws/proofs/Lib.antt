@@ -1,0 +1,6 @@
+mod Ands
+mod Limits
+mod Means
+mod Patterns
+mod Types
+mod Unrefused
