@@ -111,7 +111,7 @@ for file in "${files[@]}"; do
         *) fails "$file is no script" ;;
     esac
 done
-choices=(--batch={1,3,64,1024} --opts={none,propagate,merge,trim,avg})
+choices=(--batch={1,2,3,64,1024} --opts={none,propagate,merge,trim,avg})
 judge_all "${together[@]}"
 for file in "${alone[@]}"; do judge_one "$file"; done
 mapfile -t choices < <(all_rewrites)
