@@ -43,7 +43,7 @@ fn labels(alloc: Global, text: &str) -> Result<Labels, Fail> {
     Ok(labels)
 }
 
-fn load(alloc: Global, store: &mut Store, text: &str) -> Result<(), Fail> {
+pub(crate) fn load(alloc: Global, store: &mut Store, text: &str) -> Result<(), Fail> {
     let mut parts = text.split(':');
     let labels = labels(alloc, parts.next().ok_or("no labels")?)?;
     let step = seconds(parts.next().ok_or("no step")?)?;
@@ -70,7 +70,7 @@ fn loaded(alloc: Global, text: &str) -> Result<Store, Fail> {
 }
 
 /// An instant, or a start, an end and a step, in seconds; and whether it is an instant.
-fn grid(text: &str) -> Result<(Grid, bool), Fail> {
+pub(crate) fn grid(text: &str) -> Result<(Grid, bool), Fail> {
     match text.split_once("..") {
         None => {
             let t = seconds(text)?;
@@ -211,7 +211,7 @@ fn counted<W: Ledger>(
 }
 
 /// What a text comes to, with counters that nobody reads.
-fn outcome_of(
+pub(crate) fn outcome_of(
     alloc: Global,
     store: &Store,
     when: &(Grid, bool),
