@@ -20,7 +20,7 @@ use Rattle.plan_tree.specs.declared.node.Node.TheVariants as node
 use Rattle.plan_tree.specs.declared.turns.Fed.{Fed}
 use Rattle.plan_tree.specs.Feeds.{fed_on, once}
 use Rattle.plan_tree.specs.Laws.{FreshTreesBegin, SpendingIsBounded, TurnsAreTheWalk}
-use Rattle.plan_tree.specs.Shapes.{BinaryOf, ClampOf, InstantsOf, IsFit, OnceOf, PointsOf, SelectOf, SeriesOf, Shape, UnaryOf}
+use Rattle.plan_tree.specs.Shapes.{BinaryOf, ClampOf, GatherOf, InstantsOf, IsFit, OnceOf, PointsOf, SelectOf, SeriesOf, Shape, UnaryOf}
 use Rattle.plan_tree.specs.Spending.{Cost, HasRead, IsAlong, IsAtMost, IsBound, IsFresh, IsSum, IsUpTo, LeafMayRead, MayRead, RisesBy, RisesFrom, both, leaf_bound, leaf_read, nothing, once_at}
 use Rattle.plan_tree.proofs.Going.{moments_rise}
 use Rattle.plan_tree.proofs.Spent.{le_same}
@@ -165,6 +165,7 @@ tree_within turns store rising times fed (PointsOf f walk moment range step inne
     (λ a b. tree_within turns store rising inner_times own inner a b fit.2 listed.rising (along_among turns walk inner_times own listed along)) may bound
 tree_within turns store rising times fed (OnceOf first child) read most fit r h may bound =
     tree_within turns store rising (once_at first times) (once first fed) child read most fit (once_rises first times) (once_among first times fed h) may bound
+tree_within turns store rising times fed (GatherOf place) read most fit r h may bound = at_most_same read most may bound
 
 pub spending_bounded : TurnsAreTheWalk → SpendingIsBounded
 spending_bounded turns store walk fed shape read most times rising fit along may listed bound = tree_within turns store rising times fed shape read most fit listed.rising (along_among turns walk times fed listed along) may bound
@@ -220,6 +221,7 @@ begun store (node.Points' kernel inner_fed p inner q scalar) h =
       has = (none_along kernel.walk inner_fed h.0, (a.read, b.read, a.has, subst (λ (f : Option Fed). HasRead store f inner b.read) (sym h.0) b.has, refl));
     }
 begun store (node.Once' first steps p child) h = let a = begun store child h in record { read = a.read; has = a.has }
+begun store (node.Gather place) h = record { read = nothing; has = refl }
 
 pub fresh_begin : FreshTreesBegin
 fresh_begin store tree now is fresh =

@@ -4,7 +4,7 @@ use Rattle.promql_meaning.specs.Selecting.{lookback}
 use Rattle.ticks.specs.Listed.{EachWalkIsListed, ListsAreOne}
 use Rattle.ticks.specs.declared.moment.Ms.{Ms}
 use Rattle.plan_tree.specs.Laws.{EachTreeHasOneBound}
-use Rattle.plan_tree.specs.Shapes.{BinaryOf, ClampOf, InstantsOf, OnceOf, PointsOf, SelectOf, SeriesOf, UnaryOf}
+use Rattle.plan_tree.specs.Shapes.{BinaryOf, ClampOf, GatherOf, InstantsOf, OnceOf, PointsOf, SelectOf, SeriesOf, UnaryOf}
 use Rattle.plan_tree.specs.Spending.{Cost, IsBound, IsSum, both, leaf_bound, nothing, once_at}
 
 -- there is one cost of a kind
@@ -39,3 +39,4 @@ one_bound each alone store times (PointsOf f walk moment range step inner scalar
       λ other is. sum.2 other (subst (λ (ts : List Ms). IsSum (IsBound store times scalar) (IsBound store ts inner) other) (alone walk is.0 listed.0 is.1 listed.1) is.2),
     )
 one_bound each alone store times (OnceOf first child) h = one_bound each alone store (once_at first times) child h
+one_bound each alone store times (GatherOf place) h = known nothing

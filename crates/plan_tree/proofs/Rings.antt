@@ -6,7 +6,6 @@ use Rattle.op_labels.specs.Rules.{Kept}
 use Rattle.op_subquery.specs.Walked.{inner_walk}
 use Rattle.promql_meaning.specs.Meaning.{windowed_by}
 use Rattle.promql_meaning.specs.Subqueries.{points_of}
-use Rattle.sample_store.specs.Samples.{AllSeries}
 use Rattle.subquery_rows.specs.Rings.{IsAsked, IsNextAfter, IsPast, Ring, Stands}
 use Rattle.step_table.specs.Timed.{steps_over}
 use Rattle.step_table.specs.declared.step.Step.{Step}
@@ -19,6 +18,7 @@ use Rattle.plan_tree.specs.declared.turns.Fed.{Fed}
 use Rattle.plan_tree.specs.Feeds.{Goes, fed_on, last_of}
 use Rattle.plan_tree.specs.Nodes.{PointsGo}
 use Rattle.plan_tree.specs.Shapes.{IsAskedOn, Shape, rule}
+use Rattle.plan_tree.specs.Worlds.{World}
 
 -- it stands alike for two outer walks whose inner instants are the same
 pub stands_for : (ring : Ring) (a b : Walk) (inner : ℤ → Step) (last : Option Ms) → inner_walk ring.points a ≡ inner_walk ring.points b → Stands ring a inner last → Stands ring b inner last
@@ -55,20 +55,12 @@ last_next (Some fed) u = refl
 
 -- ---- what is asked of a subquery
 
--- an outer instant that a subquery is asked for
-pub record Asks (kernel : Ring) (inner : ℤ → Step) (last : Option Ms) (t : Ms) : Type 0 where
-  pub outer : Walk
-  pub asked : IsAsked kernel outer inner last t
-
-pub points_asked : (store : AllSeries) (kept : Kept) (fed : Option Fed) (kernel : Ring) (inner_fed : Option Fed) (inner : Shape) (t : Ms) → PointsGo store kept fed kernel inner_fed inner
-    → IsAskedOn kernel.walk kernel.points.moment kernel.points.range kernel.points.step t.0 → Goes fed (t ∷ []) → Asks kernel (rule store kept inner) (last_of fed) t
-points_asked store kept fed kernel inner_fed inner t p a g = record {
-  outer = a.0;
-  asked = record {
-    stands = stands_for kernel p.outer a.0 (rule store kept inner) (last_of fed) (sym p.stands.walk ∙ a.1) p.stands;
-    on = a.2;
-    later = past_of fed t g;
-  };
+pub points_asked : (w : World) (kept : Kept) (fed : Option Fed) (kernel : Ring) (inner_fed : Option Fed) (inner : Shape) (t : Ms) → PointsGo w kept fed kernel inner_fed inner
+    → (a : IsAskedOn kernel.walk kernel.points.moment kernel.points.range kernel.points.step t.0) → Goes fed (t ∷ []) → IsAsked kernel a.0 (rule w kept inner) (last_of fed) t
+points_asked w kept fed kernel inner_fed inner t p a g = record {
+  stands = stands_for kernel p.outer a.0 (rule w kept inner) (last_of fed) (sym p.stands.walk ∙ a.1) p.stands;
+  on = a.2;
+  later = past_of fed t g;
 }
 
 -- the one instant that is fed

@@ -13,14 +13,15 @@ use Rattle.plan_tree.specs.Chains.{Chain, IsComing}
 use Rattle.plan_tree.specs.Feeds.{fed_on}
 use Rattle.plan_tree.specs.Shapes.{IsFit, Shape, is_scalar, rule}
 use Rattle.plan_tree.specs.Spending.{Cost, HasLists, HasSpent, IsAlong, IsAtMost, IsBound, IsFresh, MayRead}
+use Rattle.plan_tree.specs.Worlds.{HaveSets, World}
 use Rattle.plan_tree.specs.declared.tree.Tree.{Tree}
 use Rattle.plan_tree.specs.declared.turns.Fed.{Fed}
 
 abbrev pub ScalarsHaveOneRow : Type 0
-ScalarsHaveOneRow = (store : AllSeries) (kept : Kept) (shape : Shape) (t : ℤ) → IsTrue (is_scalar shape) → HasOneRow (rule store kept shape t)
+ScalarsHaveOneRow = (w : World) (kept : Kept) (shape : Shape) (t : ℤ) → IsTrue (is_scalar shape) → HasOneRow (rule w kept shape t)
 
 abbrev pub MarksAreSets : Type 0
-MarksAreSets = (store : AllSeries) (kept : Kept) (shape : Shape) (t : ℤ) → AreSets (rule store kept shape t).marks
+MarksAreSets = (w : World) (kept : Kept) (shape : Shape) (t : ℤ) → HaveSets w.gathers → AreSets (rule w kept shape t).marks
 
 -- the instants of a tree's turns from its first one on are the first ones of its walk, and all of them once there is none left
 abbrev pub TurnsAreTheWalk : Type 0

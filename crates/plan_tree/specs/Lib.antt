@@ -1,6 +1,11 @@
+pub mod Asking
 pub mod Chains
+pub mod Feeding
 pub mod Feeds
+pub mod Gathering
 pub mod Laws
 pub mod Nodes
+pub mod Runs
 pub mod Shapes
 pub mod Spending
+pub mod Worlds

@@ -1,6 +1,6 @@
 -- What a tree lends, and when it may go on. (This project's own.)
-use Rattle.std.specs.Prelude.{◌≡◌, ◌<◌, ℤ, List, [], ◌∷◌, length, Option, None, Some, ⊤, IsTrue}
-use Rattle.std.specs.List.{AllByRecursion}
+use Rattle.std.specs.Prelude.{◌≡◌, ◌<◌, ℕ, ℤ, List, [], ◌∷◌, length, slice_get, Option, None, Some, ⊤}
+use Rattle.exchange.specs.declared.place.Place.{Place}
 use Rattle.op_labels.specs.Rules.{Kept}
 use Rattle.op_select.specs.Newest.{AreNamed, marks_of}
 use Rattle.op_select.specs.declared.select.Select.{Select}
@@ -14,15 +14,15 @@ use Rattle.step_kernels.specs.Binaries.{binary_lent, binary_rule}
 use Rattle.step_kernels.specs.Unaries.{CanFeedUnary, unary_lent, unary_rule}
 use Rattle.step_table.specs.Groups.{Names}
 use Rattle.step_table.specs.Timed.{steps_over}
-use Rattle.subquery_rows.specs.Rings.{IsAsked, IsNextAfter, Ring, Stands}
-use Rattle.ticks.specs.Walks.{IsInstant}
+use Rattle.subquery_rows.specs.Rings.{IsNextAfter, Ring, Stands}
 use Rattle.ticks.specs.declared.moment.Ms.{Ms}
 use Rattle.ticks.specs.declared.walk.Walk.{Walk}
 use Rattle.plan_tree.specs.declared.node.Node.{Node}
 use Rattle.plan_tree.specs.declared.node.Node.TheVariants as node
 use Rattle.plan_tree.specs.declared.turns.Fed.{Fed}
-use Rattle.plan_tree.specs.Feeds.{Goes, last_of, once, reached_of}
-use Rattle.plan_tree.specs.Shapes.{BinaryOf, ClampOf, InstantsOf, IsFit, OnceOf, PointsOf, SelectOf, SeriesOf, Shape, StaysInTimes, UnaryOf, is_single, rule}
+use Rattle.plan_tree.specs.Feeds.{last_of, once, reached_of}
+use Rattle.plan_tree.specs.Shapes.{BinaryOf, ClampOf, GatherOf, InstantsOf, OnceOf, PointsOf, SelectOf, SeriesOf, Shape, UnaryOf, rule}
+use Rattle.plan_tree.specs.Worlds.{World}
 
 abbrev pub shape_of : Node → Shape
 shape_of (node.Instants kernel none) = InstantsOf kernel.rule
@@ -34,17 +34,36 @@ shape_of (node.Clamp' kernel p rows q low r high) = ClampOf kernel.rule (shape_o
 shape_of (node.Points' kernel fed p inner q scalar) =
     PointsOf kernel.f kernel.walk kernel.points.moment kernel.points.range kernel.points.step (shape_of inner) (shape_of scalar)
 shape_of (node.Once' first steps p child) = OnceOf first (shape_of child)
+shape_of (node.Gather place) = GatherOf place
 
--- what is lent of the instants that were fed last
-abbrev pub lent_by : Node → Lent
-lent_by (node.Instants kernel none) = kernel.lent
-lent_by (node.Select kernel) = kernel.buffer
-lent_by (node.Series' kernel p scalar) = kernel.buffer
-lent_by (node.Unary' kernel p rows) = unary_lent kernel
-lent_by (node.Binary' kernel p rows q beside) = binary_lent kernel
-lent_by (node.Clamp' kernel p rows q low r high) = kernel.lent
-lent_by (node.Points' kernel fed p inner q scalar) = kernel.buffer
-lent_by (node.Once' first steps p child) = steps
+-- what the gather at a place lends, if there is one
+abbrev pub lent_of : Option Place → Lent
+lent_of None = record { labels = []; steps = [] }
+lent_of (Some place) = place.gather.lent
+
+-- what is lent of the instants that were fed last; a gather's step is lent at its place
+abbrev pub lent_by : List Place → Node → Lent
+lent_by places (node.Instants kernel none) = kernel.lent
+lent_by places (node.Select kernel) = kernel.buffer
+lent_by places (node.Series' kernel p scalar) = kernel.buffer
+lent_by places (node.Unary' kernel p rows) = unary_lent kernel
+lent_by places (node.Binary' kernel p rows q beside) = binary_lent kernel
+lent_by places (node.Clamp' kernel p rows q low r high) = kernel.lent
+lent_by places (node.Points' kernel fed p inner q scalar) = kernel.buffer
+lent_by places (node.Once' first steps p child) = steps
+lent_by places (node.Gather place) = lent_of (slice_get places place)
+
+-- there is a gather at its place
+abbrev pub IsThere : List Place → Node → Type 0
+IsThere places (node.Instants kernel none) = ⊤
+IsThere places (node.Select kernel) = ⊤
+IsThere places (node.Series' kernel p scalar) = ⊤
+IsThere places (node.Unary' kernel p rows) = ⊤
+IsThere places (node.Binary' kernel p rows q beside) = ⊤
+IsThere places (node.Clamp' kernel p rows q low r high) = ⊤
+IsThere places (node.Points' kernel fed p inner q scalar) = ⊤
+IsThere places (node.Once' first steps p child) = ⊤
+IsThere places (node.Gather place) = place < length places
 
 -- ---- going on
 
@@ -63,46 +82,26 @@ pub record SeriesGoes (store : AllSeries) (fed : Option Fed) (kernel : Kernel) :
 
 -- a subquery was fed what its inner tree gives, of which the next instant is behind those that the tree was fed, and has given its
 -- own steps up to the last one
-pub record PointsGo (store : AllSeries) (kept : Kept) (fed : Option Fed) (kernel : Ring) (inner_fed : Option Fed) (inner : Shape) : Type 0 where
+pub record PointsGo (w : World) (kept : Kept) (fed : Option Fed) (kernel : Ring) (inner_fed : Option Fed) (inner : Shape) : Type 0 where
   pub outer : Walk
-  pub stands : Stands kernel outer (rule store kept inner) (last_of fed)
+  pub stands : Stands kernel outer (rule w kept inner) (last_of fed)
   pub next : IsNextAfter kernel.walk (last_of inner_fed) kernel.next
 
 -- once it was fed, a tree that is fed one instant alone lends its step, under labels that have their places
-abbrev pub IsRepeated : AllSeries → Kept → Ms → Shape → Lent → List Names → Option Fed → Type 0
-IsRepeated store kept first shape lent labels None = ⊤
-IsRepeated store kept first shape lent labels (Some fed) = (stages lent ≡ steps_over (rule store kept shape) (first ∷ [])) × (labels ≡ lent.labels)
+abbrev pub IsRepeated : World → Kept → Ms → Shape → Lent → List Names → Option Fed → Type 0
+IsRepeated w kept first shape lent labels None = ⊤
+IsRepeated w kept first shape lent labels (Some fed) = (stages lent ≡ steps_over (rule w kept shape) (first ∷ [])) × (labels ≡ lent.labels)
 
--- each kernel stands where what was fed has brought it
-abbrev pub CanGo : AllSeries → Kept → Option Fed → Node → Type 0
-CanGo store kept fed (node.Instants kernel none) = ⊤
-CanGo store kept fed (node.Select kernel) = SelectGoes store fed kernel
-CanGo store kept fed (node.Series' kernel p scalar) = SeriesGoes store fed kernel × CanGo store kept fed scalar
-CanGo store kept fed (node.Unary' kernel p rows) = CanFeedUnary kept kernel × CanGo store kept fed rows
-CanGo store kept fed (node.Binary' kernel p rows q beside) = CanGo store kept fed rows × CanGo store kept fed beside
-CanGo store kept fed (node.Clamp' kernel p rows q low r high) = CanGo store kept fed rows × CanGo store kept fed low × CanGo store kept fed high
-CanGo store kept fed (node.Points' kernel inner_fed p inner q scalar) =
-    PointsGo store kept fed kernel inner_fed (shape_of inner) × CanGo store kept inner_fed inner × CanGo store kept fed scalar
-CanGo store kept fed (node.Once' first steps p child) =
-    CanGo store kept (once first fed) child × IsRepeated store kept first (shape_of child) (lent_by child) steps.labels fed
-
--- ---- feeding
-
--- a tree may be fed instants, one at least, which rise behind those that were fed; where there is a subquery, one alone
-pub record CanFeed (store : AllSeries) (kept : Kept) (fed : Option Fed) (at : List Ms) (tree : Node) : Type 0 where
-  pub fit : IsFit store (shape_of tree)
-  pub can : CanGo store kept fed tree
-  pub goes : Goes fed at
-  pub times : AllByRecursion (λ (t : Ms). StaysInTimes (shape_of tree) t.0) at
-  pub single : IsTrue (is_single (shape_of tree)) → length at ≡ 1
-  pub some : 0 < length at
-
--- a subquery is asked for an outer instant, and its inner tree may go on
-pub record CanFill (store : AllSeries) (kept : Kept) (fed : Option Fed) (kernel : Ring) (t : Ms) (inner : Node) : Type 0 where
-  pub outer : Walk
-  pub last : Option Ms
-  pub asked : IsAsked kernel outer (rule store kept (shape_of inner)) last t
-  pub next : IsNextAfter kernel.walk (last_of fed) kernel.next
-  pub times : (u : ℤ) → IsInstant kernel.walk u → StaysInTimes (shape_of inner) u
-  pub fit : IsFit store (shape_of inner)
-  pub can : CanGo store kept fed inner
+-- each kernel stands where what was fed has brought it; what a gather has come to is said beside it
+abbrev pub CanGo : World → Kept → List Place → Option Fed → Node → Type 0
+CanGo w kept places fed (node.Instants kernel none) = ⊤
+CanGo w kept places fed (node.Select kernel) = SelectGoes w.samples fed kernel
+CanGo w kept places fed (node.Series' kernel p scalar) = SeriesGoes w.samples fed kernel × CanGo w kept places fed scalar
+CanGo w kept places fed (node.Unary' kernel p rows) = CanFeedUnary kept kernel × CanGo w kept places fed rows
+CanGo w kept places fed (node.Binary' kernel p rows q beside) = CanGo w kept places fed rows × CanGo w kept places fed beside
+CanGo w kept places fed (node.Clamp' kernel p rows q low r high) = CanGo w kept places fed rows × CanGo w kept places fed low × CanGo w kept places fed high
+CanGo w kept places fed (node.Points' kernel inner_fed p inner q scalar) =
+    PointsGo w kept fed kernel inner_fed (shape_of inner) × CanGo w kept places inner_fed inner × CanGo w kept places fed scalar
+CanGo w kept places fed (node.Once' first steps p child) =
+    CanGo w kept places (once first fed) child × IsRepeated w kept first (shape_of child) (lent_by places child) steps.labels fed
+CanGo w kept places fed (node.Gather place) = ⊤

@@ -1,5 +1,5 @@
 -- What a tree of kernels is made of, and the step that it gives at an instant, by the rules of its kernels. (This project's own.)
-use Rattle.std.specs.Prelude.{◌≡◌, ◌<ℤ◌, ◌&&◌, ◌||◌, ℕ, ℤ, pos, Bool, true, false, not, List, ⊤, IsTrue}
+use Rattle.std.specs.Prelude.{◌≡◌, ◌<ℤ◌, ◌&&◌, ◌||◌, ◌++◌, ℕ, ℤ, pos, Bool, true, false, not, List, [], ◌∷◌, ⊤, Contains, IsTrue}
 use Rattle.func_table.specs.declared.table.Window.{Window}
 use Rattle.op_element.specs.Rules.{element_step}
 use Rattle.op_element.specs.declared.formula.ElementRule.{ElementRule}
@@ -25,8 +25,10 @@ use Rattle.ticks.specs.declared.moment.Ms.{Ms}
 use Rattle.ticks.specs.declared.walk.Walk.{Walk}
 use Rattle.ticks.specs.declared.walk.Walk.TheVariants.{Multiples}
 use Rattle.ticks.specs.declared.walk.WalkMoment.{WalkMoment}
+use Rattle.plan_tree.specs.Worlds.{World}
 
--- a tree without what its kernels have come to; a subquery's walk is that of its inner instants
+-- a tree without what its kernels have come to; a subquery's walk is that of its inner instants, and a gather stands for the one at
+-- its place in an exchange
 pub data Shape : Type 0 where
   InstantsOf : SmallRule → Shape
   SelectOf : (series : List ℕ) → WalkMoment → (stamped : Bool) → Shape
@@ -36,20 +38,22 @@ pub data Shape : Type 0 where
   ClampOf : ElementRule → (rows low high : Shape) → Shape
   PointsOf : Window → Walk → WalkMoment → (range step : Ms) → (inner scalar : Shape) → Shape
   OnceOf : (first : Ms) → (child : Shape) → Shape
+  GatherOf : (place : ℕ) → Shape
 
 -- ---- the rule
 
--- the step at an instant, over a store and kept patterns
-abbrev pub rule : AllSeries → Kept → Shape → ℤ → Step
-rule store kept (InstantsOf one) t = small one t (barren no_marks)
-rule store kept (SelectOf series moment stamped) t = (selected store series moment stamped (record { 0 = t })).step
-rule store kept (SeriesOf series f moment range scalar) t = windowed_by f t (rule store kept scalar t) (windows_of_series store series moment range (record { 0 = t }))
-rule store kept (UnaryOf one rows) t = unary_step kept one t (rule store kept rows t)
-rule store kept (BinaryOf one rows beside) t = binary_step one (rule store kept rows t) (rule store kept beside t)
-rule store kept (ClampOf one rows low high) t = element_step one (rule store kept low t) (rule store kept high t) (rule store kept rows t)
-rule store kept (PointsOf f walk moment range step inner scalar) t =
-    windowed_by f t (rule store kept scalar t) (points_of moment.closed (rule store kept inner) range step (moment_at moment t))
-rule store kept (OnceOf first child) t = rule store kept child first.0
+-- the step at an instant, in a world and with kept patterns
+abbrev pub rule : World → Kept → Shape → ℤ → Step
+rule w kept (InstantsOf one) t = small one t (barren no_marks)
+rule w kept (SelectOf series moment stamped) t = (selected w.samples series moment stamped (record { 0 = t })).step
+rule w kept (SeriesOf series f moment range scalar) t = windowed_by f t (rule w kept scalar t) (windows_of_series w.samples series moment range (record { 0 = t }))
+rule w kept (UnaryOf one rows) t = unary_step kept one t (rule w kept rows t)
+rule w kept (BinaryOf one rows beside) t = binary_step one (rule w kept rows t) (rule w kept beside t)
+rule w kept (ClampOf one rows low high) t = element_step one (rule w kept low t) (rule w kept high t) (rule w kept rows t)
+rule w kept (PointsOf f walk moment range step inner scalar) t =
+    windowed_by f t (rule w kept scalar t) (points_of moment.closed (rule w kept inner) range step (moment_at moment t))
+rule w kept (OnceOf first child) t = rule w kept child first.0
+rule w kept (GatherOf place) t = w.gathers place t
 
 -- ---- two tests
 
@@ -63,8 +67,9 @@ is_scalar (BinaryOf one rows beside) = binary_keeps_scalars one && is_scalar row
 is_scalar (ClampOf one rows low high) = false
 is_scalar (PointsOf f walk moment range step inner scalar) = false
 is_scalar (OnceOf first child) = is_scalar child
+is_scalar (GatherOf place) = false
 
--- whether it is fed one instant at a time: a subquery is, and what reads one at the same instants
+-- whether it is fed one instant at a time: a subquery and a gather are, and what reads one at the same instants
 abbrev pub is_single : Shape → Bool
 is_single (InstantsOf one) = false
 is_single (SelectOf series moment stamped) = false
@@ -74,6 +79,7 @@ is_single (BinaryOf one rows beside) = is_single rows || is_single beside
 is_single (ClampOf one rows low high) = is_single rows || (is_single low || is_single high)
 is_single (PointsOf f walk moment range step inner scalar) = true
 is_single (OnceOf first child) = false
+is_single (GatherOf place) = true
 
 -- ---- conditions
 
@@ -91,6 +97,7 @@ StaysInTimes (BinaryOf one rows beside) t = StaysInTimes rows t × StaysInTimes 
 StaysInTimes (ClampOf one rows low high) t = StaysInTimes rows t × StaysInTimes low t × StaysInTimes high t
 StaysInTimes (PointsOf f walk moment range step inner scalar) t = IsTime t × IsAskedOn walk moment range step t × StaysInTimes scalar t
 StaysInTimes (OnceOf first child) t = StaysInTimes child first.0
+StaysInTimes (GatherOf place) t = ⊤
 
 -- what a tree is made of fits together: a scalar is one where it is read as such, series are in the store, and a subquery's inner
 -- instants lead to times
@@ -105,3 +112,27 @@ IsFit store (ClampOf one rows low high) = IsTrue (is_scalar low) × IsTrue (is_s
 IsFit store (PointsOf f walk moment range step inner scalar) =
     ((u : ℤ) → IsInstant walk u → StaysInTimes inner u) × (IsTrue (reads_scalar f) → IsTrue (is_scalar scalar)) × IsFit store inner × IsFit store scalar
 IsFit store (OnceOf first child) = IsFit store child
+IsFit store (GatherOf place) = ⊤
+
+-- ---- gathers
+
+-- the places of a tree's gathers, each as often as a gather stands for it
+abbrev pub places_of : Shape → List ℕ
+places_of (InstantsOf one) = []
+places_of (SelectOf series moment stamped) = []
+places_of (SeriesOf series f moment range scalar) = places_of scalar
+places_of (UnaryOf one rows) = places_of rows
+places_of (BinaryOf one rows beside) = places_of rows ++ places_of beside
+places_of (ClampOf one rows low high) = places_of rows ++ (places_of low ++ places_of high)
+places_of (PointsOf f walk moment range step inner scalar) = places_of scalar ++ places_of inner
+places_of (OnceOf first child) = places_of child
+places_of (GatherOf place) = place ∷ []
+
+-- a gather of the tree stands for the one at a place
+abbrev pub HasPlace : Shape → ℕ → Type 0
+HasPlace shape place = Contains (places_of shape) place
+
+-- no number is among those behind it
+abbrev pub AreDistinct : List ℕ → Type 0
+AreDistinct [] = ⊤
+AreDistinct (n ∷ numbers) = (Contains numbers n → ⊥) × AreDistinct numbers

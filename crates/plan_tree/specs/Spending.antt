@@ -1,5 +1,5 @@
 -- What a tree spends: the samples that its leaves fetch, and the times that their searches look at. A leaf goes forward in its
--- series, so that what it has read is told by what it was fed. (This project's own.)
+-- series, so that what it has read is told by what it was fed. A gather reads nothing of the store. (This project's own.)
 use Rattle.std.specs.Prelude.{◌≡◌, ◌+◌, ◌≤◌, ◌≤ℤ◌, ℕ, ℤ, List, [], ◌∷◌, Option, None, Some, Result, IfOk, OnOk, ⊤}
 use Rattle.promql_meaning.specs.Selecting.{lookback}
 use Rattle.sample_store.specs.Samples.{AllSeries}
@@ -17,7 +17,7 @@ use Rattle.plan_tree.specs.declared.turns.Fed.{Fed}
 use Rattle.plan_tree.specs.Chains.{Chain}
 use Rattle.plan_tree.specs.Feeds.{fed_on, once, reached_of}
 use Rattle.plan_tree.specs.Nodes.{shape_of}
-use Rattle.plan_tree.specs.Shapes.{BinaryOf, ClampOf, InstantsOf, OnceOf, PointsOf, SelectOf, SeriesOf, Shape, UnaryOf}
+use Rattle.plan_tree.specs.Shapes.{BinaryOf, ClampOf, GatherOf, InstantsOf, OnceOf, PointsOf, SelectOf, SeriesOf, Shape, UnaryOf}
 
 -- ---- costs
 
@@ -64,6 +64,7 @@ IsBound store at (ClampOf one rows low high) = IsSum (IsBound store at rows) (Is
 IsBound store at (PointsOf f walk moment range step inner scalar) =
     λ most. (times : List Ms) × IsListed walk times × IsSum (IsBound store at scalar) (IsBound store times inner) most
 IsBound store at (OnceOf first child) = IsBound store (once_at first at) child
+IsBound store at (GatherOf place) = λ most. most ≡ nothing
 
 -- the walks of all subqueries lead to times, so that each has one list
 abbrev pub HasLists : Shape → Type 0
@@ -75,6 +76,7 @@ HasLists (BinaryOf one rows beside) = HasLists rows × HasLists beside
 HasLists (ClampOf one rows low high) = HasLists rows × HasLists low × HasLists high
 HasLists (PointsOf f walk moment range step inner scalar) = LeadsToTimes walk × HasLists inner × HasLists scalar
 HasLists (OnceOf first child) = HasLists child
+HasLists (GatherOf place) = ⊤
 
 -- ---- counters
 
@@ -111,6 +113,7 @@ HasRead store fed (node.Clamp' kernel p rows q low r high) = IsSum (HasRead stor
 HasRead store fed (node.Points' kernel inner_fed p inner q scalar) =
     λ read. IsAlong kernel.walk inner_fed × IsSum (HasRead store fed scalar) (HasRead store inner_fed inner) read
 HasRead store fed (node.Once' first steps p child) = HasRead store (once first fed) child
+HasRead store fed (node.Gather place) = λ read. read ≡ nothing
 
 -- what was spent since a tree's first instant
 pub record HasSpent (store : AllSeries) (tree : Tree) (start now : Counts) : Type 0 where
@@ -129,6 +132,7 @@ IsFresh (node.Binary' kernel p rows q beside) = IsFresh rows × IsFresh beside
 IsFresh (node.Clamp' kernel p rows q low r high) = IsFresh rows × IsFresh low × IsFresh high
 IsFresh (node.Points' kernel inner_fed p inner q scalar) = (inner_fed ≡ None) × IsFresh inner × IsFresh scalar
 IsFresh (node.Once' first steps p child) = IsFresh child
+IsFresh (node.Gather place) = ⊤
 
 -- ---- what may have been read by then, where memory ran out too
 
@@ -152,6 +156,7 @@ MayRead store fed (ClampOf one rows low high) = IsSum (MayRead store fed rows) (
 MayRead store fed (PointsOf f walk moment range step inner scalar) =
     λ read. (inner_fed : Option Fed) × IsAlong walk inner_fed × IsSum (MayRead store fed scalar) (MayRead store inner_fed inner) read
 MayRead store fed (OnceOf first child) = MayRead store (once first fed) child
+MayRead store fed (GatherOf place) = λ read. read ≡ nothing
 
 -- ---- a feed
 

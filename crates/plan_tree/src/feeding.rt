@@ -1,10 +1,12 @@
 //! Kernels that are fed what their parts gave at the same instants.
 ghost use Rattle.op_element.specs.Rules.{IsScalar, element_step};
-ghost use Rattle.plan_tree.specs.Nodes.{lent_by, shape_of};
+ghost use Rattle.plan_tree.specs.Feeding.{HasRun};
+ghost use Rattle.plan_tree.specs.Gathering.{CanTake, HasTaken};
+ghost use Rattle.plan_tree.specs.Nodes.{IsThere, lent_by, shape_of};
 ghost use Rattle.plan_tree.specs.Shapes.{is_scalar, rule};
+ghost use Rattle.plan_tree.specs.Worlds.{World};
 ghost use Rattle.op_labels.specs.Rules.{Kept};
-ghost use Rattle.sample_store.specs.Samples.{AllSeries};
-ghost use Rattle.std.specs.Prelude.{◌≡◌, ℤ, List, IsTrue, OnOk};
+ghost use Rattle.std.specs.Prelude.{◌≡◌, ℕ, ℤ, List, IsTrue, OnOk, slice_get};
 ghost use Rattle.step_batch.specs.Lent.{stages};
 ghost use Rattle.step_kernels.specs.Binaries.{binary_lent, binary_rule, binary_step, takes_scalar};
 ghost use Rattle.step_kernels.specs.Unaries.{CanFeedUnary, unary_lent, unary_rule, unary_step};
@@ -14,6 +16,8 @@ ghost use Rattle.ticks.specs.declared.moment.Ms.{Ms};
 
 use crate::laws::scalars_have_one_row;
 use crate::node::Node;
+use crate::outside::Outside;
+use exchange::RunFault;
 use match_rule::Patterns;
 use op_element::ElementRows;
 use std::alloc::AllocError;
@@ -21,15 +25,24 @@ use step_batch::Batch;
 use step_kernels::laws::{few_rows_are_scalars, steps_go_over};
 use step_kernels::{Binary, Unary};
 
-/// What a tree lends; where it is a scalar, each step has one row at most.
-pub(crate) fn lend_scalar(node: &Node) -> Batch<'_>
-    ensures lent { result ≡ lent_by node.now }
-    ensures scalar { (store : AllSeries) (kept : Kept) (at : List Ms) → IsTrue (is_scalar (shape_of node.now))
-        → stages (lent_by node.now) ≡ steps_over (rule store kept (shape_of node.now)) at → IsScalar result }
+/// What a tree lends, its gathers by the exchange that they stand in.
+pub(crate) fn lend_from<'a, O: Outside>(node: &'a Node, outside: &'a O) -> Batch<'a>
+    requires { IsThere (O.places outside.now) node.now }
+    ensures { result ≡ lent_by (O.places outside.now) node.now }
+{
+    node.lend(outside.exchange())
+}
+
+/// The same; where the tree is a scalar, each step has one row at most.
+pub(crate) fn lend_scalar<'a, O: Outside>(node: &'a Node, outside: &'a O) -> Batch<'a>
+    requires { IsThere (O.places outside.now) node.now }
+    ensures lent { result ≡ lent_by (O.places outside.now) node.now }
+    ensures scalar { (w : World) (kept : Kept) (at : List Ms) → IsTrue (is_scalar (shape_of node.now))
+        → stages (lent_by (O.places outside.now) node.now) ≡ steps_over (rule w kept (shape_of node.now)) at → IsScalar result }
 {
     few_rows_are_scalars();
     scalars_have_one_row();
-    let batch = node.lend();
+    let batch = lend_from(node, outside);
     let _ = batch.len();
     batch
 }
@@ -83,4 +96,22 @@ pub(crate) fn feed_clamp(
         → stages kernel.new.lent ≡ steps_over (λ t. element_step kernel.old.rule (g t) (h t) (f t)) at) }
 {
     kernel.feed(rows, low, high)
+}
+
+/// Takes the next step of the gather at a place, which a leaf of a tree stands for.
+pub(crate) fn feed_gather<O: Outside>(
+    place: &mut usize,
+    outside: &mut O,
+    patterns: &mut Patterns<'_>,
+) -> Result<(), RunFault>
+    requires { (t : Ms) × CanTake patterns.old (O.engines outside.old) (O.places outside.old) place.old t }
+    ensures leaf { place.new ≡ place.old }
+    ensures taken { OnOk result ((t : Ms) (c : CanTake patterns.old (O.engines outside.old) (O.places outside.old) place.old t)
+        → HasTaken c.taken c.all c.known patterns.old (O.engines outside.new) (O.places outside.new) place.old t) }
+    ensures others { (k : ℕ) → (k ≡ place.old → ⊥) → slice_get (O.places outside.new) k ≡ slice_get (O.places outside.old) k }
+    ensures names { O.names outside.new ≡ O.names outside.old }
+    ensures run { HasRun result (O.engines outside.old) (O.engines outside.new) }
+    ensures same { patterns.new ≡ patterns.old }
+{
+    outside.take(*place, patterns)
 }

@@ -11,7 +11,7 @@ pub fn scalars_have_one_row()
     scalars_stay();
 }
 
-/// The marks and notes of what a tree gives are sets.
+/// The marks and notes of what a tree gives are sets, where those of its gathers are.
 pub fn marks_are_sets()
     ensures { MarksAreSets }
 {

@@ -1,9 +1,11 @@
 //! The instants of a tree's turns.
+ghost use Rattle.exchange.specs.declared.fault.RunFault.TheVariants as run;
 ghost use Rattle.plan_tree.specs.Feeds.{fed_on};
 ghost use Rattle.plan_tree.specs.Chains.{Chain, IsComing};
-ghost use Rattle.std.specs.Prelude.{◌≡◌, ◌<◌, ◌≤◌, [], None, length, IfOk};
+ghost use Rattle.std.specs.Prelude.{◌≡◌, ◌<◌, ◌≤◌, [], None, length, IfErr, IfOk};
 ghost use Rattle.ticks.specs.Walks.{LeadsToTimes};
 
+use exchange::RunFault;
 use holders::Items;
 use std::alloc::{AllocError, Global};
 use ticks::{Ms, Walk};
@@ -65,4 +67,23 @@ pub(crate) fn instants(
         }
     }
     Ok(at)
+}
+
+/// The same, as a part of a run.
+pub(crate) fn next_instants(
+    alloc: Global,
+    walk: &Walk,
+    fed: Option<Fed>,
+    most: usize,
+) -> Result<Items<Ms>, RunFault>
+    requires { LeadsToTimes walk.now }
+    ensures chain { IfOk result (λ at. Chain walk.now fed at) }
+    ensures few { IfOk result (λ at. length at ≤ most) }
+    ensures none { IfOk result (λ at. at ≡ [] → 0 < most → IsComing walk.now fed None) }
+    ensures memory { IfErr result (λ fault. fault ≡ run.Memory) }
+{
+    match instants(alloc, walk, fed, most) {
+        Ok(at) => Ok(at),
+        Err(AllocError) => Err(RunFault::Memory),
+    }
 }

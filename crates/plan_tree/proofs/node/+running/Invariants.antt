@@ -1,13 +1,12 @@
 use Rattle.std.proofs.Common.{◌≡◌, ◌+◌, ◌*◌}
-use Rattle.subquery_rows.specs.Rings.{IsAsked, IsNextAfter, Stands, time_left}
-use Rattle.std.specs.Prelude.{Option}
+use Rattle.subquery_rows.specs.Rings.{IsNextAfter, time_left}
 use Rattle.ticks.specs.Walks.{moment_at}
-use Rattle.ticks.specs.declared.moment.Ms.{Ms}
-use Rattle.ticks.specs.declared.walk.Walk.{Walk}
+use Rattle.plan_tree.specs.Feeding.{HasRun, OthersStay}
 use Rattle.plan_tree.specs.Feeds.{last_of}
-use Rattle.plan_tree.specs.Nodes.{CanGo, shape_of}
-use Rattle.plan_tree.specs.Shapes.{rule}
+use Rattle.plan_tree.specs.Nodes.{shape_of}
+use Rattle.plan_tree.proofs.Filling.{Fills}
 use Rattle.plan_tree.proofs.Heights.{height}
+use Rattle.plan_tree.proofs.Runs.{done}
 use Rattle.plan_tree.proofs.Spent.{Filled}
 use Rattle.plan_tree.proofs.node.+running.Given as goal
 
@@ -22,7 +21,8 @@ decreases-ready g l = 2 * height (shape_of l.child.now) + 1
 
 abbrev pub invariant-fill-loop-u : goal.invariant-fill-loop-u
 invariant-fill-loop-u g l =
-    let inner = rule l.store l.fn.patterns (shape_of l.fn.inner) in
+    let es = g.O.Outside.engines l.fn.outside in
+    let fs = g.O.Outside.engines l.outside in
     record {
       f : l.kernel.f ≡ l.fn.kernel.f;
       walk : l.kernel.walk ≡ l.fn.kernel.walk;
@@ -31,9 +31,11 @@ invariant-fill-loop-u g l =
       step : l.kernel.points.step ≡ l.fn.kernel.points.step;
       shape : shape_of l.inner ≡ shape_of l.fn.inner;
       same : l.patterns ≡ l.fn.patterns;
-      stands : (outer : Walk) (last : Option Ms) → IsAsked l.fn.kernel outer inner last l.t → Stands l.kernel outer inner last;
       next : IsNextAfter l.kernel.walk (last_of l.now) l.kernel.next;
-      can : CanGo l.store l.fn.patterns l.now l.inner;
+      filled : Fills l.store l.fn.patterns es fs (g.O.Outside.places l.fn.outside) (g.O.Outside.places l.outside) l.fn.fed l.now l.fn.kernel l.kernel l.t l.fn.inner l.inner;
+      others : OthersStay (shape_of l.fn.inner) (g.O.Outside.places l.fn.outside) (g.O.Outside.places l.outside);
+      names : g.O.Outside.names l.outside ≡ g.O.Outside.names l.fn.outside;
+      run : HasRun done es fs;
       spent : Filled l.store l.fn.kernel.walk l.fn.fed l.now l.fn.inner l.inner l.fn.work l.work;
     }
 

@@ -1,0 +1,133 @@
+-- How far the gathers of a tree have come, and what was taken of them. (This project's own.)
+use Rattle.std.specs.Prelude.{◌≡◌, ◌+◌, ◌<◌, ℕ, ℤ, Bool, true, false, List, [], ◌∷◌, length, slice_get, Option, None, Some, IfSome, ⊤, IsTrue}
+use Rattle.exchange.specs.Standing.{AllStand, Progress, Tells}
+use Rattle.exchange.specs.declared.place.Place.{Place}
+use Rattle.op_gather.specs.Histories.{steps_at}
+use Rattle.op_gather.specs.Joins.{groups_joined, rows_joined}
+use Rattle.op_labels.specs.Rules.{Kept}
+use Rattle.promql_meaning.specs.Givens.{barren, no_marks}
+use Rattle.remote_api.specs.Seen.{EngineSeen}
+use Rattle.step_batch.specs.Lent.{stages}
+use Rattle.step_table.specs.WellFormed.{AreSets}
+use Rattle.step_table.specs.declared.cells.PartKind.{PartKind}
+use Rattle.step_table.specs.declared.cells.PartKind.TheVariants as part
+use Rattle.step_table.specs.declared.cells.StepCells.{StepCells}
+use Rattle.step_table.specs.declared.step.Step.{Step}
+use Rattle.ticks.specs.Listed.{IsListed}
+use Rattle.ticks.specs.declared.moment.Ms.{Ms}
+use Rattle.plan_tree.specs.declared.node.Node.{Node}
+use Rattle.plan_tree.specs.declared.node.Node.TheVariants as node
+use Rattle.plan_tree.specs.declared.turns.Fed.{Fed}
+use Rattle.plan_tree.specs.Feeds.{once}
+use Rattle.plan_tree.specs.Worlds.{ArePossible, Gathers, HaveSets, IsGrown, Taken}
+
+-- ---- what a gather gives
+
+-- whether rows or the groups of an aggregation are asked, which are given as steps
+abbrev pub gives_steps : PartKind → Bool
+gives_steps part.Rows = true
+gives_steps part.Windows = false
+gives_steps (part.Partial f by) = true
+
+-- the step that the cells of all asked engines come to
+abbrev pub joined_step : PartKind → List StepCells → Step
+joined_step part.Rows steps = rows_joined steps
+joined_step part.Windows steps = barren no_marks
+joined_step (part.Partial f by) steps = groups_joined f steps
+
+-- ---- how far gathers have come
+
+-- the instants of the gather at a place
+abbrev pub Instants : Type 0
+Instants = ℕ → List Ms
+
+-- the first so many of some instants are those that were fed
+abbrev pub IsFedUpTo : List Ms → ℕ → Option Fed → Type 0
+IsFedUpTo times count None = count ≡ 0
+IsFedUpTo times count (Some fed) = (n : ℕ) × (count ≡ n + 1) × (slice_get times n ≡ Some fed.last)
+
+-- the gather at a place goes over some instants, gives steps, and has come to what was fed
+pub record HasCome (all : Instants) (places : List Place) (times : List Ms) (fed : Option Fed) (k : ℕ) : Type 0 where
+  pub along : all k ≡ times
+  pub place : Place
+  pub here : slice_get places k ≡ Some place
+  pub kind : IsTrue (gives_steps place.gather.ask.kind)
+  pub count : ℕ
+  pub fed_are : IsFedUpTo times count fed
+  pub next : place.gather.next ≡ slice_get times count
+
+-- so has each gather of a tree that goes over some instants; those of a subquery go over the inner ones, and those of a tree that is fed
+-- one instant alone have that one
+abbrev pub HaveCome : Instants → List Place → List Ms → Option Fed → Node → Type 0
+HaveCome all places times fed (node.Instants kernel none) = ⊤
+HaveCome all places times fed (node.Select kernel) = ⊤
+HaveCome all places times fed (node.Series' kernel p scalar) = HaveCome all places times fed scalar
+HaveCome all places times fed (node.Unary' kernel p rows) = HaveCome all places times fed rows
+HaveCome all places times fed (node.Binary' kernel p rows q beside) = HaveCome all places times fed rows × HaveCome all places times fed beside
+HaveCome all places times fed (node.Clamp' kernel p rows q low r high) = HaveCome all places times fed rows × HaveCome all places times fed low × HaveCome all places times fed high
+HaveCome all places times fed (node.Points' kernel inner_fed p inner q scalar) =
+    HaveCome all places times fed scalar × (inside : List Ms) × IsListed kernel.walk inside × HaveCome all places inside inner_fed inner
+HaveCome all places times fed (node.Once' first steps p child) = HaveCome all places (first ∷ []) (once first fed) child
+HaveCome all places times fed (node.Gather place) = HasCome all places times fed place
+
+-- the first of some instants is the next one behind those that were fed
+abbrev pub AreDue : List Ms → Option Fed → List Ms → Type 0
+AreDue times fed [] = ⊤
+AreDue times fed (t ∷ at) = (count : ℕ) → IsFedUpTo times count fed → slice_get times count ≡ Some t
+
+-- ---- what was taken
+
+-- one of the first instants of a gather, of which so many were taken
+pub record IsAmong (p : Progress) (t : ℤ) : Type 0 where
+  pub n : ℕ
+  pub early : n < p.taken
+  pub there : slice_get p.all n ≡ Some (record { 0 = t })
+
+-- a step was taken at one of the first instants of its gather; its marks and notes are sets
+pub record WasTaken (ps : List Progress) (place : ℕ) (t : ℤ) (step : Step) : Type 0 where
+  pub p : Progress
+  pub p_at : slice_get ps place ≡ Some p
+  pub among : IsAmong p t
+  pub sets : AreSets step.marks
+
+-- where there is a gather the engines tell what they hold; gathers give what these owe, joined at each instant, and that was taken so far
+pub record IsTold (es : List EngineSeen) (ps : List Progress) (taken : Taken) (gathers : Gathers) : Type 0 where
+  pub sets : HaveSets gathers
+  pub tell : (k i : ℕ) (p : Progress) (e : EngineSeen) → slice_get ps k ≡ Some p → slice_get es i ≡ Some e → Tells e
+  pub give : (k n : ℕ) (p : Progress) (t : Ms) → slice_get ps k ≡ Some p → slice_get p.all n ≡ Some t → IsTrue (gives_steps p.kind) → gathers k t.0 ≡ joined_step p.kind (steps_at n p.owed)
+  pub gave : (k : ℕ) (t : ℤ) (step : Step) → taken k t ≡ Some step → gathers k t ≡ step
+
+-- all gathers of an exchange stand over its engines, each goes over its instants, and so much was taken of them; where it is known what
+-- the gathers give, they give that
+pub record IsOut (all : Instants) (known : Option Gathers) (taken : Taken) (kept : Kept) (es : List EngineSeen) (places : List Place) : Type 0 where
+  pub ps : List Progress
+  pub stand : AllStand kept es places ps
+  pub along : (k : ℕ) (p : Progress) → slice_get ps k ≡ Some p → p.all ≡ all k
+  pub were : (k : ℕ) (t : ℤ) (step : Step) → taken k t ≡ Some step → WasTaken ps k t step
+  pub told : IfSome known (λ gathers. IsTold es ps taken gathers)
+
+-- ---- one step more
+
+-- the gather at a place gives steps, and its next instant is this one
+pub record CanTake (kept : Kept) (es : List EngineSeen) (places : List Place) (k : ℕ) (t : Ms) : Type 0 where
+  pub all : Instants
+  pub known : Option Gathers
+  pub taken : Taken
+  pub out : IsOut all known taken kept es places
+  pub place : Place
+  pub here : slice_get places k ≡ Some place
+  pub kind : IsTrue (gives_steps place.gather.ask.kind)
+  pub next : place.gather.next ≡ Some t
+
+-- a step more was taken, which the place lends, and its next instant is the one behind
+pub record HasTaken (before : Taken) (all : Instants) (known : Option Gathers) (kept : Kept) (es : List EngineSeen) (places : List Place) (k : ℕ) (t : Ms) : Type 0 where
+  pub now : Taken
+  pub grown : IsGrown before now
+  pub out : IsOut all known now kept es places
+  pub place : Place
+  pub here : slice_get places k ≡ Some place
+  pub kind : IsTrue (gives_steps place.gather.ask.kind)
+  pub n : ℕ
+  pub at : slice_get (all k) n ≡ Some t
+  pub next : place.gather.next ≡ slice_get (all k) (n + 1)
+  pub lent : (gathers : Gathers) → ArePossible now gathers → stages place.gather.lent ≡ record { at = t; step = gathers k t.0 } ∷ []
