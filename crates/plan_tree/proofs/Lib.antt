@@ -14,6 +14,7 @@ pub mod Numbers
 pub mod OneBound
 pub mod Opened
 pub mod Parts
+pub mod Plain
 pub mod Possible
 pub mod Repeats
 pub mod Rings

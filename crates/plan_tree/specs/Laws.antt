@@ -1,19 +1,22 @@
 -- What builders of trees rely on. (This project's own.)
-use Rattle.std.specs.Prelude.{◌≡◌, ℤ, List, length, take, Option, None, IsTrue}
+use Rattle.std.specs.Prelude.{◌≡◌, ◌<◌, ◌≤◌, ℤ, List, [], length, take, Option, None, Some, IsTrue}
 use Rattle.op_labels.specs.Rules.{Kept}
+use Rattle.remote_api.specs.Seen.{EngineSeen}
 use Rattle.sample_store.specs.Samples.{AllSeries}
 use Rattle.series_marks.specs.Reads.{AreRising}
 use Rattle.step_kernels.specs.Laws.{HasOneRow}
 use Rattle.step_table.specs.WellFormed.{AreSets}
 use Rattle.ticks.specs.Listed.{IsListed}
+use Rattle.ticks.specs.Walks.{IsInstant, LeadsToTimes}
 use Rattle.ticks.specs.Works.{Counts}
 use Rattle.ticks.specs.declared.moment.Ms.{Ms}
 use Rattle.ticks.specs.declared.walk.Walk.{Walk}
-use Rattle.plan_tree.specs.Chains.{Chain, IsComing}
+use Rattle.plan_tree.specs.Chains.{Chain, IsComing, IsReady}
 use Rattle.plan_tree.specs.Feeds.{fed_on}
-use Rattle.plan_tree.specs.Shapes.{IsFit, Shape, is_scalar, rule}
+use Rattle.plan_tree.specs.Nodes.{MayStart, shape_of}
+use Rattle.plan_tree.specs.Shapes.{IsFit, Shape, StaysInTimes, is_scalar, is_single, places_of, rule}
 use Rattle.plan_tree.specs.Spending.{Cost, HasLists, HasSpent, IsAlong, IsAtMost, IsBound, IsFresh, MayRead}
-use Rattle.plan_tree.specs.Worlds.{HaveSets, World}
+use Rattle.plan_tree.specs.Worlds.{HaveSets, World, no_gathers}
 use Rattle.plan_tree.specs.declared.tree.Tree.{Tree}
 use Rattle.plan_tree.specs.declared.turns.Fed.{Fed}
 
@@ -41,3 +44,11 @@ SpendingIsBounded =
 -- a tree that was fed nothing has spent nothing
 abbrev pub FreshTreesBegin : Type 0
 FreshTreesBegin = (store : AllSeries) (tree : Tree) (now : Counts) → tree.fed ≡ None → IsFresh tree.node → HasSpent store tree now now
+
+-- a tree without gathers, which was fed nothing, may go on whatever engines there are
+abbrev pub PlainTreesBegin : Type 0
+PlainTreesBegin =
+    (store : AllSeries) (kept : Kept) (es : List EngineSeen) (tree : Tree) (times : List Ms) (most : Cost) →
+    tree.asking ≡ None → tree.exchange.places ≡ [] → tree.fed ≡ None → places_of (shape_of tree.node) ≡ [] → MayStart store kept tree.node → IsFit store (shape_of tree.node) →
+    ((t : ℤ) → IsInstant tree.walk t → StaysInTimes (shape_of tree.node) t) → LeadsToTimes tree.walk → IsListed tree.walk times → IsBound store times (shape_of tree.node) most →
+    0 < tree.batch → (IsTrue (is_single (shape_of tree.node)) → tree.batch ≤ 1) → IsReady store kept (Some no_gathers) es tree

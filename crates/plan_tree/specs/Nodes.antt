@@ -22,7 +22,7 @@ use Rattle.plan_tree.specs.declared.node.Node.TheVariants as node
 use Rattle.plan_tree.specs.declared.turns.Fed.{Fed}
 use Rattle.plan_tree.specs.Feeds.{last_of, once, reached_of}
 use Rattle.plan_tree.specs.Shapes.{BinaryOf, ClampOf, GatherOf, InstantsOf, OnceOf, PointsOf, SelectOf, SeriesOf, Shape, UnaryOf, rule}
-use Rattle.plan_tree.specs.Worlds.{World}
+use Rattle.plan_tree.specs.Worlds.{Gathers, World, world}
 
 abbrev pub shape_of : Node → Shape
 shape_of (node.Instants kernel none) = InstantsOf kernel.rule
@@ -105,3 +105,7 @@ CanGo w kept places fed (node.Points' kernel inner_fed p inner q scalar) =
 CanGo w kept places fed (node.Once' first steps p child) =
     CanGo w kept places (once first fed) child × IsRepeated w kept first (shape_of child) (lent_by places child) steps.labels fed
 CanGo w kept places fed (node.Gather place) = ⊤
+
+-- a tree that was fed nothing may be fed over a store, whatever gathers give and wherever they stand
+abbrev pub MayStart : AllSeries → Kept → Node → Type 0
+MayStart store kept tree = (gathers : Gathers) (places : List Place) → CanGo (world store gathers) kept places None tree

@@ -1,5 +1,5 @@
 //! Laws of trees. The functions do nothing: each stands for what its contract says.
-ghost use Rattle.plan_tree.specs.Laws.{EachTreeHasOneBound, FreshTreesBegin, MarksAreSets, ScalarsHaveOneRow, SpendingIsBounded, TurnsAreTheWalk};
+ghost use Rattle.plan_tree.specs.Laws.{EachTreeHasOneBound, FreshTreesBegin, MarksAreSets, PlainTreesBegin, ScalarsHaveOneRow, SpendingIsBounded, TurnsAreTheWalk};
 
 use step_kernels::laws::{marks_stay_sets, scalars_stay};
 use ticks::walks_are_listed;
@@ -42,4 +42,9 @@ pub fn spending_is_bounded()
 /// A tree that was fed nothing has spent nothing, whatever the counters are.
 pub fn fresh_trees_begin()
     ensures { FreshTreesBegin }
+{}
+
+/// A tree without gathers, which was fed nothing, may go on whatever engines there are.
+pub fn plain_trees_begin()
+    ensures { PlainTreesBegin }
 {}
