@@ -8,10 +8,12 @@ ghost use Rattle.plan_tree.specs.Chains.{IsReady};
 ghost use Rattle.plan_tree.specs.Nodes.{shape_of};
 ghost use Rattle.plan_tree.specs.Shapes.{is_single, rule};
 ghost use Rattle.plan_tree.specs.Spending.{IsFresh};
+ghost use Rattle.plan_tree.specs.Worlds.{no_gathers, over};
 ghost use Rattle.plan_work.specs.Looks.{LooksAt, plan_looks};
 ghost use Rattle.plan_work.specs.TreeBounds.{StaysWithin};
 ghost use Rattle.promql_meaning.specs.Selecting.{Asked, asked_over};
-ghost use Rattle.std.specs.Prelude.{◌≡◌, ◌<◌, ℤ, None, IfOk, IsOkUnless, if◌then◌else◌};
+ghost use Rattle.remote_api.specs.Seen.{EngineSeen};
+ghost use Rattle.std.specs.Prelude.{◌≡◌, ◌<◌, ℤ, List, None, Some, IfOk, IsOkUnless, if◌then◌else◌};
 ghost use Rattle.ticks.specs.Walks.{IsInstant, LeadsToTimes};
 
 use crate::growing::grown;
@@ -20,10 +22,11 @@ use logical_plan::Plan;
 use match_rule::Patterns;
 use plan_parts::{Course, Part, Unbuilt};
 use plan_tree::Tree;
+use plan_tree::laws::plain_trees_begin;
 use sample_store::Store;
 use std::alloc::Global;
 use std::sync::ledger::Ledger;
-use ticks::{Grid, Walk, Work};
+use ticks::{Grid, Walk, Work, walks_are_listed};
 
 /// The tree of kernels of a plan that is asked at the instants of a walk over a store, at most `batch` of them at once; `span`
 /// has the start and the end that `@ start()` and `@ end()` stand for. It is `Invalid` where the plan isn't typed, where its
@@ -42,8 +45,8 @@ pub fn build<W: Ledger>(
     requires { 0 < batch }
     // a valid plan that gives a scalar or a vector has a tree, at the instants of a grid and at one instant
     ensures total { HasTree patterns.old p.now → IsAsked walk.now → IsOkUnless result Unbuilt.Memory }
-    // the tree may be stepped over this store and with these patterns
-    ensures ready { IfOk result (λ tree. IsReady store.now patterns.old tree) }
+    // the tree may be stepped over this store and with these patterns, whatever engines there are: it asks none
+    ensures ready { IfOk result (λ tree. (es : List EngineSeen) → IsReady store.now patterns.old (Some no_gathers) es tree) }
     // and was fed nothing
     ensures fed { IfOk result (λ tree. tree.fed ≡ None) }
     ensures fresh { IfOk result (λ tree. IsFresh tree.node) }
@@ -52,7 +55,7 @@ pub fn build<W: Ledger>(
     ensures batch { IfOk result (λ tree. tree.batch ≡ (if is_single (shape_of tree.node) then 1 else batch)) }
     // where what stands below Once nodes is the same at all instants, the tree gives at each instant what the plan gives
     ensures gives { IfOk result (λ tree. OncesStay (asked_over store.now patterns.old span.now) p.now
-        → (t : ℤ) → IsInstant walk.now t → rule store.now patterns.old (shape_of tree.node) t ≡ plan_step (asked_over store.now patterns.old span.now) p.now t) }
+        → (t : ℤ) → IsInstant walk.now t → rule (over store.now) patterns.old (shape_of tree.node) t ≡ plan_step (asked_over store.now patterns.old span.now) p.now t) }
     // over the whole walk it may spend at most what the plan costs at the walk's instants, which is worked out by hand over its selectors
     ensures within { IfOk result (λ tree. StaysWithin (asked_over store.now patterns.old span.now) walk.now p.now (shape_of tree.node)) }
     // on every answer at most the series were tested that the plan's selectors look at, and no sample was read
@@ -72,14 +75,16 @@ pub fn build<W: Ledger>(
 fn planted(alloc: Global, part: Part, walk: Walk, batch: u32) -> Tree
     requires batch { 0 < batch }
     requires times { LeadsToTimes walk }
-    ensures ready { (asked : Asked) (p : Plan) → IsPart asked walk p part → IsReady asked.samples asked.kept result }
+    ensures ready { (asked : Asked) (p : Plan) (es : List EngineSeen) → IsPart asked walk p part → IsReady asked.samples asked.kept (Some no_gathers) es result }
     ensures fed { result.fed ≡ None }
     ensures fresh { (asked : Asked) (p : Plan) → IsPart asked walk p part → IsFresh result.node }
     ensures walk { result.walk ≡ walk }
     ensures batch { result.batch ≡ (if is_single (shape_of result.node) then 1 else batch) }
     ensures within { (asked : Asked) (p : Plan) → IsPart asked walk p part → StaysWithin asked walk p (shape_of result.node) }
     ensures gives { (asked : Asked) (p : Plan) → IsPart asked walk p part → OncesStay asked p
-        → (t : ℤ) → IsInstant walk t → rule asked.samples asked.kept (shape_of result.node) t ≡ plan_step asked p t }
+        → (t : ℤ) → IsInstant walk t → rule (over asked.samples) asked.kept (shape_of result.node) t ≡ plan_step asked p t }
 {
+    plain_trees_begin();
+    walks_are_listed();
     Tree::new(alloc, part.tree, walk, batch as usize)
 }

@@ -1,5 +1,5 @@
 -- Parts over parts: what may be fed, and what is given.
-use Rattle.std.proofs.Common.{◌≡◌, Bool, true, false, refl, sym, subst, None}
+use Rattle.std.proofs.Common.{◌≡◌, ◌∙◌, ◌++◌, Bool, true, false, [], refl, sym, ap, subst}
 use Rattle.std.specs.Prelude.{ℤ, IfOk, IsTrue, Result, Ok, Err, not}
 use Rattle.func_table.specs.declared.table.Element.{Element}
 use Rattle.func_table.specs.declared.table.Element.TheVariants.{Neg}
@@ -11,8 +11,9 @@ use Rattle.op_labels.specs.Rules.{Kept}
 use Rattle.op_small.specs.Rules.{small}
 use Rattle.op_small.specs.declared.rule.SmallRule.{SmallRule}
 use Rattle.op_small.specs.declared.rule.SmallRule.TheVariants.{Number}
-use Rattle.plan_tree.specs.Nodes.{CanGo, shape_of}
-use Rattle.plan_tree.specs.Shapes.{BinaryOf, ClampOf, InstantsOf, IsFit, Shape, StaysInTimes, UnaryOf, is_scalar, rule}
+use Rattle.plan_tree.specs.Worlds.{over}
+use Rattle.plan_tree.specs.Nodes.{MayStart, shape_of}
+use Rattle.plan_tree.specs.Shapes.{BinaryOf, ClampOf, InstantsOf, IsFit, Shape, StaysInTimes, UnaryOf, is_scalar, places_of, rule}
 use Rattle.plan_tree.specs.Spending.{IsFresh}
 use Rattle.plan_work.specs.PlanLaws.{AreBeside, IsOver, IsThree}
 use Rattle.plan_work.specs.TreeBounds.{StaysWithin}
@@ -70,20 +71,21 @@ module _ (asked : Asked) (walk : Walk) (p : Plan) (part : Part) where
   K = asked.kept
 
   -- what is given by a tree of this shape
-  gives_as : (shape : Shape) (scalar : Bool) → IsMade part shape scalar → Gives asked (IsInstant walk) p scalar false (rule S K shape)
-      → Gives asked (IsInstant walk) p part.scalar part.own (rule S K (shape_of part.tree))
+  gives_as : (shape : Shape) (scalar : Bool) → IsMade part shape scalar → Gives asked (IsInstant walk) p scalar false (rule (over S) K shape)
+      → Gives asked (IsInstant walk) p part.scalar part.own (rule (over S) K (shape_of part.tree))
   gives_as shape scalar m g =
-      subst (λ (b : Bool). Gives asked (IsInstant walk) p b part.own (rule S K (shape_of part.tree))) (sym m.scalar_is)
-      (subst (λ (o : Bool). Gives asked (IsInstant walk) p scalar o (rule S K (shape_of part.tree))) (sym m.plain)
-      (subst (λ (s : Shape). Gives asked (IsInstant walk) p scalar false (rule S K s)) (sym m.shape_is) g))
+      subst (λ (b : Bool). Gives asked (IsInstant walk) p b part.own (rule (over S) K (shape_of part.tree))) (sym m.scalar_is)
+      (subst (λ (o : Bool). Gives asked (IsInstant walk) p scalar o (rule (over S) K (shape_of part.tree))) (sym m.plain)
+      (subst (λ (s : Shape). Gives asked (IsInstant walk) p scalar false (rule (over S) K s)) (sym m.shape_is) g))
 
   -- a part of this shape
-  shaped : (shape : Shape) (scalar : Bool) → IsMade part shape scalar → IsFit S shape → CanGo S K None part.tree → ((t : ℤ) → IsInstant walk t → StaysInTimes shape t) → IsFresh part.tree → (IsTrue scalar → IsTrue (is_scalar shape))
-      → (OncesStay asked p → Gives asked (IsInstant walk) p scalar false (rule S K shape)) → StaysWithin asked walk p (shape_of part.tree) → IsPart asked walk p part
-  shaped shape scalar m fit can times fresh one gives within = record {
+  shaped : (shape : Shape) (scalar : Bool) → IsMade part shape scalar → IsFit S shape → MayStart S K part.tree → places_of shape ≡ [] → ((t : ℤ) → IsInstant walk t → StaysInTimes shape t) → IsFresh part.tree → (IsTrue scalar → IsTrue (is_scalar shape))
+      → (OncesStay asked p → Gives asked (IsInstant walk) p scalar false (rule (over S) K shape)) → StaysWithin asked walk p (shape_of part.tree) → IsPart asked walk p part
+  shaped shape scalar m fit can alone times fresh one gives within = record {
     sound = record {
       fit = subst (IsFit S) (sym m.shape_is) fit;
       can = can;
+      alone = ap places_of m.shape_is ∙ alone;
       times = λ t i. subst (λ (s : Shape). StaysInTimes s t) (sym m.shape_is) (times t i);
       fresh = fresh;
     };
@@ -93,14 +95,14 @@ module _ (asked : Asked) (walk : Walk) (p : Plan) (part : Part) where
   }
 
   pub instants_part : (one : SmallRule) → IsInstants one part → IsTrue (not (reads_rows one)) → Gives asked (IsInstant walk) p true false (λ t. small one t (barren no_marks)) → IsPart asked walk p part
-  instants_part one m fit g = shaped (InstantsOf one) true m.made fit (m.can S K) (λ t i. tt) m.fresh (λ h. refl) (λ stay. g) (m.within asked walk p)
+  instants_part one m fit g = shaped (InstantsOf one) true m.made fit (m.can S K) refl (λ t i. tt) m.fresh (λ h. refl) (λ stay. g) (m.within asked walk p)
 
   pub unary_part : (kept : Kept) (one : UnaryRule) (scalar : Bool) (inner : Plan) (rows : Part) → kept ≡ K → IsUnary kept one scalar rows part → IsPart asked walk inner rows → IsChild inner p → IsOver inner p
       → (IsTrue scalar → IsTrue (is_scalar (UnaryOf one (shape_of rows.tree))))
       → ((f : ℤ → Step) → Gives asked (IsInstant walk) inner rows.scalar rows.own f → Gives asked (IsInstant walk) p scalar false (λ t. unary_step K one t (f t))) → IsPart asked walk p part
   unary_part kept one scalar inner rows k u r c o h g =
-      let can : CanGo S K None part.tree = subst (λ (z : Kept). CanGo S z None part.tree) k (u.can S (subst (λ (z : Kept). CanGo S z None rows.tree) (sym k) r.sound.can)) in
-      shaped (UnaryOf one (shape_of rows.tree)) scalar u.made r.sound.fit can r.sound.times (u.fresh r.sound.fresh) h (λ stay. g (rule S K (shape_of rows.tree)) (r.gives (onces_below asked inner p c stay)))
+      let can : MayStart S K part.tree = subst (λ (z : Kept). MayStart S z part.tree) k (u.can S (subst (λ (z : Kept). MayStart S z rows.tree) (sym k) r.sound.can)) in
+      shaped (UnaryOf one (shape_of rows.tree)) scalar u.made r.sound.fit can r.sound.alone r.sound.times (u.fresh r.sound.fresh) h (λ stay. g (rule (over S) K (shape_of rows.tree)) (r.gives (onces_below asked inner p c stay)))
       (u.within asked walk inner p o r.within)
 
   pub binary_part : (one : BinaryRule) (scalar : Bool) (first second : Plan) (rows beside : Part) → IsBinary one scalar rows beside part → IsPart asked walk first rows → IsPart asked walk second beside → IsChild first p → IsChild second p
@@ -108,17 +110,17 @@ module _ (asked : Asked) (walk : Walk) (p : Plan) (part : Part) where
       → ((f h : ℤ → Step) → Gives asked (IsInstant walk) first rows.scalar rows.own f → Gives asked (IsInstant walk) second beside.scalar beside.own h → Gives asked (IsInstant walk) p scalar false (λ t. binary_step one (f t) (h t)))
       → IsPart asked walk p part
   binary_part one scalar first second rows beside b r q c d o h g =
-      shaped (BinaryOf one (shape_of rows.tree) (shape_of beside.tree)) scalar b.made (λ w. q.scalar (b.reads w), r.sound.fit, q.sound.fit) (b.can S K r.sound.can q.sound.can)
+      shaped (BinaryOf one (shape_of rows.tree) (shape_of beside.tree)) scalar b.made (λ w. q.scalar (b.reads w), r.sound.fit, q.sound.fit) (b.can S K r.sound.can q.sound.can) (λ j. r.sound.alone j ++ q.sound.alone j)
       (λ t i. (r.sound.times t i, q.sound.times t i)) (b.fresh r.sound.fresh q.sound.fresh) h
-      (λ stay. g (rule S K (shape_of rows.tree)) (rule S K (shape_of beside.tree)) (r.gives (onces_below asked first p c stay)) (q.gives (onces_below asked second p d stay)))
+      (λ stay. g (rule (over S) K (shape_of rows.tree)) (rule (over S) K (shape_of beside.tree)) (r.gives (onces_below asked first p c stay)) (q.gives (onces_below asked second p d stay)))
       (b.within asked walk first second p o r.within q.within)
 
   -- where a number stands beside the rows
   pub number_part : (one : BinaryRule) (value : XFrac) (first : Plan) (rows : Part) → IsBesideNumber one value rows part → IsPart asked walk first rows → IsChild first p → IsOver first p
       → ((f : ℤ → Step) → Gives asked (IsInstant walk) first rows.scalar rows.own f → Gives asked (IsInstant walk) p false false (λ t. binary_step one (f t) (small (Number value) t (barren no_marks)))) → IsPart asked walk p part
   number_part one value first rows m r c o g =
-      shaped (BinaryOf one (shape_of rows.tree) (InstantsOf (Number value))) false m.made (λ w. refl, r.sound.fit, refl) (m.can S K r.sound.can) (λ t i. (r.sound.times t i, tt)) (m.fresh r.sound.fresh) (λ h. absurd (cc))
-      (λ stay. g (rule S K (shape_of rows.tree)) (r.gives (onces_below asked first p c stay))) (m.within asked walk first p o r.within)
+      shaped (BinaryOf one (shape_of rows.tree) (InstantsOf (Number value))) false m.made (λ w. refl, r.sound.fit, refl) (m.can S K r.sound.can) (λ j. r.sound.alone j ++ []) (λ t i. (r.sound.times t i, tt)) (m.fresh r.sound.fresh) (λ h. absurd (cc))
+      (λ stay. g (rule (over S) K (shape_of rows.tree)) (r.gives (onces_below asked first p c stay))) (m.within asked walk first p o r.within)
 
   pub clamp_part : (one : ElementRule) (first second third : Plan) (rows low high : Part) → IsClamp one rows low high part → IsPart asked walk first rows → IsPart asked walk second low → IsPart asked walk third high
       → IsChild first p → IsChild second p → IsChild third p → IsThree first second third p
@@ -127,7 +129,7 @@ module _ (asked : Asked) (walk : Walk) (p : Plan) (part : Part) where
       → IsPart asked walk p part
   clamp_part one first second third rows low high b r l h c d e o g =
       shaped (ClampOf one (shape_of rows.tree) (shape_of low.tree) (shape_of high.tree)) false b.made
-      (l.scalar b.scalars.0, h.scalar b.scalars.1, r.sound.fit, l.sound.fit, h.sound.fit) (b.can S K r.sound.can l.sound.can h.sound.can)
+      (l.scalar b.scalars.0, h.scalar b.scalars.1, r.sound.fit, l.sound.fit, h.sound.fit) (b.can S K r.sound.can l.sound.can h.sound.can) (λ j. r.sound.alone j ++ (l.sound.alone j ++ h.sound.alone j))
       (λ t i. (r.sound.times t i, l.sound.times t i, h.sound.times t i)) (b.fresh r.sound.fresh l.sound.fresh h.sound.fresh) (λ w. absurd (cc))
-      (λ stay. g (rule S K (shape_of rows.tree)) (rule S K (shape_of low.tree)) (rule S K (shape_of high.tree)) (r.gives (onces_below asked first p c stay)) (l.gives (onces_below asked second p d stay)) (h.gives (onces_below asked third p e stay)))
+      (λ stay. g (rule (over S) K (shape_of rows.tree)) (rule (over S) K (shape_of low.tree)) (rule (over S) K (shape_of high.tree)) (r.gives (onces_below asked first p c stay)) (l.gives (onces_below asked second p d stay)) (h.gives (onces_below asked third p e stay)))
       (b.within asked walk first second third p o r.within l.within h.within)

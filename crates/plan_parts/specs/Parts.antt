@@ -1,5 +1,5 @@
 -- Trees of kernels for parts of plans. (This project's own.)
-use Rattle.std.specs.Prelude.{◌≡◌, ◌++◌, ℕ, ℤ, Bool, true, false, List, ◌∷◌, Option, None, Result, IfOk, IsTrue, MatchResult}
+use Rattle.std.specs.Prelude.{◌≡◌, ◌++◌, ℕ, ℤ, Bool, true, false, List, [], ◌∷◌, Option, None, Result, IfOk, IsTrue, MatchResult}
 use Rattle.func_table.specs.declared.table.Aggregate.{Aggregate}
 use Rattle.func_table.specs.declared.table.Aggregate.TheVariants.{TopK, BottomK, Quantile}
 use Rattle.func_table.specs.declared.table.Element.{Element}
@@ -17,8 +17,9 @@ use Rattle.op_element.specs.declared.formula.ElementRule.{ElementRule}
 use Rattle.op_labels.specs.Rules.{Kept}
 use Rattle.op_small.specs.declared.rule.SmallRule.{SmallRule}
 use Rattle.op_small.specs.declared.rule.SmallRule.TheVariants.{Number}
-use Rattle.plan_tree.specs.Nodes.{CanGo, shape_of}
-use Rattle.plan_tree.specs.Shapes.{BinaryOf, ClampOf, InstantsOf, IsFit, Shape, StaysInTimes, UnaryOf, is_scalar, rule}
+use Rattle.plan_tree.specs.Worlds.{over}
+use Rattle.plan_tree.specs.Nodes.{MayStart, shape_of}
+use Rattle.plan_tree.specs.Shapes.{BinaryOf, ClampOf, InstantsOf, IsFit, Shape, StaysInTimes, UnaryOf, is_scalar, places_of, rule}
 use Rattle.plan_tree.specs.Spending.{IsFresh}
 use Rattle.plan_tree.specs.declared.node.Node.{Node}
 use Rattle.plan_work.specs.PlanLaws.{AreBeside, IsOver, IsThree}
@@ -78,10 +79,11 @@ pub record OncesStay (asked : Asked) (p : Plan) : Type 0 where
 
 -- ---- trees
 
--- a tree that was fed nothing may be fed the instants of a walk, from the first on
+-- a tree without gathers, which was fed nothing, may be fed the instants of a walk, from the first on
 pub record IsSound (store : AllSeries) (kept : Kept) (walk : Walk) (tree : Node) : Type 0 where
   pub fit : IsFit store (shape_of tree)
-  pub can : CanGo store kept None tree
+  pub can : MayStart store kept tree
+  pub alone : places_of (shape_of tree) ≡ []
   pub times : (t : ℤ) → IsInstant walk t → StaysInTimes (shape_of tree) t
   pub fresh : IsFresh tree
 
@@ -89,7 +91,7 @@ pub record IsSound (store : AllSeries) (kept : Kept) (walk : Walk) (tree : Node)
 pub record IsPart (asked : Asked) (walk : Walk) (p : Plan) (part : Part) : Type 0 where
   pub sound : IsSound asked.samples asked.kept walk part.tree
   pub scalar : IsTrue part.scalar → IsTrue (is_scalar (shape_of part.tree))
-  pub gives : OncesStay asked p → Gives asked (IsInstant walk) p part.scalar part.own (rule asked.samples asked.kept (shape_of part.tree))
+  pub gives : OncesStay asked p → Gives asked (IsInstant walk) p part.scalar part.own (rule (over asked.samples) asked.kept (shape_of part.tree))
   pub within : StaysWithin asked walk p (shape_of part.tree)
 
 -- a part of a plan, where it is built
@@ -115,7 +117,7 @@ pub record IsMade (part : Part) (shape : Shape) (scalar : Bool) : Type 0 where
 -- a tree of instants alone, which costs nothing
 pub record IsInstants (one : SmallRule) (part : Part) : Type 0 where
   pub made : IsMade part (InstantsOf one) true
-  pub can : (store : AllSeries) (kept : Kept) → CanGo store kept None part.tree
+  pub can : (store : AllSeries) (kept : Kept) → MayStart store kept part.tree
   pub fresh : IsFresh part.tree
   pub within : (asked : Asked) (walk : Walk) (p : Plan) → StaysWithin asked walk p (shape_of part.tree)
 
@@ -124,14 +126,14 @@ pub record IsInstants (one : SmallRule) (part : Part) : Type 0 where
 pub record IsUnary (kept : Kept) (rule : UnaryRule) (scalar : Bool) (rows part : Part) : Type 0 where
   pub made : IsMade part (UnaryOf rule (shape_of rows.tree)) scalar
   pub reads : IsTrue (is_unary rule)
-  pub can : (store : AllSeries) → CanGo store kept None rows.tree → CanGo store kept None part.tree
+  pub can : (store : AllSeries) → MayStart store kept rows.tree → MayStart store kept part.tree
   pub fresh : IsFresh rows.tree → IsFresh part.tree
   pub within : (asked : Asked) (walk : Walk) (c p : Plan) → IsOver c p → StaysWithin asked walk c (shape_of rows.tree) → StaysWithin asked walk p (shape_of part.tree)
 
 pub record IsBinary (rule : BinaryRule) (scalar : Bool) (rows beside part : Part) : Type 0 where
   pub made : IsMade part (BinaryOf rule (shape_of rows.tree) (shape_of beside.tree)) scalar
   pub reads : IsTrue (takes_scalar rule) → IsTrue beside.scalar
-  pub can : (store : AllSeries) (kept : Kept) → CanGo store kept None rows.tree → CanGo store kept None beside.tree → CanGo store kept None part.tree
+  pub can : (store : AllSeries) (kept : Kept) → MayStart store kept rows.tree → MayStart store kept beside.tree → MayStart store kept part.tree
   pub fresh : IsFresh rows.tree → IsFresh beside.tree → IsFresh part.tree
   pub within : (asked : Asked) (walk : Walk) (left right p : Plan) → AreBeside left right p → StaysWithin asked walk left (shape_of rows.tree) → StaysWithin asked walk right (shape_of beside.tree)
       → StaysWithin asked walk p (shape_of part.tree)
@@ -139,14 +141,14 @@ pub record IsBinary (rule : BinaryRule) (scalar : Bool) (rows beside part : Part
 -- where a number stands beside the rows
 pub record IsBesideNumber (one : BinaryRule) (value : XFrac) (rows part : Part) : Type 0 where
   pub made : IsMade part (BinaryOf one (shape_of rows.tree) (InstantsOf (Number value))) false
-  pub can : (store : AllSeries) (kept : Kept) → CanGo store kept None rows.tree → CanGo store kept None part.tree
+  pub can : (store : AllSeries) (kept : Kept) → MayStart store kept rows.tree → MayStart store kept part.tree
   pub fresh : IsFresh rows.tree → IsFresh part.tree
   pub within : (asked : Asked) (walk : Walk) (c p : Plan) → IsOver c p → StaysWithin asked walk c (shape_of rows.tree) → StaysWithin asked walk p (shape_of part.tree)
 
 pub record IsClamp (rule : ElementRule) (rows low high part : Part) : Type 0 where
   pub made : IsMade part (ClampOf rule (shape_of rows.tree) (shape_of low.tree) (shape_of high.tree)) false
   pub scalars : IsTrue low.scalar × IsTrue high.scalar
-  pub can : (store : AllSeries) (kept : Kept) → CanGo store kept None rows.tree → CanGo store kept None low.tree → CanGo store kept None high.tree → CanGo store kept None part.tree
+  pub can : (store : AllSeries) (kept : Kept) → MayStart store kept rows.tree → MayStart store kept low.tree → MayStart store kept high.tree → MayStart store kept part.tree
   pub fresh : IsFresh rows.tree → IsFresh low.tree → IsFresh high.tree → IsFresh part.tree
   pub within : (asked : Asked) (walk : Walk) (first second third p : Plan) → IsThree first second third p → StaysWithin asked walk first (shape_of rows.tree) → StaysWithin asked walk second (shape_of low.tree)
       → StaysWithin asked walk third (shape_of high.tree) → StaysWithin asked walk p (shape_of part.tree)

@@ -7,6 +7,7 @@ ghost use Rattle.plan_tree.specs.Chains.{IsReady};
 ghost use Rattle.plan_tree.specs.Nodes.{shape_of};
 ghost use Rattle.plan_tree.specs.Shapes.{rule};
 ghost use Rattle.plan_tree.specs.Spending.{HasSpent, IsWithinBound};
+ghost use Rattle.plan_tree.specs.Worlds.{no_gathers, over};
 ghost use Rattle.promql_ast.specs.Parts.{AreWithin, parts_of};
 ghost use Rattle.promql_meaning.specs.Meaning.{meaning_step};
 ghost use Rattle.promql_meaning.specs.Results.{grid_times, result_of};
@@ -16,11 +17,13 @@ ghost use Rattle.promql_type.specs.Replacements.{AreKept};
 ghost use Rattle.promql_type.specs.TypedTrees.{placed_of, tree_of};
 ghost use Rattle.query_engine.specs.Bounds.{SpendsAtMost, evaluated_plan};
 ghost use Rattle.query_engine.specs.Planning.{choices_of};
-ghost use Rattle.std.specs.Prelude.{◌≡◌, ◌<◌, None, IfOk};
+ghost use Rattle.remote_api.specs.Seen.{EngineSeen};
+ghost use Rattle.std.specs.Prelude.{◌≡◌, ◌<◌, List, None, Some, IfOk};
 ghost use Rattle.step_table.specs.Timed.{steps_over};
 ghost use Rattle.ticks.specs.Durations.{hundred_years};
 ghost use Rattle.ticks.specs.Works.{Counts};
 ghost use Rattle.ticks.specs.declared.walk.Walk.{Grid as GridWalk};
+ghost use Rattle.tree_results.specs.Drained.{IsDrained};
 
 use crate::options::Options;
 use crate::planning::evaluated;
@@ -34,6 +37,7 @@ use plan_tree::laws::fresh_trees_begin;
 use plan_work::laws::spending_stays_within;
 use promql_meaning::Outcome;
 use promql_type::Typed;
+use remote_api::{Engine, InOrder};
 use result_rows::laws::collected_is_judged;
 use sample_store::Store;
 use std::alloc::{AllocError, Global};
@@ -41,6 +45,42 @@ use std::sync::ledger::Ledger;
 use ticks::{Grid, Walk, Work};
 use tree_results::laws::grids_are_listed;
 use tree_results::{Drained, drain};
+
+/// What the steps of a tree that asks no engine come to over a grid, which is its walk. The patterns stay as they are. On any answer the
+/// counters rose since the tree's start by at most the bound over its whole walk. The only error is want of memory.
+fn drained<W: Ledger>(
+    alloc: Global,
+    tree: &mut Tree,
+    grid: &Grid,
+    store: &Store,
+    patterns: &mut Patterns<'_>,
+    work: &mut Work<W>,
+) -> Result<Drained, AllocError>
+    requires ready { (es : List EngineSeen) → IsReady store.now patterns.old (Some no_gathers) es tree.old }
+    requires fresh { tree.old.fed ≡ None }
+    requires walk { tree.old.walk ≡ GridWalk grid.now }
+    ensures drained { IfOk result (IsDrained (steps_over (rule (over store.now) patterns.old (shape_of tree.old.node)) (grid_times grid.now))) }
+    ensures same { patterns.new ≡ patterns.old }
+    ensures bounded { (start : Counts) → HasSpent store.now tree.old start work.old → IsWithinBound store.now tree.old.walk (shape_of tree.old.node) start work.new }
+{
+    let mut engines: Vec<Box<dyn Engine>> = Vec::new(alloc);
+    let mut courier = InOrder::new();
+    let engines = engines.as_mut_slice();
+    match drain(
+        alloc,
+        tree,
+        grid,
+        store,
+        engines,
+        patterns,
+        &mut courier,
+        work,
+    ) {
+        Ok(drained) => Ok(drained),
+        // there is no engine that fails or strays
+        Err(_) => Err(AllocError),
+    }
+}
 
 /// The result of a typed query over a grid, the steps of which a tree gives that goes there. The patterns stay as they are. On any
 /// answer the counters rose since the tree's start by at most the bound over its whole walk. The only error is want of memory.
@@ -55,16 +95,16 @@ fn collected<W: Ledger>(
     instant: bool,
     work: &mut Work<W>,
 ) -> Result<Outcome, AllocError>
-    requires ready { IsReady store.now patterns.old tree.old }
+    requires ready { (es : List EngineSeen) → IsReady store.now patterns.old (Some no_gathers) es tree.old }
     requires fresh { tree.old.fed ≡ None }
     requires walk { tree.old.walk ≡ GridWalk grid.now }
-    requires gives { steps_over (rule store.now patterns.old (shape_of tree.old.node)) (grid_times grid.now) ≡ steps_over (meaning_step (asked_over store.now patterns.old grid.now) (tree_of typed.now)) (grid_times grid.now) }
+    requires gives { steps_over (rule (over store.now) patterns.old (shape_of tree.old.node)) (grid_times grid.now) ≡ steps_over (meaning_step (asked_over store.now patterns.old grid.now) (tree_of typed.now)) (grid_times grid.now) }
     ensures result { IfOk result (λ outcome. outcome ≡ result_of (asked_over store.now patterns.old grid.now) (tree_of typed.now) grid.now instant) }
     ensures same { patterns.new ≡ patterns.old }
     ensures bounded { (start : Counts) → HasSpent store.now tree.old start work.old → IsWithinBound store.now tree.old.walk (shape_of tree.old.node) start work.new }
 {
     collected_is_judged();
-    match drain(alloc, tree, grid, store, patterns, work)? {
+    match drained(alloc, tree, grid, store, patterns, work)? {
         Drained::Stopped(outcome) => Ok(outcome),
         Drained::Done(collected) => {
             let order = order_asked(alloc, typed, instant)?;

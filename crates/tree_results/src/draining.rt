@@ -3,22 +3,28 @@ ghost use Rattle.plan_tree.specs.Chains.{IsReady};
 ghost use Rattle.plan_tree.specs.Nodes.{shape_of};
 ghost use Rattle.plan_tree.specs.Shapes.{rule};
 ghost use Rattle.plan_tree.specs.Spending.{HasSpent, IsWithinBound};
-ghost use Rattle.promql_meaning.specs.Results.{grid_times};
-ghost use Rattle.std.specs.Prelude.{◌≡◌, None, IfOk};
-ghost use Rattle.step_table.specs.Timed.{steps_over};
+ghost use Rattle.plan_tree.specs.Worlds.{Gathers, world};
+ghost use Rattle.promql_meaning.specs.Results.{first_stop, grid_times};
+ghost use Rattle.result_rows.specs.Taken.{HasTaken};
+ghost use Rattle.std.specs.Prelude.{◌≡◌, ◌++◌, List, None, Option, Some, map, IfOk};
+ghost use Rattle.step_batch.specs.Lent.{stages};
+ghost use Rattle.step_table.specs.Timed.{StepAt, steps_over};
 ghost use Rattle.ticks.specs.Works.{Counts};
 ghost use Rattle.ticks.specs.declared.walk.Walk.{Grid as GridWalk};
 ghost use Rattle.tree_results.specs.Drained.{IsDrained};
 
+use exchange::RunFault;
 use match_rule::Patterns;
 use plan_tree::Tree;
 use plan_tree::laws::turns_are_the_walk;
 use promql_meaning::Outcome;
+use remote_api::{Courier, Engine};
 use result_rows::Collected;
 use result_rows::laws::stopped_is_judged;
 use sample_store::Store;
 use std::alloc::{AllocError, Global};
 use std::sync::ledger::Ledger;
+use step_batch::Batch;
 use ticks::{Grid, Work, instants_are_numbered};
 
 /// What the steps of a tree come to.
@@ -30,22 +36,36 @@ pub enum Drained {
     Done(Collected),
 }
 
+/// Takes the steps of a turn, as `Collected::take` does. The only error is want of memory; then what was collected may only be dropped.
+fn taken(collected: &mut Collected, batch: &Batch<'_>) -> Result<Option<Outcome>, RunFault>
+    ensures stop { IfOk result (λ stop. (steps : List StepAt) → HasTaken collected.old steps → first_stop 0 (steps ++ stages batch.now) ≡ stop) }
+    ensures taken { IfOk result (λ stop. stop ≡ None → (steps : List StepAt) → HasTaken collected.old steps → HasTaken collected.new (steps ++ stages batch.now)) }
+{
+    match collected.take(batch) {
+        Ok(stop) => Ok(stop),
+        Err(AllocError) => Err(RunFault::Memory),
+    }
+}
+
 /// What the steps of a tree at the instants of a grid, which is its walk, come to: the outcome of the first instant that has a fatal
 /// mark, or with which there are more than 4,000,000 rows, counted over all instants so far; or else what is collected of all
-/// of them. The tree goes on batch by batch. The patterns stay as they are. The only error is want of memory. On any answer the
-/// counters rose since the tree's start by at most the bound over its whole walk.
-pub fn drain<W: Ledger>(
+/// of them. The tree goes on batch by batch, over these engines. The patterns stay as they are. An engine that fails or strays is told,
+/// and want of memory. On any answer the counters rose since the tree's start by at most the bound over its whole walk.
+pub fn drain<C: Courier, W: Ledger>(
     alloc: Global,
     tree: &mut Tree,
     grid: &Grid,
     store: &Store,
+    engines: &mut [Box<dyn Engine>],
     patterns: &mut Patterns<'_>,
+    courier: &mut C,
     work: &mut Work<W>,
-) -> Result<Drained, AllocError>
-    requires ready { IsReady store.now patterns.old tree.old }
+) -> Result<Drained, RunFault>
+    requires ready { (known : Option Gathers) × IsReady store.now patterns.old known (map (λ b. seen b) engines.old) tree.old }
     requires fresh { tree.old.fed ≡ None }
     requires walk { tree.old.walk ≡ GridWalk grid.now }
-    ensures drained { IfOk result (IsDrained (steps_over (rule store.now patterns.old (shape_of tree.old.node)) (grid_times grid.now))) }
+    ensures drained { IfOk result (λ drained. (gathers : Gathers) → IsReady store.now patterns.old (Some gathers) (map (λ b. seen b) engines.old) tree.old
+        → IsDrained (steps_over (rule (world store.now gathers) patterns.old (shape_of tree.old.node)) (grid_times grid.now)) drained) }
     ensures same { patterns.new ≡ patterns.old }
     ensures bounded { (start : Counts) → HasSpent store.now tree.old start work.old → IsWithinBound store.now tree.old.walk (shape_of tree.old.node) start work.new }
 {
@@ -53,8 +73,8 @@ pub fn drain<W: Ledger>(
     turns_are_the_walk();
     stopped_is_judged();
     let mut collected = Collected::new(alloc);
-    while tree.step(store, patterns, work)? {
-        if let Some(outcome) = collected.take(&tree.lend())? {
+    while tree.step(store, engines, patterns, courier, work)? {
+        if let Some(outcome) = taken(&mut collected, &tree.lend())? {
             return Ok(Drained::Stopped(outcome));
         }
     }

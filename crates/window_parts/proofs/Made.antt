@@ -1,5 +1,5 @@
 -- Parts for functions of windows: what may be fed, and what is given.
-use Rattle.std.proofs.Common.{◌≡◌, ◌∙◌, ℕ, ◌<◌, length, get_or, Bool, false, List, [], ◌∷◌, map, Option, Some, None, refl, sym, ap, subst, arith}
+use Rattle.std.proofs.Common.{◌≡◌, ◌∙◌, ℕ, ◌<◌, length, get_or, Bool, false, List, [], ◌∷◌, ◌++◌, map, Option, Some, None, refl, sym, ap, subst, arith}
 use Rattle.std.specs.Prelude.{ℤ, pos, ◌<ℤ◌, IfOk, IfSome, IsTrue, Result, Ok, Err}
 use Rattle.std.proofs.lemmas.List.Elements.{All-contains_itself, recursion_from_All}
 use Rattle.func_table.specs.declared.table.Window.{Window as WindowFunction}
@@ -9,8 +9,9 @@ use Rattle.logical_plan.specs.PlanMeaning.{givens_at, plan_meant}
 use Rattle.logical_plan.specs.declared.nodes.Plan.{Plan}
 use Rattle.logical_plan.specs.declared.nodes.PlanNode.TheVariants as node
 use Rattle.op_window.specs.Rules.{takes_scalar}
-use Rattle.plan_tree.specs.Nodes.{CanGo, shape_of}
-use Rattle.plan_tree.specs.Shapes.{IsFit, PointsOf, SeriesOf, Shape, StaysInTimes, rule}
+use Rattle.plan_tree.specs.Worlds.{over}
+use Rattle.plan_tree.specs.Nodes.{MayStart, shape_of}
+use Rattle.plan_tree.specs.Shapes.{IsFit, PointsOf, SeriesOf, Shape, StaysInTimes, places_of, rule}
 use Rattle.plan_tree.specs.Spending.{IsAtMost, IsFresh, nothing}
 use Rattle.plan_work.specs.PlanBounds.{Bounding, arguments_bound, plan_bound}
 use Rattle.plan_work.specs.PlanLaws.{IsBare, NoSelectorCostsNothing}
@@ -66,7 +67,7 @@ pub unread : NoSelectorCostsNothing → (asked : Asked) (walk : Walk) (f : Windo
 unread free asked walk f arguments part value e number = record {
   sound = (number asked walk (planned 0 (node.Number value)) refl).sound;
   scalar = λ h. absurd (cc);
-  gives = λ stay t on w. without_scalar f t (rule asked.samples asked.kept (shape_of part.tree) t) (step_at (givens_at (map (plan_meant asked) arguments) t) 0) w e;
+  gives = λ stay t on w. without_scalar f t (rule (over asked.samples) asked.kept (shape_of part.tree) t) (step_at (givens_at (map (plan_meant asked) arguments) t) 0) w e;
   within = λ at listed.
       let p : Plan = planned 0 (node.Number value) in
       nothing_within asked at p (arguments_bound asked arguments) (shape_of part.tree) (free asked p at (IsBare.of_number value refl)) ((number asked walk p refl).within at listed);
@@ -79,7 +80,7 @@ read asked walk f (a ∷ []) part s i = record {
   sound = i.sound;
   scalar = λ h. i.scalar s;
   gives = λ stay t on w. ap (λ (x : Step). windowed_by f t x w)
-      (sym (ap step_of ((i.gives (stay a refl)).gives t on) ∙ given_step part.scalar (rule asked.samples asked.kept (shape_of part.tree) t)));
+      (sym (ap step_of ((i.gives (stay a refl)).gives t on) ∙ given_step part.scalar (rule (over asked.samples) asked.kept (shape_of part.tree) t)));
   within = λ at listed. only_within asked at a (shape_of part.tree) (i.within at listed);
 }
 read asked walk f (a ∷ b ∷ arguments) part s i = absurd i
@@ -107,41 +108,42 @@ module _ (asked : Asked) (walk : Walk) (p inner : Plan) (f : WindowFunction) (ar
   K = asked.kept
 
   -- a part of this shape
-  shaped : (shape : Shape) → shape_of part.tree ≡ shape → part.scalar ≡ false → part.own ≡ false → IsFit S shape → CanGo S K None part.tree → ((t : ℤ) → IsInstant walk t → StaysInTimes shape t) → IsFresh part.tree
-      → (OncesStay asked p → Gives asked (IsInstant walk) p false false (rule S K shape)) → StaysWithin asked walk p shape → IsPart asked walk p part
-  shaped shape is plain rows fit can times fresh gives within = record {
+  shaped : (shape : Shape) → shape_of part.tree ≡ shape → part.scalar ≡ false → part.own ≡ false → IsFit S shape → MayStart S K part.tree → places_of shape ≡ [] → ((t : ℤ) → IsInstant walk t → StaysInTimes shape t) → IsFresh part.tree
+      → (OncesStay asked p → Gives asked (IsInstant walk) p false false (rule (over S) K shape)) → StaysWithin asked walk p shape → IsPart asked walk p part
+  shaped shape is plain rows fit can alone times fresh gives within = record {
     sound = record {
       fit = subst (IsFit S) (sym is) fit;
       can = can;
+      alone = ap places_of is ∙ alone;
       times = λ t i. subst (λ (s : Shape). StaysInTimes s t) (sym is) (times t i);
       fresh = fresh;
     };
     scalar = λ h. absurd (cc);
-    gives = λ stay. subst (λ (b : Bool). Gives asked (IsInstant walk) p b part.own (rule S K (shape_of part.tree))) (sym plain)
-        (subst (λ (o : Bool). Gives asked (IsInstant walk) p false o (rule S K (shape_of part.tree))) (sym rows)
-        (subst (λ (s : Shape). Gives asked (IsInstant walk) p false false (rule S K s)) (sym is) (gives stay)));
+    gives = λ stay. subst (λ (b : Bool). Gives asked (IsInstant walk) p b part.own (rule (over S) K (shape_of part.tree))) (sym plain)
+        (subst (λ (o : Bool). Gives asked (IsInstant walk) p false o (rule (over S) K (shape_of part.tree))) (sym rows)
+        (subst (λ (s : Shape). Gives asked (IsInstant walk) p false false (rule (over S) K s)) (sym is) (gives stay)));
     within = subst (StaysWithin asked walk p) (sym is) within;
   }
 
   pub series_part : WalkMomentIsMoment → WindowsStay → (selector : RangeSelector) (series : List ℕ) (at : WalkMoment) → shape_of part.tree ≡ SeriesOf series f at selector.range (shape_of scalar.tree) → part.scalar ≡ false → part.own ≡ false
-      → CanGo S K None part.tree → IsFresh part.tree → IsSelected K selector.rules S series → numbered S series ≡ chosen K selector.rules S → IsMomentOf asked selector.moment at → at.closed ≡ selector.moment.closed → pos 0 <ℤ selector.range.0
+      → MayStart S K part.tree → IsFresh part.tree → IsSelected K selector.rules S series → numbered S series ≡ chosen K selector.rules S → IsMomentOf asked selector.moment at → at.closed ≡ selector.moment.closed → pos 0 <ℤ selector.range.0
       → ((t : ℤ) → IsInstant walk t → IsTime t) → ((t : ℤ) → IsInstant walk t → HasTimes (moment_at at t) selector.range.0) → IsRangeOf asked inner selector → IsPart asked walk p part
   series_part moments stays selector series at is plain rows can fresh selected these timed closed forward on times i =
       let there : AreThere S series = selected_there K selector.rules S series selected in
-      shaped (SeriesOf series f at selector.range (shape_of scalar.tree)) is plain rows (there, forward, one.scalar, one.sound.fit) can
+      shaped (SeriesOf series f at selector.range (shape_of scalar.tree)) is plain rows (there, forward, one.scalar, one.sound.fit) can one.sound.alone
       (λ t w. (on t w, times t w, one.sound.times t w)) fresh
-      (λ stay. series_gives asked (IsInstant walk) moments p inner f arguments selector.rules selector.moment selector.range series at (rule S K (shape_of scalar.tree)) these timed closed e i.gives (one.gives (argument_stays asked p inner f arguments e stay)))
+      (λ stay. series_gives asked (IsInstant walk) moments p inner f arguments selector.rules selector.moment selector.range series at (rule (over S) K (shape_of scalar.tree)) these timed closed e i.gives (one.gives (argument_stays asked p inner f arguments e stay)))
       (stays asked walk p inner f arguments selector.rules selector.moment selector.range series at (shape_of scalar.tree) e i.within there these timed closed one.within)
 
   pub points_part : WalkMomentIsMoment → MultiplesAreAll → SubqueriesStay → (q : Plan) (moment : Moment) (range step : Ms) (at : WalkMoment) (child : Part) → shape_of part.tree ≡ PointsOf f (Multiples walk at range step) at range step (shape_of child.tree) (shape_of scalar.tree)
-      → part.scalar ≡ false → part.own ≡ false → CanGo S K None part.tree → IsFresh part.tree → IsPart asked (Multiples walk at range step) q child → IsMomentOf asked moment at → at.closed ≡ moment.closed → pos 0 <ℤ step.0
+      → part.scalar ≡ false → part.own ≡ false → MayStart S K part.tree → IsFresh part.tree → IsPart asked (Multiples walk at range step) q child → IsMomentOf asked moment at → at.closed ≡ moment.closed → pos 0 <ℤ step.0
       → ((t : ℤ) → IsInstant walk t → IsTime t) → inner.node ≡ node.Subquery q range step moment → IsPart asked walk p part
   points_part moments law stays q moment range step at child is plain rows can fresh r timed closed forward on i =
-      shaped (PointsOf f (Multiples walk at range step) at range step (shape_of child.tree) (shape_of scalar.tree)) is plain rows (r.sound.times, one.scalar, r.sound.fit, one.sound.fit) can
+      shaped (PointsOf f (Multiples walk at range step) at range step (shape_of child.tree) (shape_of scalar.tree)) is plain rows (r.sound.times, one.scalar, r.sound.fit, one.sound.fit) can (λ j. one.sound.alone j ++ r.sound.alone j)
       (λ t w. (on t w, (walk, refl, w), one.sound.times t w)) fresh
       (λ stay.
       let given = r.gives (onces_below asked q inner (of_subquery range step moment i) (onces_below asked inner p (of_window f arguments e) stay)) in
-      points_give asked (IsInstant walk) moments law p inner q f arguments moment range step at (rule S K (shape_of scalar.tree)) (rule S K (shape_of child.tree)) timed closed forward e i
-      (λ t u w v. ap step_of (given.gives u (coe 1 0 (k. multiples-instants walk at range step u k) (t, w, v))) ∙ given_step child.scalar (rule S K (shape_of child.tree) u))
+      points_give asked (IsInstant walk) moments law p inner q f arguments moment range step at (rule (over S) K (shape_of scalar.tree)) (rule (over S) K (shape_of child.tree)) timed closed forward e i
+      (λ t u w v. ap step_of (given.gives u (coe 1 0 (k. multiples-instants walk at range step u k) (t, w, v))) ∙ given_step child.scalar (rule (over S) K (shape_of child.tree) u))
       (one.gives (argument_stays asked p inner f arguments e stay)))
       (stays asked walk p inner q f arguments moment range step at (shape_of child.tree) (shape_of scalar.tree) e i timed closed forward r.within one.within)

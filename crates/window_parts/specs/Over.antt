@@ -16,6 +16,7 @@ use Rattle.plan_parts.specs.Parts.{IsPart, IsSound, OncesStay}
 use Rattle.plan_parts.specs.declared.parts.Part.{Part}
 use Rattle.plan_parts.specs.declared.unbuilt.Unbuilt.{Unbuilt}
 use Rattle.plan_parts.specs.declared.unbuilt.Unbuilt.TheVariants.{Memory}
+use Rattle.plan_tree.specs.Worlds.{over}
 use Rattle.plan_tree.specs.Nodes.{shape_of}
 use Rattle.plan_tree.specs.Shapes.{is_scalar, rule}
 use Rattle.plan_work.specs.Looks.{LookAtNoMore}
@@ -65,7 +66,7 @@ pub record IsScalarOf (asked : Asked) (walk : Walk) (f : WindowFunction) (argume
   pub sound : IsSound asked.samples asked.kept walk part.tree
   pub scalar : IsTrue (takes_scalar f) → IsTrue (is_scalar (shape_of part.tree))
   pub gives : ((a : Plan) → arguments ≡ a ∷ [] → OncesStay asked a) → (t : ℤ) → IsInstant walk t → (windows : Windows)
-      → windowed_by f t (rule asked.samples asked.kept (shape_of part.tree) t) windows ≡ windowed_by f t (step_at (givens_at (map (plan_meant asked) arguments) t) 0) windows
+      → windowed_by f t (rule (over asked.samples) asked.kept (shape_of part.tree) t) windows ≡ windowed_by f t (step_at (givens_at (map (plan_meant asked) arguments) t) 0) windows
   pub within : StaysWithinAll asked walk arguments (shape_of part.tree)
 
 -- ---- range selectors

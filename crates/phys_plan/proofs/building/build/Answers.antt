@@ -15,6 +15,13 @@ use Rattle.phys_plan.proofs.Refused.{none_and}
 use Rattle.phys_plan.proofs.Windowed.{whole_grows}
 use Rattle.phys_plan.proofs.building.build.Goals as goal
 
+pub returns-clause-ready : goal.returns-clause-ready
+returns-clause-ready g c = λ es.
+    let asked = asked_over c.args.store.now c.args.patterns.now c.args.span.now in
+    let p = c.args.p.now in
+    let copied : c.in_ok-walk.walk ≡ c.in-Some.course.walk = c.in_ok-walk.ensures ∙ c.walk.ensures.walk in
+    c.planted.ensures.ready asked p es (part_on asked c.in-Some.course.walk c.in_ok-walk.walk p c.in_ok-part.part copied c.in_ok-part.ensures.part)
+
 pub returns-clause-gives : goal.returns-clause-gives
 returns-clause-gives g c = λ stay t on.
     let asked = asked_over c.args.store.now c.args.patterns.now c.args.span.now in

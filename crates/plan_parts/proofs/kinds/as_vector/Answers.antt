@@ -2,6 +2,7 @@ use Rattle.ticks.specs.Walks.{IsInstant}
 use Rattle.plan_parts.proofs.Grown.{onces_below, part_at}
 use Rattle.plan_parts.proofs.Giving.{sort_gives, vector_gives}
 use Rattle.plan_parts.specs.Parts.{of_sort, of_vector}
+use Rattle.plan_tree.specs.Worlds.{over}
 use Rattle.plan_tree.specs.Nodes.{shape_of}
 use Rattle.plan_tree.specs.Shapes.{rule}
 use Rattle.plan_work.specs.PlanLaws.{IsOver}
@@ -14,7 +15,7 @@ returns-clause-sort c = λ asked walk p inner down e i.
     record {
       sound = r.sound;
       scalar = λ h. absurd (cc);
-      gives = λ stay. sort_gives asked (IsInstant walk) p inner rows.scalar rows.own (rule asked.samples asked.kept (shape_of rows.tree)) (r.gives (onces_below asked inner p (of_sort down e) stay)) down e;
+      gives = λ stay. sort_gives asked (IsInstant walk) p inner rows.scalar rows.own (rule (over asked.samples) asked.kept (shape_of rows.tree)) (r.gives (onces_below asked inner p (of_sort down e) stay)) down e;
       within = c.trees_stay_within.ensures.same asked walk inner p (shape_of rows.tree) (IsOver.of_sort down e) r.within;
     }
 
@@ -25,6 +26,6 @@ returns-clause-vector c = λ asked walk p inner e i.
     record {
       sound = r.sound;
       scalar = λ h. absurd (cc);
-      gives = λ stay. vector_gives asked (IsInstant walk) p inner rows.scalar rows.own (rule asked.samples asked.kept (shape_of rows.tree)) (r.gives (onces_below asked inner p (of_vector e) stay)) e;
+      gives = λ stay. vector_gives asked (IsInstant walk) p inner rows.scalar rows.own (rule (over asked.samples) asked.kept (shape_of rows.tree)) (r.gives (onces_below asked inner p (of_vector e) stay)) e;
       within = c.trees_stay_within.ensures.same asked walk inner p (shape_of rows.tree) (IsOver.of_vector e) r.within;
     }

@@ -1,5 +1,6 @@
 use Rattle.std.proofs.Common.{◌≡◌, None, refl, subst, sym, rules}
 use Rattle.std.specs.Prelude.{IsTrue}
+use Rattle.plan_tree.specs.Worlds.{world}
 use Rattle.plan_tree.specs.Nodes.{CanGo, shape_of}
 use Rattle.plan_tree.specs.Shapes.{BinaryOf, Shape}
 use Rattle.plan_tree.specs.Spending.{IsFresh}
@@ -19,7 +20,7 @@ returns-clause-made c =
     record {
       made = record { shape_is = shape; scalar_is = refl; plain = refl };
       reads = reads;
-      can = λ store kept k l. (subst (λ (n : Node). CanGo store kept None n) (sym rows) k, subst (λ (n : Node). CanGo store kept None n) (sym beside) l);
+      can = λ store kept k l gs ps. (subst (λ (n : Node). CanGo (world store gs) kept ps None n) (sym rows) (k gs ps), subst (λ (n : Node). CanGo (world store gs) kept ps None n) (sym beside) (l gs ps));
       fresh = λ f g. (subst IsFresh (sym rows) f, subst IsFresh (sym beside) g);
       within = λ asked walk left right p o v w. subst (λ (s : Shape). StaysWithin asked walk p s) (sym shape)
           (c.trees_stay_within.ensures.beside asked walk left right p rule (shape_of c.args.rows.tree) (shape_of c.args.beside.tree) o v w);

@@ -1,5 +1,6 @@
 use Rattle.std.proofs.Common.{◌≡◌, None, refl, subst, sym, rules}
 use Rattle.std.specs.Prelude.{IsTrue}
+use Rattle.plan_tree.specs.Worlds.{world}
 use Rattle.plan_tree.specs.Nodes.{CanGo, shape_of}
 use Rattle.plan_tree.specs.Shapes.{ClampOf, Shape}
 use Rattle.plan_tree.specs.Spending.{IsFresh}
@@ -20,8 +21,11 @@ returns-clause-made c =
     record {
       made = record { shape_is = shape; scalar_is = refl; plain = refl };
       scalars = scalars;
-      can = λ store kept k l m.
-          (subst (λ (n : Node). CanGo store kept None n) (sym rows) k, subst (λ (n : Node). CanGo store kept None n) (sym low) l, subst (λ (n : Node). CanGo store kept None n) (sym high) m);
+      can = λ store kept k l m gs ps. (
+        subst (λ (n : Node). CanGo (world store gs) kept ps None n) (sym rows) (k gs ps),
+        subst (λ (n : Node). CanGo (world store gs) kept ps None n) (sym low) (l gs ps),
+        subst (λ (n : Node). CanGo (world store gs) kept ps None n) (sym high) (m gs ps),
+      );
       fresh = λ f g h. (subst IsFresh (sym rows) f, subst IsFresh (sym low) g, subst IsFresh (sym high) h);
       within = λ asked walk first second third p o u v w. subst (λ (s : Shape). StaysWithin asked walk p s) (sym shape)
           (c.trees_stay_within.ensures.three asked walk first second third p rule (shape_of c.args.rows.tree) (shape_of c.args.low.tree) (shape_of c.args.high.tree) o u v w);

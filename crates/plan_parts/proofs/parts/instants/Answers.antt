@@ -9,7 +9,7 @@ returns-clause-made c =
     let shape = ap InstantsOf c.in_ok-new.ensures.rule in
     record {
       made = record { shape_is = shape; scalar_is = refl; plain = refl };
-      can = λ store kept. tt;
+      can = λ store kept gs ps. tt;
       fresh = tt;
       within = λ asked walk p. subst (λ (s : Shape). StaysWithin asked walk p s) (sym shape) (c.trees_stay_within.ensures.number asked walk p one);
     }

@@ -1,6 +1,7 @@
-use Rattle.std.proofs.Common.{◌≡◌, None, refl, subst, sym, ap}
+use Rattle.std.proofs.Common.{◌≡◌, ◌∙◌, None, refl, subst, sym, ap}
+use Rattle.plan_tree.specs.Worlds.{over, world}
 use Rattle.plan_tree.specs.Nodes.{CanGo, shape_of}
-use Rattle.plan_tree.specs.Shapes.{IsFit, OnceOf, Shape, StaysInTimes, is_scalar, rule}
+use Rattle.plan_tree.specs.Shapes.{IsFit, OnceOf, Shape, StaysInTimes, is_scalar, places_of, rule}
 use Rattle.plan_tree.specs.Spending.{IsFresh}
 use Rattle.plan_tree.specs.declared.node.Node.{Node}
 use Rattle.ticks.specs.Walks.{IsInstant}
@@ -24,13 +25,14 @@ returns-clause-part c = λ asked walk below p inner begins w e i.
     record {
       sound = record {
         fit = subst (IsFit asked.samples) (sym shape) r.sound.fit;
-        can = (subst (λ (n : Node). CanGo asked.samples asked.kept None n) (sym same) r.sound.can, tt);
+        can = λ gs ps. (subst (λ (n : Node). CanGo (world asked.samples gs) asked.kept ps None n) (sym same) (r.sound.can gs ps), tt);
+        alone = ap places_of shape ∙ r.sound.alone;
         times = λ t h. subst (λ (s : Shape). StaysInTimes s c.args.first.0) (sym shape) (r.sound.times c.args.first.0 now);
         fresh = subst IsFresh (sym same) r.sound.fresh;
       };
       scalar = λ h. subst (λ (s : Shape). IsTrue (is_scalar s)) (sym shape) (r.scalar h);
-      gives = λ stay. subst (λ (s : Shape). Gives asked (IsInstant walk) p child.scalar child.own (λ t. rule asked.samples asked.kept s c.args.first.0)) (sym shape)
-          (once_gives asked (IsInstant walk) (IsInstant below) p inner child.scalar child.own (rule asked.samples asked.kept (shape_of child.tree)) c.args.first.0 (r.gives (onces_below asked inner p (of_once e) stay)) now e (stay.same inner (here p e)));
+      gives = λ stay. subst (λ (s : Shape). Gives asked (IsInstant walk) p child.scalar child.own (λ t. rule (over asked.samples) asked.kept s c.args.first.0)) (sym shape)
+          (once_gives asked (IsInstant walk) (IsInstant below) p inner child.scalar child.own (rule (over asked.samples) asked.kept (shape_of child.tree)) c.args.first.0 (r.gives (onces_below asked inner p (of_once e) stay)) now e (stay.same inner (here p e)));
       within = subst (λ (s : Shape). StaysWithin asked walk p (OnceOf c.args.first s)) (sym shape)
           (c.trees_stay_within.ensures.once asked walk inner p c.args.first (shape_of child.tree) e begins (subst (λ (z : Walk). StaysWithin asked z inner (shape_of child.tree)) w r.within));
     }

@@ -33,12 +33,13 @@ returns-clause-part g c = λ p e.
     record {
       sound = record {
         fit = (there, once);
-        can = record {
+        can = λ gs ps. record {
           marks = made.marks c.args.store.now;
           labels = subst (λ (r : Reached). AreNamed r kernel.buffer.labels c.args.store.now kernel.series) (sym made.fresh) tt;
           reached = made.fresh;
           edge = subst (λ (r : Reached). IsReached kernel.moment.closed lookback r) (sym made.fresh) tt;
         };
+        alone = refl;
         times = here;
         fresh = tt;
       };

@@ -1,8 +1,10 @@
-use Rattle.std.proofs.Common.{◌≡◌, [], subst, sym}
+use Rattle.std.proofs.Common.{◌≡◌, [], Some, subst, sym}
 use Rattle.frac_text.specs.Times.{time_limit}
 use Rattle.logical_plan.specs.declared.nodes.Plan.{Plan}
+use Rattle.plan_tree.specs.Chains.{IsReady}
 use Rattle.plan_tree.specs.Nodes.{shape_of}
 use Rattle.plan_tree.specs.Shapes.{rule}
+use Rattle.plan_tree.specs.Worlds.{no_gathers, over}
 use Rattle.promql_ast.specs.declared.tree.Expr.{Expr}
 use Rattle.promql_meaning.specs.Meaning.{meaning_step}
 use Rattle.promql_meaning.specs.Results.{grid_times}
@@ -30,8 +32,12 @@ collected-requires-clause-gives g c =
     let well_typed = subst (λ (e : Expr). (judged e).refusals ≡ []) c.expr.ensures.tree c.expr.ensures.well_typed in
     let placed = c.kept_patterns_are_placed.ensures kept (placed_of c.args.typed.now) tree well_typed c.requires.kept c.requires.apart in
     let stay = c.steady_onces_stay.ensures asked c.in_ok-plan.plan c.in_ok-plan.ensures.onces in
-    subst (λ (k : Kept). steps_over (rule store k shape) (grid_times grid) ≡ steps_over (meaning_step (asked_over store k grid) tree) (grid_times grid)) (sym c.build.ensures.same)
-    (steps_are_meant asked grid c.in_ok-plan.plan tree (rule store kept shape) (c.grids_are_listed.ensures grid) (c.in-Ok.ensures.gives stay) (λ t. c.in_ok-plan.ensures.means asked t c.series.ensures.labelled placed))
+    subst (λ (k : Kept). steps_over (rule (over store) k shape) (grid_times grid) ≡ steps_over (meaning_step (asked_over store k grid) tree) (grid_times grid)) (sym c.build.ensures.same)
+    (steps_are_meant asked grid c.in_ok-plan.plan tree (rule (over store) kept shape) (c.grids_are_listed.ensures grid) (c.in-Ok.ensures.gives stay) (λ t. c.in_ok-plan.ensures.means asked t c.series.ensures.labelled placed))
+
+-- it asks no engine
+pub collected-requires-clause-ready : goal.collected-requires-clause-ready
+collected-requires-clause-ready g c = λ es. subst (λ (k : Kept). IsReady c.args.store.now k (Some no_gathers) es c.in-Ok.tree) (sym c.build.ensures.same) (c.in-Ok.ensures.ready es)
 
 -- the outcome is that over the patterns that were kept before
 pub returns-in-Ok-clause-result : goal.returns-in-Ok-clause-result

@@ -1,6 +1,7 @@
 use Rattle.std.proofs.Common.{◌≡◌, ◌∙◌, None, false, refl, subst, sym, true}
 use Rattle.match_rule.specs.Patterns.{HaveTheirPatterns}
 use Rattle.op_window.specs.Sliding.{walked_of}
+use Rattle.plan_tree.specs.Worlds.{world}
 use Rattle.plan_tree.specs.Nodes.{CanGo, shape_of}
 use Rattle.plan_tree.specs.Shapes.{SeriesOf}
 use Rattle.plan_tree.specs.Spending.{IsFresh}
@@ -21,14 +22,14 @@ returns-clause-part g c = λ p inner arguments e i one.
     let m = sym made.moment in
     let r = sym made.range in
     series_part asked walk p inner c.args.f arguments e _ scalar one c.walk_moments_are_moments.ensures c.trees_stay_within.ensures.window c.args.selector.now c.in_ok-series.series c.settled-moment.result
-    (λ j. SeriesOf (made.series j) (made.f j) (made.moment j) (made.range j) (shape_of (same j))) refl refl (
+    (λ j. SeriesOf (made.series j) (made.f j) (made.moment j) (made.range j) (shape_of (same j))) refl refl (λ gs ps. (
       record {
         walked = made.walked asked.samples ∙ (λ j. walked_of (m j).closed (r j).0 (sym made.fresh j) asked.samples (sym made.series j));
         reached = made.fresh;
         edge = subst (IsReached kernel.moment.closed kernel.range.0) (sym made.fresh) tt;
       },
-      subst (λ (n : Node). CanGo asked.samples asked.kept None n) (sym same) one.sound.can,
-    )
+      subst (λ (n : Node). CanGo (world asked.samples gs) asked.kept ps None n) (sym same) (one.sound.can gs ps),
+    ))
     (subst IsFresh (sym same) one.sound.fresh) c.in_ok-series.ensures.selected c.in_ok-series.ensures.chosen (c.settled-moment.ensures.moment c.args.store.now c.args.patterns.now) c.settled-moment.ensures.closed
     (c.if-not-are_within.ensures.forward refl) c.walk.ensures.instants (c.if-not-are_within.ensures.times refl) i
 

@@ -2,6 +2,7 @@ use Rattle.std.proofs.Common.{◌∙◌, None, false, refl, subst, sym}
 use Rattle.std.proofs.lemmas.Result.{err_from_is_err_and}
 use Rattle.logical_plan.specs.declared.nodes.PlanNode.TheVariants as node
 use Rattle.plan_parts.specs.Parts.{IsBuilt, IsPart}
+use Rattle.plan_tree.specs.Worlds.{over, world}
 use Rattle.plan_tree.specs.Nodes.{CanGo, shape_of}
 use Rattle.plan_tree.specs.Shapes.{PointsOf, rule}
 use Rattle.plan_tree.specs.Spending.{IsFresh}
@@ -28,14 +29,14 @@ returns-clause-part c = λ asked p inner q moment range step arguments e i insid
     let leads = coe 0 1 (k. multiples-times walk own.moment own.range own.step k) (subst LeadsToTimes below c.walk.ensures.times) in
     let inner_same = c.in_ok-new.ensures.ok in
     let same = c.in_ok-new-2.ensures.ok in
-    let stands = made.stands (rule asked.samples asked.kept (shape_of c.in_ok-new.field-0.value)) in
+    let stands = made.stands (rule (over asked.samples) asked.kept (shape_of c.in_ok-new.field-0.value)) in
     let walk_is = stands.walk ∙ (λ j. Multiples (c.walk-2.ensures.walk j) (made.moment j) (made.range j) (made.step j)) in
     points_part asked walk p inner c.args.f arguments e _ scalar one c.walk_moments_are_moments.ensures c.multiples_are_all.ensures c.trees_stay_within.ensures.subquery q moment own.range own.step own.moment rows
-    (λ j. PointsOf (made.f j) (walk_is j) (made.moment j) (made.range j) (made.step j) (shape_of (inner_same j)) (shape_of (same j))) refl refl (
-      record { outer = c.walk-2.result.now; stands = stands; next = made.next },
-      subst (λ (n : Node). CanGo asked.samples asked.kept None n) (sym inner_same) child.sound.can,
-      subst (λ (n : Node). CanGo asked.samples asked.kept None n) (sym same) one.sound.can,
-    )
+    (λ j. PointsOf (made.f j) (walk_is j) (made.moment j) (made.range j) (made.step j) (shape_of (inner_same j)) (shape_of (same j))) refl refl (λ gs ps. (
+      record { outer = c.walk-2.result.now; stands = made.stands (rule (world asked.samples gs) asked.kept (shape_of c.in_ok-new.field-0.value)); next = made.next },
+      subst (λ (n : Node). CanGo (world asked.samples gs) asked.kept ps None n) (sym inner_same) (child.sound.can gs ps),
+      subst (λ (n : Node). CanGo (world asked.samples gs) asked.kept ps None n) (sym same) (one.sound.can gs ps),
+    ))
     (refl, subst IsFresh (sym inner_same) child.sound.fresh, subst IsFresh (sym same) one.sound.fresh) child inside.timed inside.closed leads.2 c.walk-2.ensures.instants (i ∙ (λ j. node.Subquery q (sym inside.range_is j) (sym inside.step_is j) moment))
 
 pub returns-in_err-rows-clause-total : goal.returns-in_err-rows-clause-total
