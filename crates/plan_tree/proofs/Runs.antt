@@ -1,16 +1,23 @@
 -- What calls one after another make of engines.
-use Rattle.std.proofs.Common.{◌≡◌, ◌∙◌, ℕ, ◌<◌, ◌≤◌, true, List, length, slice_get, refl, subst, sym, arith, Some}
+use Rattle.std.proofs.Common.{◌≡◌, ◌∙◌, ℕ, ◌<◌, ◌≤◌, true, List, Option, length, slice_get, refl, subst, sym, arith, Some}
 use Rattle.std.specs.Prelude.{Ok, Err, Result, IfErr, OnOk, IsErrAnd, is_some, ⊤}
 use Rattle.edge_io.specs.Causes.{Rose}
 use Rattle.exchange.specs.Calls.{Each, Grows, HasSameAsks}
+use Rattle.exchange.specs.Exchanging.{Exchanging}
 use Rattle.exchange.specs.Faults.{Faulted, HasFailed, HasStrayed}
 use Rattle.exchange.specs.Standing.{Tells}
 use Rattle.exchange.specs.declared.fault.RunFault.{RunFault}
 use Rattle.exchange.specs.declared.fault.RunFault.TheVariants as run
+use Rattle.exchange.specs.declared.place.Place.{Place}
+use Rattle.op_labels.specs.Rules.{Kept}
 use Rattle.remote_api.specs.Seen.{EngineSeen, KeepsStrays}
 use Rattle.remote_api.specs.declared.frame.Stray.{Stray}
-use Rattle.plan_tree.specs.Feeding.{HasGone, HasRun}
+use Rattle.sample_store.specs.Samples.{AllSeries}
+use Rattle.ticks.specs.declared.moment.Ms.{Ms}
+use Rattle.plan_tree.specs.Feeding.{HasFed, HasGone, HasRun}
 use Rattle.plan_tree.specs.Runs.{as_run}
+use Rattle.plan_tree.specs.declared.node.Node.{Node}
+use Rattle.plan_tree.specs.declared.turns.Fed.{Fed}
 use Rattle.plan_tree.proofs.Numbers.{get_within, some_same, within_get}
 
 each_refl : (R : EngineSeen → EngineSeen → Type 0) (es : List EngineSeen) → ((e : EngineSeen) → R e e) → Each R es es
@@ -131,9 +138,23 @@ ran {T} {E} {P} {Q} made r e h f = subst (λ (z : Result T RunFault). OnOk z Q) 
     by (Ok x) h = f h
     by (Err x) h = tt
 
+-- what holds of an answer together
 pub on_both : {T E : Type 0} (P Q : Type 0) (r : Result T E) → OnOk r P → OnOk r Q → OnOk r (P × Q)
 on_both P Q (Ok x) p q = (p, q)
 on_both P Q (Err x) p q = tt
+
+pub on_five : {T E : Type 0} (A B C D F : Type 0) (r : Result T E) → OnOk r A → OnOk r B → OnOk r C → OnOk r D → OnOk r F → OnOk r (A × B × C × D × F)
+on_five A B C D F (Ok x) a b c d f = (a, b, c, d, f)
+on_five A B C D F (Err x) a b c d f = tt
+
+-- over engines and an exchange that end as equal ones do
+pub run_as : {T : Type 0} (r : Result T RunFault) (es fs gs : List EngineSeen) → gs ≡ fs → HasRun r es fs → HasRun r es gs
+run_as r es fs gs e h = subst (HasRun r es) (sym e) h
+
+pub fed_where : {T : Type 0} (r : Result T RunFault) (store : AllSeries) (kept : Kept) (es fs gs : List EngineSeen) (places : List Place) (now later : Exchanging) (fed : Option Fed) (at : List Ms) (old new : Node) → gs ≡ fs → later ≡ now
+    → OnOk r (HasFed store kept es fs places now.places fed at old new) → OnOk r (HasFed store kept es gs places later.places fed at old new)
+fed_where r store kept es fs gs places now later fed at old new e f h =
+    subst (λ (x : List EngineSeen). OnOk r (HasFed store kept es x places later.places fed at old new)) (sym e) (subst (λ (x : Exchanging). OnOk r (HasFed store kept es fs places x.places fed at old new)) (sym f) h)
 
 -- engines that tell go on doing so
 pub tell_on : (es fs : List EngineSeen) → length fs ≡ length es → Each Grows es fs → ((i : ℕ) (e : EngineSeen) → slice_get es i ≡ Some e → Tells e) → (i : ℕ) (f : EngineSeen) → slice_get fs i ≡ Some f → Tells f

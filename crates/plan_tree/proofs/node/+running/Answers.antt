@@ -31,7 +31,7 @@ use Rattle.plan_tree.proofs.Parts.{all_weaker, as_tree, come_made, fed_as, fed_g
 use Rattle.plan_tree.proofs.Possible.{completed, completed_are, grown_none, grown_then, possible_before}
 use Rattle.plan_tree.proofs.Repeats.{repeated_end}
 use Rattle.plan_tree.proofs.Rings.{last_end, last_next, one_at, points_over}
-use Rattle.plan_tree.proofs.Runs.{done, done_none, kernel_runs, memory_behind, on_both, own_behind, ran, run_done, run_fault, run_ok_as, run_then}
+use Rattle.plan_tree.proofs.Runs.{done, done_none, kernel_runs, memory_behind, on_both, on_five, own_behind, ran, run_done, run_fault, run_ok_as, run_then}
 use Rattle.plan_tree.proofs.Spent.{Filled, failed_as, fed_once, fill_fails, fill_made, fill_waits, filled_end, filled_fails, filled_more, filled_none, leaf_spends, leaf_unread, made_as, once_fails, once_feeds, once_made, once_stays, part_fails, part_made, part_spends, stays_made, sum_fails, sum_made, three_fail, three_made, two_fail, two_made, unread, up_to_on}
 use Rattle.plan_tree.proofs.node.+running.Goals as goal
 
@@ -119,13 +119,13 @@ Node::feed-returns-in-Select-clause-fed g t c =
     let new = c.feed-in-Select.new.self in
     let made = c.feed-in-Select.result in
     let e = c.feed-in-Select.ensures in
-    ran made c.or_memory-in-Select.result c.or_memory-in-Select.ensures (on_both _ _ made e.lent (on_both _ _ made (on_both _ _ made e.reached e.marks) (on_both _ _ made e.labels e.edge)))
+    ran made c.or_memory-in-Select.result c.or_memory-in-Select.ensures (on_five _ _ _ _ _ made e.lent e.reached e.marks e.labels e.edge)
     (λ f. fed_as S K _ _ P P fed at c.args.self.now _ _ c.in-Select.is (λ c0. record {
       taken = c0.goes_on.taken;
       grown = grown_none c0.goes_on.taken;
       out = c0.goes_on.out;
       lent = λ g p. f.0;
-      can = λ g p. select_on S fed k new at (c0.goes_on.can g p) e.series e.moment f.1.0 f.1.1 f.2.0 f.2.1;
+      can = λ g p. select_on S fed k new at (c0.goes_on.can g p) e.series e.moment f.1 f.2 f.3 f.4;
       come = tt;
     }))
 
