@@ -105,6 +105,9 @@ fn copy_of<T: Copy>(alloc: Global, items: &[T]) -> Result<Vec<T>, AllocError>
     Ok(copy)
 }
 
+/// How many samples there is room for from the first one on.
+const FIRST: usize = 16;
+
 /// Room is made in both columns first, so that they stay of one length.
 fn push_both(
     times: &mut Vec<Ms>,
@@ -117,8 +120,9 @@ fn push_both(
     ensures same_times { OnErr result (times.new.items ≡ times.old.items) }
     ensures same_values { OnErr result (values.new.items ≡ values.old.items) }
 {
-    times.reserve(1)?;
-    values.reserve(1)?;
+    let more = if times.is_empty() { FIRST } else { 1 };
+    times.reserve(more)?;
+    values.reserve(more)?;
     times.push(at)?;
     values.push(value)?;
     Ok(())
