@@ -150,6 +150,7 @@ impl Exchange {
         ensures others { (k : ℕ) → (k ≡ gather → ⊥) → slice_get self.new.places k ≡ slice_get self.old.places k }
         ensures asks { (place one : Place) → slice_get self.old.places gather ≡ Some place → slice_get self.new.places gather ≡ Some one → one.asks ≡ place.asks }
         ensures idle { (place : Place) → slice_get self.old.places gather ≡ Some place → is_ready place.gather ≡ true → engines.new ≡ engines.old }
+        ensures unasked { (place : Place) → slice_get self.old.places gather ≡ Some place → is_ready place.gather ≡ true → courier.new ≡ courier.old }
         ensures alone { (place : Place) (b : Asking) → slice_get self.old.places gather ≡ Some place → IsApartFrom place.asks b → OnOk result (AskStays b (map (λ b. seen b) engines.old) (map (λ b. seen b) engines.new)) }
         ensures calm { OnOk result (Each KeepsStrays (map (λ b. seen b) engines.old) (map (λ b. seen b) engines.new)) }
         ensures asked { OnOk result (Each HasSameAsks (map (λ b. seen b) engines.old) (map (λ b. seen b) engines.new)) }

@@ -126,6 +126,7 @@ fn fill<C: Courier>(
     ensures stands { (p : Progress) → PlaceStands patterns.old (map (λ b. seen b) engines.old) place.old p → OnOk result (PlaceStands patterns.old (map (λ b. seen b) engines.new) place.new p) }
     ensures ready { OnOk result (is_ready place.new.gather ≡ true) }
     ensures idle { is_ready place.old.gather ≡ true → engines.new ≡ engines.old }
+    ensures unasked { is_ready place.old.gather ≡ true → courier.new ≡ courier.old }
     ensures alone { (b : Asking) → IsApartFrom place.old.asks b → OnOk result (AskStays b (map (λ b. seen b) engines.old) (map (λ b. seen b) engines.new)) }
     ensures calm { OnOk result (Each KeepsStrays (map (λ b. seen b) engines.old) (map (λ b. seen b) engines.new)) }
     ensures asked { OnOk result (Each HasSameAsks (map (λ b. seen b) engines.old) (map (λ b. seen b) engines.new)) }
@@ -168,6 +169,7 @@ pub(crate) fn advance_place<C: Courier>(
     ensures told { (p : Progress) (t : Ms) → PlaceStands patterns.old (map (λ b. seen b) engines.old) place.old p → slice_get p.all p.taken ≡ Some t → AllTell place.old.asks (map (λ b. seen b) engines.old)
         → OnOk result (LendsJoined p.kind t (steps_at p.taken p.owed) place.new.gather.lent place.new.gather.windows) }
     ensures idle { is_ready place.old.gather ≡ true → engines.new ≡ engines.old }
+    ensures unasked { is_ready place.old.gather ≡ true → courier.new ≡ courier.old }
     ensures alone { (b : Asking) → IsApartFrom place.old.asks b → OnOk result (AskStays b (map (λ b. seen b) engines.old) (map (λ b. seen b) engines.new)) }
     ensures calm { OnOk result (Each KeepsStrays (map (λ b. seen b) engines.old) (map (λ b. seen b) engines.new)) }
     ensures asked { OnOk result (Each HasSameAsks (map (λ b. seen b) engines.old) (map (λ b. seen b) engines.new)) }

@@ -80,6 +80,15 @@ returns-clause-idle g c =
     let at : slice_get own c.args.gather ≡ Some old = slice_get_read own (length own) c.args.gather old refl within c.index_mut-place.ensures.value in
     λ place place_at ready. c.advance_place.ensures.idle (ap is_ready (ap (λ (x : Place). x.gather) (sym (place_same own c.args.self.now.places c.args.gather place old e at place_at))) ∙ ready)
 
+pub returns-clause-unasked : goal.returns-clause-unasked
+returns-clause-unasked g c =
+    let own = c.self.inside.places.items in
+    let e : own ≡ c.args.self.now.places = ap (λ (x : Exchanging). x.places) c.self.view_is in
+    let within : c.args.gather < length own = place_within_own c.args.gather _ _ own c.args.self.now.places e c.requires in
+    let old = c.index_mut-place.result.now in
+    let at : slice_get own c.args.gather ≡ Some old = slice_get_read own (length own) c.args.gather old refl within c.index_mut-place.ensures.value in
+    λ place place_at ready. c.advance_place.ensures.unasked (ap is_ready (ap (λ (x : Place). x.gather) (sym (place_same own c.args.self.now.places c.args.gather place old e at place_at))) ∙ ready)
+
 pub returns-clause-alone : goal.returns-clause-alone
 returns-clause-alone g c =
     let own = c.self.inside.places.items in
