@@ -1,0 +1,5 @@
+pub mod Counting
+pub mod Feeding
+pub mod Narrowing
+pub mod Putting
+pub mod Tried

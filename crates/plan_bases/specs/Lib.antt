@@ -1,0 +1,5 @@
+pub mod Bases
+pub mod LeafLaws
+pub mod Leaves
+pub mod Looks
+pub mod RuleEquality
