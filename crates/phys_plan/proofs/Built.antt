@@ -3,6 +3,7 @@ use Rattle.std.proofs.Common.{◌≡◌, ◌∙◌, ◌<◌, ◌≤◌, ℕ, Boo
 use Rattle.std.specs.Prelude.{ℤ, IsTrue, if◌then◌else◌}
 use Rattle.logical_plan.specs.PlanMeaning.{plan_step}
 use Rattle.logical_plan.specs.declared.nodes.Plan.{Plan}
+use Rattle.op_labels.specs.Rules.{Kept}
 use Rattle.plan_parts.specs.Gives.{Gives, given_as}
 use Rattle.plan_parts.specs.Parts.{IsPart}
 use Rattle.plan_parts.specs.declared.parts.Part.{Part}
@@ -15,12 +16,13 @@ use Rattle.plan_tree.specs.Worlds.{no_gathers}
 use Rattle.plan_tree.specs.declared.node.Node.{Node}
 use Rattle.plan_tree.specs.declared.tree.Tree.{Tree}
 use Rattle.promql_meaning.specs.Givens.{step_of}
-use Rattle.promql_meaning.specs.Selecting.{Asked}
+use Rattle.promql_meaning.specs.Selecting.{AllSeries, Asked, asked_over}
 use Rattle.promql_meaning.specs.declared.given.Given.{Given}
 use Rattle.remote_api.specs.Seen.{EngineSeen}
 use Rattle.step_table.specs.declared.step.Step.{Step}
 use Rattle.ticks.specs.Listed.{EachWalkIsListed, IsListed}
 use Rattle.ticks.specs.Walks.{IsInstant, LeadsToTimes}
+use Rattle.ticks.specs.declared.grid.Grid.{Grid}
 use Rattle.ticks.specs.declared.walk.Walk.{Walk}
 
 -- ---- steps
@@ -73,3 +75,9 @@ new_ready begin each asked p es tree part walk batch new times some is =
     (subst (λ (n : Node). IsBound asked.samples listed.0 (shape_of n) cost.cost) (sym new.node_is) cost.of)
     (some_left (is_single (shape_of part.tree)) tree.batch batch new.batch_is some)
     (λ h. one_alone (is_single (shape_of part.tree)) tree.batch batch new.batch_is (subst (λ (n : Node). IsTrue (is_single (shape_of n))) new.node_is h))
+
+-- the same over the samples and with the patterns that its bases were found over
+pub part_over : (store samples : AllSeries) (kept now : Kept) (span : Grid) (course walk : Walk) (p : Plan) (part : Part) → samples ≡ store → now ≡ kept → walk ≡ course
+    → IsPart (asked_over samples now span) course p part → IsPart (asked_over store kept span) walk p part
+part_over store samples kept now span course walk p part e f copied is =
+    part_on (asked_over store kept span) course walk p part copied (subst (λ (z : Asked). IsPart z course p part) (λ i. asked_over (e i) (f i) span) is)

@@ -26,11 +26,12 @@ use Rattle.step_table.specs.Groups.{Names}
 use Rattle.ticks.specs.declared.moment.Ms.{Ms}
 use Rattle.xfrac.specs.declared.value.PairOp.{PairOp}
 use Rattle.xfrac.specs.declared.value.XFrac.{XFrac}
+use Rattle.plan_bases.specs.Bases.{Lists}
 use Rattle.plan_parts.specs.Parts.{IsBuilt, IsChild}
 use Rattle.plan_parts.specs.declared.parts.Part.{Part}
 use Rattle.plan_parts.specs.declared.unbuilt.Unbuilt.{Unbuilt}
 use Rattle.phys_plan.specs.Growth.{CanGrow, GivesNumbers}
-use Rattle.phys_plan.proofs.InPlace.{in_place_below, left_true, right_true}
+use Rattle.phys_plan.proofs.InPlace.{holds_below, in_place_below, left_true, right_true}
 use Rattle.phys_plan.proofs.KindsOf.{IsNumber, element_alone, element_beside_one, element_beside_two, element_few, group_alone, group_beside, group_few, of_kind, pair_numbers, scalar_number, vector_number, window_beside, window_few}
 
 -- ---- what nodes give
@@ -122,12 +123,12 @@ kinds_count (p ∷ ps) = ap suc (kinds_count ps)
 
 -- ---- children that have trees
 
-module _ (kept : Kept) (n : ℕ) where
+module _ (kept : Kept) (lists : Lists) (n : ℕ) where
   abbrev Can : Plan → Type 0
-  Can = CanGrow kept n
+  Can = CanGrow kept lists n
 
   grow : {c p : Plan} → IsChild c p → Can p → IsNumber (T c).kind → Can c
-  grow child can number = record { placed = in_place_below kept n child can.placed; number = number }
+  grow child can number = record { placed = in_place_below kept n child can.placed; number = number; holds = holds_below kept lists child can.holds }
 
   vector_below : {c p : Plan} → IsChild c p → Can p → is_of Vector (T c) ≡ true → Can c
   vector_below {c = c} child can h = grow child can (vector_number (T c).kind (of_kind Vector (T c) h))

@@ -19,6 +19,9 @@ use Rattle.promql_type.specs.Kinds.{is_kind}
 use Rattle.promql_type.specs.declared.kind.Kind.{Kind}
 use Rattle.promql_type.specs.declared.kind.Kind.TheVariants.{Scalar, Vector}
 use Rattle.ticks.specs.Durations.{hundred_years}
+use Rattle.plan_bases.specs.Bases.{HoldsPlan, Lists}
+use Rattle.plan_bases.specs.LeafLaws.{ReadingHolds, children_hold}
+use Rattle.plan_bases.specs.Leaves.{Reading, node_reading, reading}
 use Rattle.plan_parts.specs.Parts.{IsChild}
 use Rattle.plan_serving.specs.Serving.{IsServed, Serving, all_patterns, all_rules, are_served, node_serving, own_patterns, own_rules, own_served, serving}
 use Rattle.phys_plan.specs.Growth.{IsInPlace}
@@ -150,6 +153,9 @@ module _ (kept : Kept) where
   abbrev serving_layer : Plan → PlanNode-F Serving Serving
   serving_layer p = layer node_serving (λ q. q.node) p.node
 
+  abbrev reading_layer : Plan → PlanNode-F Reading Reading
+  reading_layer p = layer node_reading (λ q. q.node) p.node
+
   measure_is : (p : Plan) → measured p ≡ node_measure (measure_layer p) p.at
   measure_is p = by_node node_measure (λ q. q.node q.at) p
 
@@ -180,6 +186,11 @@ module _ (kept : Kept) where
   shallow_below {c = c} {p = p} child =
       in_all (IsShallow (measured p).depth) (children (measure_layer p)) (measured c)
       (shallow_all (measure_layer p) p.at (measured p).depth (subst (λ (m : Measure). m.depth ≤ (measured p).depth) (measure_is p) (omega arith))) (child_in node_measure (λ q. q.node q.at) child)
+
+  pub holds_below : (lists : Lists) {c p : Plan} → IsChild c p → HoldsPlan kept lists p → HoldsPlan kept lists c
+  holds_below lists {c = c} {p = p} child h =
+      in_all (ReadingHolds kept lists) (children (reading_layer p)) (reading c)
+      (children_hold kept lists (reading_layer p) (subst (ReadingHolds kept lists) (by_node node_reading (λ q. q.node) p) h)) (child_in node_reading (λ q. q.node) child)
 
   pub in_place_below : (n : ℕ) {c p : Plan} → IsChild c p → IsInPlace kept n p → IsInPlace kept n c
   in_place_below n {c = c} {p = p} child i = record {

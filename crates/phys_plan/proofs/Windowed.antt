@@ -25,13 +25,14 @@ use Rattle.promql_ast.specs.declared.tree.Moment.{Moment}
 use Rattle.promql_type.specs.declared.kind.Kind.TheVariants.{Vector}
 use Rattle.step_table.specs.declared.cells.PartKind.{PartKind}
 use Rattle.ticks.specs.declared.moment.Ms.{Ms}
+use Rattle.plan_bases.specs.Bases.{HoldsPlan, Lists}
 use Rattle.plan_parts.specs.Courses.{IsLength, IsMomentWithin}
 use Rattle.plan_parts.specs.Parts.{IsChild}
 use Rattle.plan_serving.specs.Serving.{Serving, all_rules, are_served, node_points, node_serving, serving}
 use Rattle.window_parts.specs.Over.{IsRangePlan}
 use Rattle.phys_plan.specs.Growth.{CanGrow, HasTree, IsInPlace}
 use Rattle.phys_plan.proofs.Growths.{told, typing-Relabel}
-use Rattle.phys_plan.proofs.InPlace.{Fits, in_place_below, left_true}
+use Rattle.phys_plan.proofs.InPlace.{Fits, holds_below, in_place_below, left_true}
 use Rattle.phys_plan.proofs.KindsOf.{of_kind, vector_number}
 
 abbrev M : Plan → Measure
@@ -59,8 +60,8 @@ rolled_subquery q range step moment =
 
 -- ---- the whole plan
 
-pub whole_grows : (kept : Kept) (p : Plan) → HasTree kept p → CanGrow kept 0 p
-whole_grows kept p h = record {
+pub whole_grows : (kept : Kept) (lists : Lists) (p : Plan) → HoldsPlan kept lists p → HasTree kept p → CanGrow kept lists 0 p
+whole_grows kept lists p holds h = record {
   placed = record {
     typed = left_true (typing p).typed (is_unstamped (typing p).select) h.valid.typed;
     within = h.valid.within;
@@ -68,11 +69,12 @@ whole_grows kept p h = record {
     room = (let deep = h.valid.shallow in omega arith);
   };
   number = h.number;
+  holds = holds;
 }
 
-module _ (kept : Kept) (n : ℕ) where
+module _ (kept : Kept) (lists : Lists) (n : ℕ) where
   abbrev Can : Plan → Type 0
-  Can = CanGrow kept n
+  Can = CanGrow kept lists n
 
   -- ---- parts that engines are asked for
 
@@ -124,6 +126,9 @@ module _ (kept : Kept) (n : ℕ) where
     pub inner_placed : IsInPlace kept n inner
     inner_placed = in_place_below kept n (IsChild.of_window f arguments e) can.placed
 
+    pub inner_holds : HoldsPlan kept lists inner
+    inner_holds = holds_below kept lists (IsChild.of_window f arguments e) can.holds
+
     -- the windows are a range selector's or a subquery's
     windows_read : ((S inner).ranges || (S inner).points) ≡ true
     windows_read =
@@ -158,7 +163,7 @@ module _ (kept : Kept) (n : ℕ) where
       pub subquery_within : IsMomentWithin moment × IsLength range × IsLength step
       subquery_within = let all = subst (λ (m : Measure). AllByRecursion Fits m.parts) subquery_is inner_placed.within in (all.0, all.1.0, all.1.1.0)
 
-      pub subquery_grows : CanGrow kept (n + 1) q
+      pub subquery_grows : CanGrow kept lists (n + 1) q
       subquery_grows =
           let at = IsChild.of_subquery range step moment i in
           let below = in_place_below kept n at inner_placed in
@@ -171,4 +176,5 @@ module _ (kept : Kept) (n : ℕ) where
               room = (let room = inner_placed.room in let deep = ap (λ (m : Measure). m.depth) subquery_is in omega (arith, deep));
             };
             number = vector_number (typing q).kind (of_kind Vector (typing q) typed);
+            holds = holds_below kept lists at inner_holds;
           }

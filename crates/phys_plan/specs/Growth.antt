@@ -10,6 +10,7 @@ use Rattle.logical_plan.specs.Validity.{IsValid, deepest, measured}
 use Rattle.logical_plan.specs.declared.nodes.Plan.{Plan}
 use Rattle.logical_plan.specs.declared.nodes.PlanNode.TheVariants as node
 use Rattle.op_labels.specs.Rules.{Kept}
+use Rattle.plan_bases.specs.Bases.{HoldsPlan, Lists}
 use Rattle.plan_serving.specs.Serving.{IsServed}
 use Rattle.promql_ast.specs.Parts.{AreWithin}
 use Rattle.promql_type.specs.Kinds.{is_number}
@@ -35,10 +36,11 @@ pub record IsInPlace (kept : Kept) (n : ℕ) (p : Plan) : Type 0 where
   pub served : IsServed kept p
   pub room : n + (measured p).depth ≤ deepest
 
--- and it gives a scalar or a vector
-pub record CanGrow (kept : Kept) (n : ℕ) (p : Plan) : Type 0 where
+-- it gives a scalar or a vector, and the series of its leaves are there
+pub record CanGrow (kept : Kept) (lists : Lists) (n : ℕ) (p : Plan) : Type 0 where
   pub placed : IsInPlace kept n p
   pub number : GivesNumbers p
+  pub holds : HoldsPlan kept lists p
 
 -- ---- nodes
 

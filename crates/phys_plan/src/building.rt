@@ -2,6 +2,7 @@
 ghost use Rattle.logical_plan.specs.PlanMeaning.{plan_step};
 ghost use Rattle.logical_plan.specs.declared.nodes.Plan.{Plan};
 ghost use Rattle.phys_plan.specs.Growth.{HasTree};
+ghost use Rattle.plan_bases.specs.Looks.{LooksAt, plan_looks};
 ghost use Rattle.plan_parts.specs.Courses.{IsAsked};
 ghost use Rattle.plan_parts.specs.Parts.{IsPart, OncesStay};
 ghost use Rattle.plan_tree.specs.Chains.{IsReady};
@@ -9,7 +10,6 @@ ghost use Rattle.plan_tree.specs.Nodes.{shape_of};
 ghost use Rattle.plan_tree.specs.Shapes.{is_single, rule};
 ghost use Rattle.plan_tree.specs.Spending.{IsFresh};
 ghost use Rattle.plan_tree.specs.Worlds.{no_gathers, over};
-ghost use Rattle.plan_work.specs.Looks.{LooksAt, plan_looks};
 ghost use Rattle.plan_work.specs.TreeBounds.{StaysWithin};
 ghost use Rattle.promql_meaning.specs.Selecting.{Asked, asked_over};
 ghost use Rattle.remote_api.specs.Seen.{EngineSeen};
@@ -20,6 +20,7 @@ use crate::growing::grown;
 use crate::site::Site;
 use logical_plan::Plan;
 use match_rule::Patterns;
+use plan_bases::Bases;
 use plan_parts::{Course, Part, Unbuilt};
 use plan_tree::Tree;
 use plan_tree::laws::plain_trees_begin;
@@ -29,7 +30,8 @@ use std::sync::ledger::Ledger;
 use ticks::{Grid, Walk, Work, walks_are_listed};
 
 /// The tree of kernels of a plan that is asked at the instants of a walk over a store, at most `batch` of them at once; `span`
-/// has the start and the end that `@ start()` and `@ end()` stand for. It is `Invalid` where the plan isn't typed, where its
+/// has the start and the end that `@ start()` and `@ end()` stand for. The series of its selectors, and of filters over these, are found
+/// once, before the tree grows. It is `Invalid` where the plan isn't typed, where its
 /// patterns aren't kept, where it leads beyond the times, or where the walk is neither a grid nor one instant; of a valid plan that
 /// kernels serve it never is, and the only error is want of memory. (The kernels are those of thanos-io/promql-engine.)
 pub fn build<W: Ledger>(
@@ -58,16 +60,22 @@ pub fn build<W: Ledger>(
         → (t : ℤ) → IsInstant walk.now t → rule (over store.now) patterns.old (shape_of tree.node) t ≡ plan_step (asked_over store.now patterns.old span.now) p.now t) }
     // over the whole walk it may spend at most what the plan costs at the walk's instants, which is worked out by hand over its selectors
     ensures within { IfOk result (λ tree. StaysWithin (asked_over store.now patterns.old span.now) walk.now p.now (shape_of tree.node)) }
-    // on every answer at most the series were tested that the plan's selectors look at, and no sample was read
-    ensures tested { LooksAt work.old work.new (plan_looks store.now p.now) }
+    // on every answer at most the series were tested that the plan's distinct selectors look at, and those that each filter over a
+    // selector stands over, once for each of its rules; and no sample was read
+    ensures tested { LooksAt work.old work.new (plan_looks patterns.old store.now p.now) }
     ensures same { patterns.new ≡ patterns.old }
 {
     let Some(course) = Course::of(walk)? else {
         return Err(Unbuilt::Invalid);
     };
-    let site = Site { alloc, store, span };
+    let bases = Bases::of(alloc, p, store, patterns, work)?;
+    let site = Site {
+        alloc,
+        bases: &bases,
+        span,
+    };
     let walk = course.walk().copy()?;
-    let part = grown(&site, &course, p, patterns, work)?;
+    let part = grown(&site, &course, p, patterns)?;
     Ok(planted(alloc, part, walk, batch))
 }
 

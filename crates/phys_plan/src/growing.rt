@@ -2,10 +2,10 @@
 ghost use Rattle.logical_plan.specs.PlanTypes.{kinds_of, typing};
 ghost use Rattle.logical_plan.specs.declared.nodes.PlanNode.TheVariants as node;
 ghost use Rattle.phys_plan.specs.Growth.{CanGrow, IsChange, IsRetyping, IsTwofold};
+ghost use Rattle.plan_bases.specs.Bases.{AreRight};
 ghost use Rattle.plan_parts.specs.Courses.{IsCourseNear};
 ghost use Rattle.plan_parts.specs.Parts.{IsBuilt, IsPartOf};
 ghost use Rattle.plan_serving.specs.Serving.{serving};
-ghost use Rattle.plan_work.specs.Looks.{LooksAt, arguments_look, plan_looks};
 ghost use Rattle.promql_meaning.specs.Selecting.{asked_over};
 ghost use Rattle.promql_type.specs.Kinds.{is_scalar};
 ghost use Rattle.std.specs.Prelude.{◌≡◌, ℕ, true, [], ◌∷◌, map};
@@ -19,27 +19,21 @@ use plan_parts::kinds::{
     absent, applied, applied_with, as_scalar, as_vector, clamped, combined, copied, divided,
     grouped, number, paired, quantiles, ranked, relabelled, stamped, time,
 };
-use plan_parts::{Course, Part, Unbuilt, repeated, select};
-use plan_work::laws::{nodes_look, selectors_look, windows_look};
-use std::sync::ledger::Ledger;
-use ticks::Work;
+use plan_parts::{Course, Part, Unbuilt, instant_selector, repeated, select};
 use window_parts::{inside, points, series};
 
 /// The tree of a plan that is asked at the instants of a course.
 #[cycle(growing)]
-pub(crate) fn grown<W: Ledger>(
+pub(crate) fn grown(
     site: &Site<'_>,
     course: &Course,
     p: &Plan,
-    patterns: &mut Patterns<'_>,
-    work: &mut Work<W>,
+    patterns: &Patterns<'_>,
 ) -> Result<Part, Unbuilt>
-    ensures part { IsPartOf (asked_over site.now.store.now patterns.old site.now.span.now) course.now.walk p.now result }
-    ensures total { (n : ℕ) → IsCourseNear n course.now → CanGrow patterns.old n p.now → IsBuilt (is_scalar (typing p.now).kind) result }
-    ensures tested { LooksAt work.old work.new (plan_looks site.now.store.now p.now) }
-    ensures same { patterns.new ≡ patterns.old }
+    requires { AreRight patterns.now site.now.bases.now.samples site.now.bases.now.lists }
+    ensures part { IsPartOf (asked_over site.now.bases.now.samples patterns.now site.now.span.now) course.now.walk p.now result }
+    ensures total { (n : ℕ) → IsCourseNear n course.now → CanGrow patterns.now site.now.bases.now.lists n p.now → IsBuilt (is_scalar (typing p.now).kind) result }
 {
-    selectors_look();
     match &p.node {
         PlanNode::Number(value) => number(site.alloc, *value),
         PlanNode::Time => time(site.alloc),
@@ -48,62 +42,86 @@ pub(crate) fn grown<W: Ledger>(
             moment,
             stamped,
         } => select(
-            site.alloc, site.store, site.span, course, rules, moment, *stamped, patterns, work,
+            site.alloc, site.bases, site.span, course, rules, moment, *stamped,
         ),
-        PlanNode::Once(_) => once(site, course, p, patterns, work),
-        PlanNode::Element(_, _, _) => element(site, course, p, patterns, work),
-        PlanNode::Window(_, _, _) => window(site, course, p, patterns, work),
-        PlanNode::Group(_, _, _, _) => group(site, course, p, patterns, work),
-        PlanNode::Buckets(_, _) => over_two(site, course, p, patterns, work),
-        PlanNode::Pair(_, _, _, _) => over_two(site, course, p, patterns, work),
-        PlanNode::Set(_, _, _, _) => over_two(site, course, p, patterns, work),
-        PlanNode::Ratio { .. } => over_two(site, course, p, patterns, work),
-        PlanNode::ScalarOf(_) => retyped(site, course, p, patterns, work),
-        PlanNode::Sort { .. } => retyped(site, course, p, patterns, work),
-        PlanNode::VectorOf(_) => retyped(site, course, p, patterns, work),
-        PlanNode::Stamp(_) => over_one(site, course, p, patterns, work),
-        PlanNode::Absent { .. } => over_one(site, course, p, patterns, work),
-        PlanNode::Relabel(_, _) => over_one(site, course, p, patterns, work),
-        PlanNode::Filter { .. } => over_one(site, course, p, patterns, work),
+        PlanNode::Once(_) => once(site, course, p, patterns),
+        PlanNode::Element(_, _, _) => element(site, course, p, patterns),
+        PlanNode::Window(_, _, _) => window(site, course, p, patterns),
+        PlanNode::Group(_, _, _, _) => group(site, course, p, patterns),
+        PlanNode::Buckets(_, _) => over_two(site, course, p, patterns),
+        PlanNode::Pair(_, _, _, _) => over_two(site, course, p, patterns),
+        PlanNode::Set(_, _, _, _) => over_two(site, course, p, patterns),
+        PlanNode::Ratio { .. } => over_two(site, course, p, patterns),
+        PlanNode::ScalarOf(_) => retyped(site, course, p, patterns),
+        PlanNode::Sort { .. } => retyped(site, course, p, patterns),
+        PlanNode::VectorOf(_) => retyped(site, course, p, patterns),
+        PlanNode::Stamp(_) => over_one(site, course, p, patterns),
+        PlanNode::Absent { .. } => over_one(site, course, p, patterns),
+        PlanNode::Relabel(_, _) => over_one(site, course, p, patterns),
+        PlanNode::Filter { .. } => filtered(site, course, p, patterns),
         PlanNode::Range { .. } => Err(Unbuilt::Invalid),
         PlanNode::Subquery { .. } => Err(Unbuilt::Invalid),
         PlanNode::Gather { .. } => Err(Unbuilt::Invalid),
     }
 }
 
-/// The tree of a node with one child, whose rows change; none of another one.
+/// The tree of a filter: over a selector it reads the series alone that pass the rules of both, and over another part it passes rows on.
+/// None of another node.
 #[cycle(growing)]
-fn over_one<W: Ledger>(
+fn filtered(
     site: &Site<'_>,
     course: &Course,
     p: &Plan,
-    patterns: &mut Patterns<'_>,
-    work: &mut Work<W>,
+    patterns: &Patterns<'_>,
 ) -> Result<Part, Unbuilt>
-    ensures part { IsPartOf (asked_over site.now.store.now patterns.old site.now.span.now) course.now.walk p.now result }
-    ensures total { IsChange p.now → (n : ℕ) → IsCourseNear n course.now → CanGrow patterns.old n p.now → IsBuilt (is_scalar (typing p.now).kind) result }
-    ensures tested { LooksAt work.old work.new (plan_looks site.now.store.now p.now) }
-    ensures same { patterns.new ≡ patterns.old }
+    requires { AreRight patterns.now site.now.bases.now.samples site.now.bases.now.lists }
+    ensures part { IsPartOf (asked_over site.now.bases.now.samples patterns.now site.now.span.now) course.now.walk p.now result }
+    ensures total { (base rules : _) → p.now.node ≡ node.Filter base rules → (n : ℕ) → IsCourseNear n course.now → CanGrow patterns.now site.now.bases.now.lists n p.now → IsBuilt (is_scalar (typing p.now).kind) result }
 {
-    nodes_look();
+    match instant_selector(p)? {
+        Some(leaf) => select(
+            site.alloc,
+            site.bases,
+            site.span,
+            course,
+            &leaf.rules,
+            &leaf.moment,
+            false,
+        ),
+        None => over_one(site, course, p, patterns),
+    }
+}
+
+/// The tree of a node with one child, whose rows change; none of another one.
+#[cycle(growing)]
+fn over_one(
+    site: &Site<'_>,
+    course: &Course,
+    p: &Plan,
+    patterns: &Patterns<'_>,
+) -> Result<Part, Unbuilt>
+    requires { AreRight patterns.now site.now.bases.now.samples site.now.bases.now.lists }
+    ensures part { IsPartOf (asked_over site.now.bases.now.samples patterns.now site.now.span.now) course.now.walk p.now result }
+    ensures total { IsChange p.now → (n : ℕ) → IsCourseNear n course.now → CanGrow patterns.now site.now.bases.now.lists n p.now → IsBuilt (is_scalar (typing p.now).kind) result }
+{
     match &p.node {
         PlanNode::Stamp(inner) => {
-            let rows = grown(site, course, inner.get(), patterns, work);
+            let rows = grown(site, course, inner.get(), patterns);
             stamped(site.alloc, rows, patterns)
         }
         PlanNode::Absent { labels, inner } => {
             let labels = copied(labels)?;
-            let rows = grown(site, course, inner.get(), patterns, work);
+            let rows = grown(site, course, inner.get(), patterns);
             absent(site.alloc, labels, rows, patterns)
         }
         PlanNode::Relabel(rule, inner) => {
             let rule = rule.copy()?;
-            let rows = grown(site, course, inner.get(), patterns, work);
+            let rows = grown(site, course, inner.get(), patterns);
             relabelled(site.alloc, rule, rows, patterns)
         }
         PlanNode::Filter { base, rules } => {
             let rule = Relabel::Filter(rules.copy()?);
-            let rows = grown(site, course, base.get(), patterns, work);
+            let rows = grown(site, course, base.get(), patterns);
             relabelled(site.alloc, rule, rows, patterns)
         }
         _ => Err(Unbuilt::Invalid),
@@ -112,30 +130,27 @@ fn over_one<W: Ledger>(
 
 /// The tree of a node that gives the rows of its child as another type, or as the same one; none of another node.
 #[cycle(growing)]
-fn retyped<W: Ledger>(
+fn retyped(
     site: &Site<'_>,
     course: &Course,
     p: &Plan,
-    patterns: &mut Patterns<'_>,
-    work: &mut Work<W>,
+    patterns: &Patterns<'_>,
 ) -> Result<Part, Unbuilt>
-    ensures part { IsPartOf (asked_over site.now.store.now patterns.old site.now.span.now) course.now.walk p.now result }
-    ensures total { IsRetyping p.now → (n : ℕ) → IsCourseNear n course.now → CanGrow patterns.old n p.now → IsBuilt (is_scalar (typing p.now).kind) result }
-    ensures tested { LooksAt work.old work.new (plan_looks site.now.store.now p.now) }
-    ensures same { patterns.new ≡ patterns.old }
+    requires { AreRight patterns.now site.now.bases.now.samples site.now.bases.now.lists }
+    ensures part { IsPartOf (asked_over site.now.bases.now.samples patterns.now site.now.span.now) course.now.walk p.now result }
+    ensures total { IsRetyping p.now → (n : ℕ) → IsCourseNear n course.now → CanGrow patterns.now site.now.bases.now.lists n p.now → IsBuilt (is_scalar (typing p.now).kind) result }
 {
-    nodes_look();
     match &p.node {
         PlanNode::ScalarOf(inner) => {
-            let rows = grown(site, course, inner.get(), patterns, work);
+            let rows = grown(site, course, inner.get(), patterns);
             as_scalar(site.alloc, rows, patterns)
         }
         PlanNode::Sort { inner, .. } => {
-            let rows = grown(site, course, inner.get(), patterns, work);
+            let rows = grown(site, course, inner.get(), patterns);
             as_vector(rows)
         }
         PlanNode::VectorOf(inner) => {
-            let rows = grown(site, course, inner.get(), patterns, work);
+            let rows = grown(site, course, inner.get(), patterns);
             as_vector(rows)
         }
         _ => Err(Unbuilt::Invalid),
@@ -144,40 +159,37 @@ fn retyped<W: Ledger>(
 
 /// The tree of a node with two children; none of another one.
 #[cycle(growing)]
-fn over_two<W: Ledger>(
+fn over_two(
     site: &Site<'_>,
     course: &Course,
     p: &Plan,
-    patterns: &mut Patterns<'_>,
-    work: &mut Work<W>,
+    patterns: &Patterns<'_>,
 ) -> Result<Part, Unbuilt>
-    ensures part { IsPartOf (asked_over site.now.store.now patterns.old site.now.span.now) course.now.walk p.now result }
-    ensures total { IsTwofold p.now → (n : ℕ) → IsCourseNear n course.now → CanGrow patterns.old n p.now → IsBuilt (is_scalar (typing p.now).kind) result }
-    ensures tested { LooksAt work.old work.new (plan_looks site.now.store.now p.now) }
-    ensures same { patterns.new ≡ patterns.old }
+    requires { AreRight patterns.now site.now.bases.now.samples site.now.bases.now.lists }
+    ensures part { IsPartOf (asked_over site.now.bases.now.samples patterns.now site.now.span.now) course.now.walk p.now result }
+    ensures total { IsTwofold p.now → (n : ℕ) → IsCourseNear n course.now → CanGrow patterns.now site.now.bases.now.lists n p.now → IsBuilt (is_scalar (typing p.now).kind) result }
 {
-    nodes_look();
     match &p.node {
         PlanNode::Buckets(quantile, inner) => {
-            let rows = grown(site, course, inner.get(), patterns, work);
-            let beside = grown(site, course, quantile.get(), patterns, work);
+            let rows = grown(site, course, inner.get(), patterns);
+            let beside = grown(site, course, quantile.get(), patterns);
             quantiles(site.alloc, rows, beside)
         }
         PlanNode::Pair(op, left, right, pairing) => {
             let pairing = pairing.copy()?;
-            let rows = grown(site, course, left.get(), patterns, work);
-            let beside = grown(site, course, right.get(), patterns, work);
+            let rows = grown(site, course, left.get(), patterns);
+            let beside = grown(site, course, right.get(), patterns);
             paired(site.alloc, *op, pairing, rows, beside)
         }
         PlanNode::Set(op, left, right, pairing) => {
             let pairing = pairing.copy()?;
-            let rows = grown(site, course, left.get(), patterns, work);
-            let beside = grown(site, course, right.get(), patterns, work);
+            let rows = grown(site, course, left.get(), patterns);
+            let beside = grown(site, course, right.get(), patterns);
             combined(site.alloc, *op, pairing, rows, beside)
         }
         PlanNode::Ratio { sum, count } => {
-            let rows = grown(site, course, sum.get(), patterns, work);
-            let beside = grown(site, course, count.get(), patterns, work);
+            let rows = grown(site, course, sum.get(), patterns);
+            let beside = grown(site, course, count.get(), patterns);
             divided(site.alloc, rows, beside)
         }
         _ => Err(Unbuilt::Invalid),
@@ -186,56 +198,50 @@ fn over_two<W: Ledger>(
 
 /// The tree of a function of rows and of up to two scalars; none of another node.
 #[cycle(growing)]
-fn element<W: Ledger>(
+fn element(
     site: &Site<'_>,
     course: &Course,
     p: &Plan,
-    patterns: &mut Patterns<'_>,
-    work: &mut Work<W>,
+    patterns: &Patterns<'_>,
 ) -> Result<Part, Unbuilt>
-    ensures part { IsPartOf (asked_over site.now.store.now patterns.old site.now.span.now) course.now.walk p.now result }
-    ensures total { (f inner arguments : _) → p.now.node ≡ node.Element f inner arguments → (n : ℕ) → IsCourseNear n course.now → CanGrow patterns.old n p.now → IsBuilt (is_scalar (typing p.now).kind) result }
-    ensures tested { LooksAt work.old work.new (plan_looks site.now.store.now p.now) }
-    ensures same { patterns.new ≡ patterns.old }
+    requires { AreRight patterns.now site.now.bases.now.samples site.now.bases.now.lists }
+    ensures part { IsPartOf (asked_over site.now.bases.now.samples patterns.now site.now.span.now) course.now.walk p.now result }
+    ensures total { (f inner arguments : _) → p.now.node ≡ node.Element f inner arguments → (n : ℕ) → IsCourseNear n course.now → CanGrow patterns.now site.now.bases.now.lists n p.now → IsBuilt (is_scalar (typing p.now).kind) result }
 {
-    nodes_look();
     let PlanNode::Element(f, inner, arguments) = &p.node else {
         return Err(Unbuilt::Invalid);
     };
     match arguments.as_slice() {
         [] => {
-            let rows = grown(site, course, inner.get(), patterns, work);
+            let rows = grown(site, course, inner.get(), patterns);
             applied(site.alloc, *f, rows, patterns)
         }
-        [_] => beside_one(site, course, p, patterns, work),
-        [_, _] => beside_two(site, course, p, patterns, work),
+        [_] => beside_one(site, course, p, patterns),
+        [_, _] => beside_two(site, course, p, patterns),
         _ => Err(Unbuilt::Invalid),
     }
 }
 
 /// The tree of a function of rows and of a scalar; none of another node.
 #[cycle(growing)]
-fn beside_one<W: Ledger>(
+fn beside_one(
     site: &Site<'_>,
     course: &Course,
     p: &Plan,
-    patterns: &mut Patterns<'_>,
-    work: &mut Work<W>,
+    patterns: &Patterns<'_>,
 ) -> Result<Part, Unbuilt>
-    ensures part { IsPartOf (asked_over site.now.store.now patterns.old site.now.span.now) course.now.walk p.now result }
-    ensures total { (f inner a : _) → p.now.node ≡ node.Element f inner (a ∷ []) → (n : ℕ) → IsCourseNear n course.now → CanGrow patterns.old n p.now → IsBuilt (is_scalar (typing p.now).kind) result }
-    ensures tested { LooksAt work.old work.new (plan_looks site.now.store.now p.now) }
-    ensures same { patterns.new ≡ patterns.old }
+    requires { AreRight patterns.now site.now.bases.now.samples site.now.bases.now.lists }
+    ensures part { IsPartOf (asked_over site.now.bases.now.samples patterns.now site.now.span.now) course.now.walk p.now result }
+    ensures total { (f inner a : _) → p.now.node ≡ node.Element f inner (a ∷ []) → (n : ℕ) → IsCourseNear n course.now → CanGrow patterns.now site.now.bases.now.lists n p.now → IsBuilt (is_scalar (typing p.now).kind) result }
 {
-    nodes_look();
     let PlanNode::Element(f, inner, arguments) = &p.node else {
         return Err(Unbuilt::Invalid);
     };
     match arguments.as_slice() {
         [] => Err(Unbuilt::Invalid),
         [a] => {
-            let rows = grown(site, course, inner.get(), patterns, work);
-            let beside = grown(site, course, a, patterns, work);
+            let rows = grown(site, course, inner.get(), patterns);
+            let beside = grown(site, course, a, patterns);
             applied_with(site.alloc, *f, rows, beside)
         }
         _ => Err(Unbuilt::Invalid),
@@ -244,19 +250,16 @@ fn beside_one<W: Ledger>(
 
 /// The tree of a function of rows and of two scalars; none of another node.
 #[cycle(growing)]
-fn beside_two<W: Ledger>(
+fn beside_two(
     site: &Site<'_>,
     course: &Course,
     p: &Plan,
-    patterns: &mut Patterns<'_>,
-    work: &mut Work<W>,
+    patterns: &Patterns<'_>,
 ) -> Result<Part, Unbuilt>
-    ensures part { IsPartOf (asked_over site.now.store.now patterns.old site.now.span.now) course.now.walk p.now result }
-    ensures total { (f inner a b : _) → p.now.node ≡ node.Element f inner (a ∷ b ∷ []) → (n : ℕ) → IsCourseNear n course.now → CanGrow patterns.old n p.now → IsBuilt (is_scalar (typing p.now).kind) result }
-    ensures tested { LooksAt work.old work.new (plan_looks site.now.store.now p.now) }
-    ensures same { patterns.new ≡ patterns.old }
+    requires { AreRight patterns.now site.now.bases.now.samples site.now.bases.now.lists }
+    ensures part { IsPartOf (asked_over site.now.bases.now.samples patterns.now site.now.span.now) course.now.walk p.now result }
+    ensures total { (f inner a b : _) → p.now.node ≡ node.Element f inner (a ∷ b ∷ []) → (n : ℕ) → IsCourseNear n course.now → CanGrow patterns.now site.now.bases.now.lists n p.now → IsBuilt (is_scalar (typing p.now).kind) result }
 {
-    nodes_look();
     let PlanNode::Element(f, inner, arguments) = &p.node else {
         return Err(Unbuilt::Invalid);
     };
@@ -264,9 +267,9 @@ fn beside_two<W: Ledger>(
         [] => Err(Unbuilt::Invalid),
         [_] => Err(Unbuilt::Invalid),
         [a, b] => {
-            let rows = grown(site, course, inner.get(), patterns, work);
-            let low = grown(site, course, a, patterns, work);
-            let high = grown(site, course, b, patterns, work);
+            let rows = grown(site, course, inner.get(), patterns);
+            let low = grown(site, course, a, patterns);
+            let high = grown(site, course, b, patterns);
             clamped(site.alloc, *f, rows, low, high)
         }
         _ => Err(Unbuilt::Invalid),
@@ -275,74 +278,64 @@ fn beside_two<W: Ledger>(
 
 /// The tree of a function of windows; none of another node.
 #[cycle(growing)]
-fn window<W: Ledger>(
+fn window(
     site: &Site<'_>,
     course: &Course,
     p: &Plan,
-    patterns: &mut Patterns<'_>,
-    work: &mut Work<W>,
+    patterns: &Patterns<'_>,
 ) -> Result<Part, Unbuilt>
-    ensures part { IsPartOf (asked_over site.now.store.now patterns.old site.now.span.now) course.now.walk p.now result }
-    ensures total { (f inner arguments : _) → p.now.node ≡ node.Window f inner arguments → (n : ℕ) → IsCourseNear n course.now → CanGrow patterns.old n p.now → IsBuilt (is_scalar (typing p.now).kind) result }
-    ensures tested { LooksAt work.old work.new (plan_looks site.now.store.now p.now) }
-    ensures same { patterns.new ≡ patterns.old }
+    requires { AreRight patterns.now site.now.bases.now.samples site.now.bases.now.lists }
+    ensures part { IsPartOf (asked_over site.now.bases.now.samples patterns.now site.now.span.now) course.now.walk p.now result }
+    ensures total { (f inner arguments : _) → p.now.node ≡ node.Window f inner arguments → (n : ℕ) → IsCourseNear n course.now → CanGrow patterns.now site.now.bases.now.lists n p.now → IsBuilt (is_scalar (typing p.now).kind) result }
 {
     let PlanNode::Window(_, windows, _) = &p.node else {
         return Err(Unbuilt::Invalid);
     };
     match &windows.get().node {
-        PlanNode::Subquery { .. } => over_points(site, course, p, patterns, work),
-        _ => over_series(site, course, p, patterns, work),
+        PlanNode::Subquery { .. } => over_points(site, course, p, patterns),
+        _ => over_series(site, course, p, patterns),
     }
 }
 
 /// The tree of a function of the windows of series; none of another node.
 #[cycle(growing)]
-fn over_series<W: Ledger>(
+fn over_series(
     site: &Site<'_>,
     course: &Course,
     p: &Plan,
-    patterns: &mut Patterns<'_>,
-    work: &mut Work<W>,
+    patterns: &Patterns<'_>,
 ) -> Result<Part, Unbuilt>
-    ensures part { IsPartOf (asked_over site.now.store.now patterns.old site.now.span.now) course.now.walk p.now result }
-    ensures total { (f inner arguments : _) → p.now.node ≡ node.Window f inner arguments → (serving inner).ranges ≡ true → (n : ℕ) → IsCourseNear n course.now → CanGrow patterns.old n p.now → IsBuilt (is_scalar (typing p.now).kind) result }
-    ensures tested { LooksAt work.old work.new (plan_looks site.now.store.now p.now) }
-    ensures same { patterns.new ≡ patterns.old }
+    requires { AreRight patterns.now site.now.bases.now.samples site.now.bases.now.lists }
+    ensures part { IsPartOf (asked_over site.now.bases.now.samples patterns.now site.now.span.now) course.now.walk p.now result }
+    ensures total { (f inner arguments : _) → p.now.node ≡ node.Window f inner arguments → (serving inner).ranges ≡ true → (n : ℕ) → IsCourseNear n course.now → CanGrow patterns.now site.now.bases.now.lists n p.now → IsBuilt (is_scalar (typing p.now).kind) result }
 {
-    windows_look();
     let PlanNode::Window(f, windows, _) = &p.node else {
         return Err(Unbuilt::Invalid);
     };
-    let beside = only_argument(site, course, p, patterns, work);
+    let beside = only_argument(site, course, p, patterns);
     series(
         site.alloc,
-        site.store,
+        site.bases,
         site.span,
         course,
         *f,
         windows.get(),
         beside,
-        patterns,
-        work,
     )
 }
 
 /// The tree of a function of the windows of a subquery; none of another node.
 #[cycle(growing)]
-fn over_points<W: Ledger>(
+fn over_points(
     site: &Site<'_>,
     course: &Course,
     p: &Plan,
-    patterns: &mut Patterns<'_>,
-    work: &mut Work<W>,
+    patterns: &Patterns<'_>,
 ) -> Result<Part, Unbuilt>
-    ensures part { IsPartOf (asked_over site.now.store.now patterns.old site.now.span.now) course.now.walk p.now result }
-    ensures total { (f inner arguments q range step moment : _) → p.now.node ≡ node.Window f inner arguments → inner.node ≡ node.Subquery q range step moment → (n : ℕ) → IsCourseNear n course.now → CanGrow patterns.old n p.now → IsBuilt (is_scalar (typing p.now).kind) result }
-    ensures tested { LooksAt work.old work.new (plan_looks site.now.store.now p.now) }
-    ensures same { patterns.new ≡ patterns.old }
+    requires { AreRight patterns.now site.now.bases.now.samples site.now.bases.now.lists }
+    ensures part { IsPartOf (asked_over site.now.bases.now.samples patterns.now site.now.span.now) course.now.walk p.now result }
+    ensures total { (f inner arguments q range step moment : _) → p.now.node ≡ node.Window f inner arguments → inner.node ≡ node.Subquery q range step moment → (n : ℕ) → IsCourseNear n course.now → CanGrow patterns.now site.now.bases.now.lists n p.now → IsBuilt (is_scalar (typing p.now).kind) result }
 {
-    windows_look();
     let PlanNode::Window(f, windows, _) = &p.node else {
         return Err(Unbuilt::Invalid);
     };
@@ -356,50 +349,45 @@ fn over_points<W: Ledger>(
         return Err(Unbuilt::Invalid);
     };
     let below = inside(site.alloc, site.span, course, moment, *range, *step)?;
-    let rows = grown(site, &below.course, inner.get(), patterns, work);
-    let beside = only_argument(site, course, p, patterns, work);
+    let rows = grown(site, &below.course, inner.get(), patterns);
+    let beside = only_argument(site, course, p, patterns);
     points(site.alloc, course, &below, *f, rows, beside)
 }
 
 /// The tree of the only argument of a function of windows beside these, if it has one; none of another node.
 #[cycle(growing)]
-fn only_argument<W: Ledger>(
+fn only_argument(
     site: &Site<'_>,
     course: &Course,
     p: &Plan,
-    patterns: &mut Patterns<'_>,
-    work: &mut Work<W>,
+    patterns: &Patterns<'_>,
 ) -> Result<Option<Part>, Unbuilt>
-    ensures part { (f inner arguments : _) → p.now.node ≡ node.Window f inner arguments → IsArgumentOf (asked_over site.now.store.now patterns.old site.now.span.now) course.now.walk arguments result }
-    ensures total { (n : ℕ) (f inner arguments : _) → p.now.node ≡ node.Window f inner arguments → IsCourseNear n course.now → CanGrow patterns.old n p.now → IsArgumentBuilt (kinds_of (map typing arguments)) result }
-    ensures tested { (f inner arguments : _) → p.now.node ≡ node.Window f inner arguments → LooksAt work.old work.new (arguments_look site.now.store.now arguments) }
-    ensures same { patterns.new ≡ patterns.old }
+    requires { AreRight patterns.now site.now.bases.now.samples site.now.bases.now.lists }
+    ensures part { (f inner arguments : _) → p.now.node ≡ node.Window f inner arguments → IsArgumentOf (asked_over site.now.bases.now.samples patterns.now site.now.span.now) course.now.walk arguments result }
+    ensures total { (n : ℕ) (f inner arguments : _) → p.now.node ≡ node.Window f inner arguments → IsCourseNear n course.now → CanGrow patterns.now site.now.bases.now.lists n p.now → IsArgumentBuilt (kinds_of (map typing arguments)) result }
 {
     let PlanNode::Window(_, _, arguments) = &p.node else {
         return Err(Unbuilt::Invalid);
     };
     match arguments.as_slice() {
         [] => Ok(None),
-        [a] => Ok(Some(grown(site, course, a, patterns, work)?)),
+        [a] => Ok(Some(grown(site, course, a, patterns)?)),
         _ => Err(Unbuilt::Invalid),
     }
 }
 
 /// The tree of an aggregation; none of another node.
 #[cycle(growing)]
-fn group<W: Ledger>(
+fn group(
     site: &Site<'_>,
     course: &Course,
     p: &Plan,
-    patterns: &mut Patterns<'_>,
-    work: &mut Work<W>,
+    patterns: &Patterns<'_>,
 ) -> Result<Part, Unbuilt>
-    ensures part { IsPartOf (asked_over site.now.store.now patterns.old site.now.span.now) course.now.walk p.now result }
-    ensures total { (f by arguments label : _) → p.now.node ≡ node.Group f by arguments label → (n : ℕ) → IsCourseNear n course.now → CanGrow patterns.old n p.now → IsBuilt (is_scalar (typing p.now).kind) result }
-    ensures tested { LooksAt work.old work.new (plan_looks site.now.store.now p.now) }
-    ensures same { patterns.new ≡ patterns.old }
+    requires { AreRight patterns.now site.now.bases.now.samples site.now.bases.now.lists }
+    ensures part { IsPartOf (asked_over site.now.bases.now.samples patterns.now site.now.span.now) course.now.walk p.now result }
+    ensures total { (f by arguments label : _) → p.now.node ≡ node.Group f by arguments label → (n : ℕ) → IsCourseNear n course.now → CanGrow patterns.now site.now.bases.now.lists n p.now → IsBuilt (is_scalar (typing p.now).kind) result }
 {
-    nodes_look();
     let PlanNode::Group(f, by, arguments, label) = &p.node else {
         return Err(Unbuilt::Invalid);
     };
@@ -408,12 +396,12 @@ fn group<W: Ledger>(
     match arguments.as_slice() {
         [] => Err(Unbuilt::Invalid),
         [a] => {
-            let rows = grown(site, course, a, patterns, work);
+            let rows = grown(site, course, a, patterns);
             grouped(site.alloc, *f, by, label, rows, patterns)
         }
         [a, b] => {
-            let parameter = grown(site, course, a, patterns, work);
-            let rows = grown(site, course, b, patterns, work);
+            let parameter = grown(site, course, a, patterns);
+            let rows = grown(site, course, b, patterns);
             ranked(site.alloc, *f, by, label, rows, parameter)
         }
         _ => Err(Unbuilt::Invalid),
@@ -422,19 +410,16 @@ fn group<W: Ledger>(
 
 /// The tree of a part that is computed once, at the course's first instant; none of another node.
 #[cycle(growing)]
-fn once<W: Ledger>(
+fn once(
     site: &Site<'_>,
     course: &Course,
     p: &Plan,
-    patterns: &mut Patterns<'_>,
-    work: &mut Work<W>,
+    patterns: &Patterns<'_>,
 ) -> Result<Part, Unbuilt>
-    ensures part { IsPartOf (asked_over site.now.store.now patterns.old site.now.span.now) course.now.walk p.now result }
-    ensures total { (inner : _) → p.now.node ≡ node.Once inner → (n : ℕ) → IsCourseNear n course.now → CanGrow patterns.old n p.now → IsBuilt (is_scalar (typing p.now).kind) result }
-    ensures tested { LooksAt work.old work.new (plan_looks site.now.store.now p.now) }
-    ensures same { patterns.new ≡ patterns.old }
+    requires { AreRight patterns.now site.now.bases.now.samples site.now.bases.now.lists }
+    ensures part { IsPartOf (asked_over site.now.bases.now.samples patterns.now site.now.span.now) course.now.walk p.now result }
+    ensures total { (inner : _) → p.now.node ≡ node.Once inner → (n : ℕ) → IsCourseNear n course.now → CanGrow patterns.now site.now.bases.now.lists n p.now → IsBuilt (is_scalar (typing p.now).kind) result }
 {
-    nodes_look();
     let PlanNode::Once(inner) = &p.node else {
         return Err(Unbuilt::Invalid);
     };
@@ -442,6 +427,6 @@ fn once<W: Ledger>(
     let Some(below) = Course::at(first) else {
         return Err(Unbuilt::Invalid);
     };
-    let child = grown(site, &below, inner.get(), patterns, work);
+    let child = grown(site, &below, inner.get(), patterns);
     repeated(site.alloc, first, child)
 }

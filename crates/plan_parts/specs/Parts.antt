@@ -10,9 +10,11 @@ use Rattle.label_set.specs.declared.rules.Grouping.{Grouping}
 use Rattle.label_set.specs.declared.rules.Pairing.{Pairing}
 use Rattle.label_set.specs.declared.rules.Relabel.{Relabel as Relabelling}
 use Rattle.label_set.specs.declared.rules.Rule.{Rule}
-use Rattle.logical_plan.specs.PlanMeaning.{plan_meaning}
+use Rattle.logical_plan.specs.Lowering.{planned}
+use Rattle.logical_plan.specs.PlanMeaning.{plan_meaning, plan_meant}
 use Rattle.logical_plan.specs.declared.nodes.Plan.{Plan}
 use Rattle.logical_plan.specs.declared.nodes.PlanNode.TheVariants as node
+use Rattle.match_rule.specs.Patterns.{HaveTheirPatterns}
 use Rattle.op_element.specs.declared.formula.ElementRule.{ElementRule}
 use Rattle.op_labels.specs.Rules.{Kept}
 use Rattle.op_small.specs.declared.rule.SmallRule.{SmallRule}
@@ -22,10 +24,10 @@ use Rattle.plan_tree.specs.Nodes.{MayStart, shape_of}
 use Rattle.plan_tree.specs.Shapes.{BinaryOf, ClampOf, InstantsOf, IsFit, Shape, StaysInTimes, UnaryOf, is_scalar, places_of, rule}
 use Rattle.plan_tree.specs.Spending.{IsFresh}
 use Rattle.plan_tree.specs.declared.node.Node.{Node}
-use Rattle.plan_work.specs.PlanLaws.{AreBeside, IsOver, IsThree}
+use Rattle.plan_work.specs.PlanLaws.{AreBeside, CostsAtMost, IsOver, IsThree}
 use Rattle.plan_work.specs.TreeBounds.{StaysWithin}
 use Rattle.promql_ast.specs.declared.tree.Moment.{Moment}
-use Rattle.promql_meaning.specs.Selecting.{AllSeries, Asked}
+use Rattle.promql_meaning.specs.Selecting.{AllSeries, Asked, lookback}
 use Rattle.step_kernels.specs.Binaries.{takes_scalar}
 use Rattle.step_kernels.specs.Unaries.{is_unary}
 use Rattle.step_kernels.specs.declared.binary.BinaryRule.{BinaryRule}
@@ -36,6 +38,7 @@ use Rattle.ticks.specs.declared.moment.Ms.{Ms}
 use Rattle.ticks.specs.declared.walk.Walk.{Walk}
 use Rattle.xfrac.specs.declared.value.PairOp.{PairOp}
 use Rattle.xfrac.specs.declared.value.XFrac.{XFrac}
+use Rattle.plan_parts.specs.Courses.{IsMomentWithin}
 use Rattle.plan_parts.specs.Gives.{Gives}
 use Rattle.plan_parts.specs.declared.parts.Part.{Part}
 use Rattle.plan_parts.specs.declared.unbuilt.Unbuilt.{Unbuilt}
@@ -105,6 +108,18 @@ IsBuilt scalar built = MatchResult built (λ part. part.scalar ≡ scalar) (λ e
 -- the same of two parts
 abbrev pub AreBuilt : Bool → Bool → Result (Part × Part) Unbuilt → Type 0
 AreBuilt scalar other built = MatchResult built (λ parts. (parts.0.scalar ≡ scalar) × (parts.1.scalar ≡ other)) (λ e. e ≡ Memory)
+
+-- ---- selectors
+
+-- a plan gives the rows of a selector, as a selector in its place does, and costs at least what that does
+pub record IsSelectorOf (asked : Asked) (p : Plan) (rules : List Rule) (moment : Moment) (stamped : Bool) : Type 0 where
+  pub own : (plan_meant asked p).own ≡ stamped
+  pub gives : (t : ℤ) → plan_meaning asked p t ≡ plan_meaning asked (planned p.at (node.Select rules moment stamped)) t
+  pub within : CostsAtMost asked rules moment (record { 0 = lookback }) p
+
+-- the times of a selector lie within the limits of the language, and its patterns are kept
+abbrev pub IsReadable : Kept → (rules : List Rule) → Moment → Type 0
+IsReadable kept rules moment = HaveTheirPatterns kept rules × IsMomentWithin moment
 
 -- ---- what a tree is made of
 

@@ -5,9 +5,10 @@ mod course;
 mod kept;
 pub mod kinds;
 mod parts;
+mod selectors;
 mod unbuilt;
 
 pub use course::Course;
-pub use kept::are_rules_kept;
-pub use parts::{Part, repeated, select, settled};
+pub use parts::{Part, repeated, select, series_of, settled};
+pub use selectors::{InstantSelector, instant_selector};
 pub use unbuilt::Unbuilt;

@@ -2,22 +2,20 @@
 ghost use Rattle.logical_plan.specs.declared.nodes.Plan.{Plan};
 ghost use Rattle.logical_plan.specs.declared.nodes.PlanNode.TheVariants as node;
 ghost use Rattle.logical_plan.specs.Validity.{deepest};
-ghost use Rattle.match_rule.specs.Patterns.{HaveTheirPatterns};
+ghost use Rattle.plan_bases.specs.Bases.{AreRight, AreSeries, Kept, is_under};
 ghost use Rattle.plan_parts.specs.Courses.{IsCourseNear, IsMomentNear, IsMomentWithin};
-ghost use Rattle.plan_parts.specs.Parts.{IsBinary, IsBuilt, IsClamp, IsInstants, IsPart, IsPartOf, IsUnary};
-ghost use Rattle.plan_work.specs.Looks.{LooksAt};
+ghost use Rattle.plan_parts.specs.Parts.{IsBinary, IsBuilt, IsClamp, IsInstants, IsPart, IsPartOf, IsSelectorOf, IsUnary};
 ghost use Rattle.plan_work.specs.TreeBounds.{BeginsAt};
 ghost use Rattle.promql_meaning.specs.Selecting.{Asked, asked_over, lookback};
 ghost use Rattle.promql_meaning.specs.WalkMoments.{IsMomentOf};
-ghost use Rattle.sample_store.specs.Samples.{looked_at};
-ghost use Rattle.std.specs.Prelude.{◌≡◌, ◌<◌, ℕ, ℤ, true, false, Bool, IfOk, IsTrue};
+ghost use Rattle.std.specs.Prelude.{◌≡◌, ◌<◌, ℕ, ℤ, true, false, Bool, IfOk, IsOkUnless, IsTrue};
 ghost use Rattle.step_kernels.specs.Binaries.{is_binary, takes_scalar};
 ghost use Rattle.step_kernels.specs.Unaries.{KeepsPatterns, is_unary};
 ghost use Rattle.ticks.specs.Walks.{HasTimes, IsInstant, moment_at};
 ghost use Rattle.ticks.specs.declared.walk.Walk.{Walk};
 
 use crate::course::Course;
-use crate::kept::{are_rules_kept, is_unary_kept};
+use crate::kept::is_unary_kept;
 use crate::unbuilt::Unbuilt;
 use holders::Items;
 use label_set::Rule;
@@ -25,17 +23,16 @@ use match_rule::Patterns;
 use op_element::{ElementRows, ElementRule};
 use op_select::Select;
 use op_small::{Small, SmallRule};
+use plan_bases::Bases;
 use plan_tree::Node;
 use plan_work::laws::trees_stay_within;
 use promql_ast::{Fixed, Moment};
 use promql_meaning::laws::walk_moments_are_moments;
-use sample_store::Store;
 use std::alloc::Global;
-use std::sync::ledger::Ledger;
 use step_batch::StepBuffer;
 use step_batch::laws::lent_steps_are_tables;
 use step_kernels::{Binary, BinaryRule, Unary, UnaryRule, is_binary, is_unary, takes_scalar};
-use ticks::{Grid, Ms, WalkMoment, Work};
+use ticks::{Grid, Ms, WalkMoment};
 use window_fn::laws::seconds_are_numbers;
 
 /// How far back an evaluation looks for a sample, in milliseconds.
@@ -195,38 +192,43 @@ fn is_within(course: &Course, moment: &WalkMoment) -> bool
     }
 }
 
-/// The newest rows of the series that pass rules, at the instants of a course. On every answer at most the series that the
-/// rules look at were counted as tested, each once, and no sample was read. It is `Invalid` where a pattern isn't kept or a
-/// window leads beyond the times, as none does where the course stands in few enough subqueries; else the only error is want of
+/// A copy of the numbers of the series that pass rules. It is `Invalid` where the rules aren't there; else the only error is want of
 /// memory.
-pub fn select<W: Ledger>(
+pub fn series_of(bases: &Bases<'_>, rules: &Items<Rule>) -> Result<Items<u32>, Unbuilt>
+    ensures series { IfOk result (λ series. (kept : Kept) → AreRight kept bases.now.samples bases.now.lists → AreSeries kept bases.now.samples rules.now series) }
+    ensures total { is_under bases.now.lists rules.now ≡ true → IsOkUnless result Unbuilt.Memory }
+{
+    match bases.series(rules)? {
+        Some(series) => Ok(series.copy()?),
+        None => Err(Unbuilt::Invalid),
+    }
+}
+
+/// The newest rows of the series that pass rules, at the instants of a course: of a selector, or of filters over one. It is `Invalid`
+/// where the series of the rules aren't there or a window leads beyond the times, as none does where the course stands in few enough
+/// subqueries; else the only error is want of memory.
+pub fn select(
     alloc: Global,
-    store: &Store,
+    bases: &Bases<'_>,
     span: &Grid,
     course: &Course,
     rules: &Items<Rule>,
     moment: &Moment,
     stamped: bool,
-    patterns: &mut Patterns<'_>,
-    work: &mut Work<W>,
 ) -> Result<Part, Unbuilt>
-    ensures part { IfOk result (λ part. (p : Plan) → p.node ≡ node.Select rules.now moment.now stamped → IsPart (asked_over store.now patterns.old span.now) course.now.walk p part) }
-    ensures total { (n : ℕ) → n < deepest → IsCourseNear n course.now → HaveTheirPatterns patterns.old rules.now → IsMomentWithin moment.now → IsBuilt false result }
-    ensures tested { LooksAt work.old work.new (looked_at rules.now store.now) }
-    ensures same { patterns.new ≡ patterns.old }
+    ensures part { (kept : Kept) (p : Plan) → AreRight kept bases.now.samples bases.now.lists → p.node ≡ node.Select rules.now moment.now stamped → IsPartOf (asked_over bases.now.samples kept span.now) course.now.walk p result }
+    ensures leaf { (kept : Kept) (p : Plan) → AreRight kept bases.now.samples bases.now.lists → IsSelectorOf (asked_over bases.now.samples kept span.now) p rules.now moment.now stamped → IsPartOf (asked_over bases.now.samples kept span.now) course.now.walk p result }
+    ensures total { (n : ℕ) → n < deepest → IsCourseNear n course.now → is_under bases.now.lists rules.now ≡ true → IsMomentWithin moment.now → IsBuilt false result }
 {
     lent_steps_are_tables();
     seconds_are_numbers();
     walk_moments_are_moments();
     trees_stay_within();
-    if !are_rules_kept(patterns, rules.as_slice()) {
-        return Err(Unbuilt::Invalid);
-    }
     let moment = settled(moment, span);
     if !is_within(course, &moment) {
         return Err(Unbuilt::Invalid);
     }
-    let series = store.select(rules, patterns, work)?;
+    let series = series_of(bases, rules)?;
     let kernel = Select::new(alloc, series, moment, stamped)?;
     Ok(Part {
         tree: Node::Select(kernel),

@@ -2,7 +2,6 @@ pub mod Fewer
 pub mod Idle
 pub mod InnerTimes
 pub mod Leaves
-pub mod Looked
 pub mod Measured
 pub mod Nodes
 pub mod Spans

@@ -1,4 +1,3 @@
-pub mod Looks
 pub mod Measures
 pub mod PlanBounds
 pub mod PlanLaws

@@ -1,5 +1,4 @@
 //! Laws of bounds. The functions do nothing: each stands for what its contract says.
-ghost use Rattle.plan_work.specs.Looks.{BesidesLookTogether, FiltersLookAtNoMore, MoreRulesLookAtNoMore, OncesLookTheSame, OversLookTheSame, RangesLookAsSelectors, SelectorsLook, SubqueriesLookTheSame, ThreesLookTogether, WindowsLookTogether};
 ghost use Rattle.plan_work.specs.PlanLaws.{BesidesAddUp, FiltersCostNoMore, InnerTimesAreListed, LeavesCostAsSelectors, NoSelectorCostsNothing, OncesCostOnce, OversCostTheSame, RangesCostAsSelectors, SpansRise, SubqueriesCostInside, ThreesAddUp, WindowsAddUp};
 ghost use Rattle.plan_work.specs.TreeBounds.{BesidesStay, NumbersStay, OnceTreesStay, OversNumbersStay, OversStay, SamesStay, SelectorsStay, SpendingStays, SubqueriesStay, ThreesStay, WindowsStay};
 
@@ -66,33 +65,4 @@ pub fn trees_stay_within()
 /// What a tree spends that stays within the bound of a plan is within that bound.
 pub fn spending_stays_within()
     ensures { SpendingStays }
-{}
-
-/// The build of a selector looks at the series that have the rarest of the pairs that its rules ask for, or at all.
-pub fn selectors_look()
-    ensures { SelectorsLook }
-{}
-
-/// That of a node over one child looks at what that of the child does, also of a part that is computed once, and that of a node over two
-/// or three at what those of all of them do.
-pub fn nodes_look()
-    ensures over { OversLookTheSame }
-    ensures beside { BesidesLookTogether }
-    ensures three { ThreesLookTogether }
-    ensures once { OncesLookTheSame }
-{}
-
-/// That of a function of windows looks at what those of these and of its arguments do, and that of a subquery at what that of its inner
-/// expression does.
-pub fn windows_look()
-    ensures window { WindowsLookTogether }
-    ensures subquery { SubqueriesLookTheSame }
-{}
-
-/// More rules look at no more series, so that the selector of a range looks at no more than the range does, and with the rules of a filter
-/// over it too.
-pub fn range_selectors_look()
-    ensures more { MoreRulesLookAtNoMore }
-    ensures range { RangesLookAsSelectors }
-    ensures filter { FiltersLookAtNoMore }
 {}

@@ -6,7 +6,7 @@ use Rattle.plan_tree.specs.Laws.{FreshTreesBegin}
 use Rattle.plan_tree.specs.Nodes.{shape_of}
 use Rattle.plan_tree.specs.Spending.{HasSpent, IsFresh, IsWithinBound, RisesBy}
 use Rattle.plan_tree.specs.declared.tree.Tree.{Tree}
-use Rattle.plan_work.specs.Looks.{LooksAt, plan_looks}
+use Rattle.plan_bases.specs.Looks.{LooksAt, plan_looks}
 use Rattle.plan_work.specs.PlanBounds.{plan_bound}
 use Rattle.plan_work.specs.TreeBounds.{SpendingStays, StaysWithin}
 use Rattle.promql_ast.specs.Edged.{edged}
@@ -38,11 +38,11 @@ module _ (asked : Asked) (grid : Grid) (p : Plan) where
   spends_nothing now = record {
     fetched = holds_still now.fetched now.fetched (plan_bound asked p (grid_times grid)).fetched refl;
     probed = holds_still now.probed now.probed (plan_bound asked p (grid_times grid)).probed refl;
-    tested = holds_still now.tested now.tested (plan_looks asked.samples p) refl;
+    tested = holds_still now.tested now.tested (plan_looks asked.kept asked.samples p) refl;
   }
 
   -- what the build looks at
-  pub spends_building : (before after : Counts) → LooksAt before after (plan_looks asked.samples p) → SpendsAtMost asked grid p before after
+  pub spends_building : (before after : Counts) → LooksAt before after (plan_looks asked.kept asked.samples p) → SpendsAtMost asked grid p before after
   spends_building before after looks = record {
     fetched = holds_still before.fetched after.fetched (plan_bound asked p (grid_times grid)).fetched looks.fetched;
     probed = holds_still before.probed after.probed (plan_bound asked p (grid_times grid)).probed looks.probed;
@@ -50,11 +50,11 @@ module _ (asked : Asked) (grid : Grid) (p : Plan) where
   }
 
   -- and what the tree reads behind it
-  pub spends_both : (before between after : Counts) → LooksAt before between (plan_looks asked.samples p) → RisesBy between after (plan_bound asked p (grid_times grid)) → SpendsAtMost asked grid p before after
+  pub spends_both : (before between after : Counts) → LooksAt before between (plan_looks asked.kept asked.samples p) → RisesBy between after (plan_bound asked p (grid_times grid)) → SpendsAtMost asked grid p before after
   spends_both before between after looks rises = record {
     fetched = rises_later before.fetched between.fetched after.fetched (plan_bound asked p (grid_times grid)).fetched looks.fetched rises.fetched;
     probed = rises_later before.probed between.probed after.probed (plan_bound asked p (grid_times grid)).probed looks.probed rises.probed;
-    tested = rises_before before.tested between.tested after.tested (plan_looks asked.samples p) looks.tested rises.tested;
+    tested = rises_before before.tested between.tested after.tested (plan_looks asked.kept asked.samples p) looks.tested rises.tested;
   }
 
   -- a fresh tree that stays within the plan's bound reads within it over the grid

@@ -4,7 +4,7 @@ use Rattle.std.specs.Prelude.{◌≡◌, ◌+◌, ◌≤◌, ℕ, Bool, List}
 use Rattle.logical_plan.specs.declared.nodes.Plan.{Plan}
 use Rattle.plan_rewrites.specs.Rewriting.{evaluating}
 use Rattle.plan_rewrites.specs.declared.choosing.Choices.{Choices}
-use Rattle.plan_work.specs.Looks.{plan_looks}
+use Rattle.plan_bases.specs.Looks.{plan_looks}
 use Rattle.plan_work.specs.PlanBounds.{plan_bound}
 use Rattle.promql_ast.specs.Edged.{edged}
 use Rattle.promql_ast.specs.declared.tree.Expr.{Expr}
@@ -22,11 +22,12 @@ use Rattle.ticks.specs.declared.grid.Grid.{Grid}
 abbrev pub evaluated_plan : Choices → Kept → List Placed → Expr → Plan
 evaluated_plan choices kept placed e = plan_of (evaluating choices) kept placed e
 
--- counters rise by at most what a plan costs at the instants of a grid, and by the series that its selectors look at
+-- counters rise by at most what a plan costs at the instants of a grid, and by the series that its distinct selectors look at and its
+-- filters test
 pub record SpendsAtMost (asked : Asked) (grid : Grid) (p : Plan) (before after : Counts) : Type 0 where
   pub fetched : after.fetched ≤ before.fetched + (plan_bound asked p (grid_times grid)).fetched
   pub probed : after.probed ≤ before.probed + (plan_bound asked p (grid_times grid)).probed
-  pub tested : after.tested ≤ before.tested + plan_looks asked.samples p
+  pub tested : after.tested ≤ before.tested + plan_looks asked.kept asked.samples p
 
 -- The evaluation of a text spends nothing, as where the text is refused, or at most what the plan costs of the typed tree that the text
 -- stands for.

@@ -19,7 +19,6 @@ use Rattle.plan_parts.specs.declared.unbuilt.Unbuilt.TheVariants.{Memory}
 use Rattle.plan_tree.specs.Worlds.{over}
 use Rattle.plan_tree.specs.Nodes.{shape_of}
 use Rattle.plan_tree.specs.Shapes.{is_scalar, rule}
-use Rattle.plan_work.specs.Looks.{LookAtNoMore}
 use Rattle.plan_work.specs.PlanLaws.{CostsAtMost}
 use Rattle.plan_work.specs.TreeBounds.{StaysWithinAll}
 use Rattle.promql_ast.specs.Parts.{AreWithin}
@@ -75,11 +74,10 @@ pub record IsScalarOf (asked : Asked) (walk : Walk) (f : WindowFunction) (argume
 abbrev pub GivesRange : Asked → Plan → RangeSelector → Type 0
 GivesRange asked p selector = (t : ℤ) → plan_meaning asked p t ≡ plan_meaning asked (planned p.at (node.Range selector.rules selector.moment selector.range)) t
 
--- and it costs at most what the plan does, and looks at no more series
+-- and it costs at most what the plan does
 pub record IsRangeOf (asked : Asked) (p : Plan) (selector : RangeSelector) : Type 0 where
   pub gives : GivesRange asked p selector
   pub within : CostsAtMost asked selector.rules selector.moment selector.range p
-  pub looks : LookAtNoMore asked.samples selector.rules p
 
 -- a plan gives the windows of a range selector, or of one under filters, whose times and length lie within the limits of the language and
 -- whose patterns are kept

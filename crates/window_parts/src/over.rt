@@ -3,14 +3,13 @@ ghost use Rattle.logical_plan.specs.declared.nodes.Plan.{Plan};
 ghost use Rattle.logical_plan.specs.declared.nodes.PlanNode.TheVariants as node;
 ghost use Rattle.logical_plan.specs.PlanTypes.{is_window};
 ghost use Rattle.logical_plan.specs.Validity.{deepest};
+ghost use Rattle.plan_bases.specs.Bases.{AreRight, HoldsPlan, Kept, is_under};
 ghost use Rattle.plan_parts.specs.Courses.{IsCourseNear, IsLength, IsMomentWithin, ReachBack};
 ghost use Rattle.plan_parts.specs.Parts.{IsBuilt, IsPartOf};
 ghost use Rattle.plan_parts.specs.declared.unbuilt.Unbuilt.TheVariants.{Memory};
-ghost use Rattle.plan_work.specs.Looks.{LooksAt, plan_looks};
 ghost use Rattle.promql_ast.specs.declared.tree.Moment.{Moment};
 ghost use Rattle.promql_meaning.specs.Selecting.{Asked, asked_over};
 ghost use Rattle.promql_type.specs.declared.kind.Kind.{Kind};
-ghost use Rattle.sample_store.specs.Samples.{looked_at};
 ghost use Rattle.std.specs.Prelude.{◌≡◌, ◌+◌, ◌<◌, ◌<ℤ◌, ℕ, ℤ, pos, Bool, true, false, List, IfOk, IsTrue, MatchResult};
 ghost use Rattle.ticks.specs.Walks.{HasTimes, IsInstant, moment_at};
 ghost use Rattle.ticks.specs.declared.moment.Ms.{Ms};
@@ -21,18 +20,16 @@ use crate::scalars::scalar_for;
 use crate::selectors::{RangeSelector, range_selector};
 use func_table::Window;
 use logical_plan::Plan;
-use match_rule::Patterns;
 use op_window::WindowRows;
-use plan_parts::{Course, Part, Unbuilt, are_rules_kept, settled};
+use plan_bases::Bases;
+use plan_parts::{Course, Part, Unbuilt, series_of, settled};
 use plan_tree::Node;
 use plan_work::laws::trees_stay_within;
 use promql_ast::Moment;
 use promql_meaning::laws::{multiples_are_all, walk_moments_are_moments};
-use sample_store::Store;
 use std::alloc::Global;
-use std::sync::ledger::Ledger;
 use subquery_rows::SubqueryRows;
-use ticks::{Grid, Ms, WalkMoment, Work};
+use ticks::{Grid, Ms, WalkMoment};
 
 /// Whether the windows that end at the moments of the instants lie within the times, and have a length. It takes no memory.
 fn are_within(course: &Course, moment: &WalkMoment, range: Ms) -> bool
@@ -47,33 +44,26 @@ fn are_within(course: &Course, moment: &WalkMoment, range: Ms) -> bool
 }
 
 /// A function of the windows of a range selector, at the instants of a course.
-fn over_selector<W: Ledger>(
+fn over_selector(
     alloc: Global,
-    store: &Store,
+    bases: &Bases<'_>,
     span: &Grid,
     course: &Course,
     f: Window,
     selector: &RangeSelector,
     scalar: Part,
-    patterns: &mut Patterns<'_>,
-    work: &mut Work<W>,
 ) -> Result<Part, Unbuilt>
-    ensures part { (p inner : Plan) (arguments : List Plan) → p.node ≡ node.Window f inner arguments → IsRangeOf (asked_over store.now patterns.old span.now) inner selector.now → IsScalarOf (asked_over store.now patterns.old span.now) course.now.walk f arguments scalar → IsPartOf (asked_over store.now patterns.old span.now) course.now.walk p result }
-    ensures total { (n : ℕ) → n < deepest → IsCourseNear n course.now → IsSelectorWithin patterns.old selector.now → IsBuilt false result }
-    ensures tested { LooksAt work.old work.new (looked_at selector.now.rules store.now) }
-    ensures same { patterns.new ≡ patterns.old }
+    ensures part { (kept : Kept) (p inner : Plan) (arguments : List Plan) → AreRight kept bases.now.samples bases.now.lists → p.node ≡ node.Window f inner arguments → IsRangeOf (asked_over bases.now.samples kept span.now) inner selector.now → IsScalarOf (asked_over bases.now.samples kept span.now) course.now.walk f arguments scalar → IsPartOf (asked_over bases.now.samples kept span.now) course.now.walk p result }
+    ensures total { (kept : Kept) (n : ℕ) → n < deepest → IsCourseNear n course.now → IsSelectorWithin kept selector.now → is_under bases.now.lists selector.now.rules ≡ true → IsBuilt false result }
 {
     walk_moments_are_moments();
     trees_stay_within();
-    if !are_rules_kept(patterns, selector.rules.as_slice()) {
-        return Err(Unbuilt::Invalid);
-    }
     let moment = settled(&selector.moment, span);
     if !are_within(course, &moment, selector.range) {
         return Err(Unbuilt::Invalid);
     }
     let _ = course.walk();
-    let series = store.select(&selector.rules, patterns, work)?;
+    let series = series_of(bases, &selector.rules)?;
     let kernel = WindowRows::new(alloc, series, f, moment, selector.range)?;
     Ok(Part {
         tree: Node::Series {
@@ -86,34 +76,28 @@ fn over_selector<W: Ledger>(
 }
 
 /// A function of windows of the store, at the instants of a course: of those of a range, or of those that pass the filters over one.
-/// `argument` is what became of the function's other argument, if it has one. On every answer at most the series that the windows
-/// look at were counted as tested, each once, and no sample was read. It hands on why the argument wasn't built, and is `Invalid`
-/// where the windows are another plan's, where the function takes another number of arguments or one that isn't a scalar, where a
-/// pattern isn't kept, a window leads beyond the times, or the range isn't positive; else the only error is want of memory.
-pub fn series<W: Ledger>(
+/// `argument` is what became of the function's other argument, if it has one. It hands on why the argument wasn't built, and is `Invalid`
+/// where the windows are another plan's, where the function takes another number of arguments or one that isn't a scalar, where the
+/// series of the windows' rules aren't there, a window leads beyond the times, or the range isn't positive; else the only error is want of
+/// memory.
+pub fn series(
     alloc: Global,
-    store: &Store,
+    bases: &Bases<'_>,
     span: &Grid,
     course: &Course,
     f: Window,
     windows: &Plan,
     argument: Result<Option<Part>, Unbuilt>,
-    patterns: &mut Patterns<'_>,
-    work: &mut Work<W>,
 ) -> Result<Part, Unbuilt>
-    ensures part { (p : Plan) (arguments : List Plan) → p.node ≡ node.Window f windows.now arguments → IsArgumentOf (asked_over store.now patterns.old span.now) course.now.walk arguments argument → IsPartOf (asked_over store.now patterns.old span.now) course.now.walk p result }
-    ensures total { (n : ℕ) (given : Kind) (kinds : List Kind) → n < deepest → IsCourseNear n course.now → IsRangePlan patterns.old windows.now → is_window f given kinds ≡ true → IsArgumentBuilt kinds argument → IsBuilt false result }
-    ensures tested { LooksAt work.old work.new (plan_looks store.now windows.now) }
-    ensures same { patterns.new ≡ patterns.old }
+    ensures part { (kept : Kept) (p : Plan) (arguments : List Plan) → AreRight kept bases.now.samples bases.now.lists → p.node ≡ node.Window f windows.now arguments → IsArgumentOf (asked_over bases.now.samples kept span.now) course.now.walk arguments argument → IsPartOf (asked_over bases.now.samples kept span.now) course.now.walk p result }
+    ensures total { (kept : Kept) (n : ℕ) (given : Kind) (kinds : List Kind) → n < deepest → IsCourseNear n course.now → IsRangePlan kept windows.now → HoldsPlan kept bases.now.lists windows.now → is_window f given kinds ≡ true → IsArgumentBuilt kinds argument → IsBuilt false result }
 {
     let argument = argument?;
     let scalar = scalar_for(alloc, f, argument)?;
     let Some(selector) = range_selector(windows)? else {
         return Err(Unbuilt::Invalid);
     };
-    over_selector(
-        alloc, store, span, course, f, &selector, scalar, patterns, work,
-    )
+    over_selector(alloc, bases, span, course, f, &selector, scalar)
 }
 
 /// A subquery at the instants of an outer course: its moment, whose `@` is a time, its range and step in milliseconds, and the course

@@ -1,5 +1,6 @@
 //! The range selectors of plans.
 ghost use Rattle.op_labels.specs.Rules.{Kept};
+ghost use Rattle.plan_bases.specs.Leaves.{IsLeafOf};
 ghost use Rattle.promql_meaning.specs.Selecting.{Asked};
 ghost use Rattle.std.specs.Prelude.{◌≡◌, ◌++◌, IfOk, IfSome, IsSomeAnd};
 ghost use Rattle.window_parts.specs.Over.{IsRangeOf, IsRangePlan, IsSelectorWithin};
@@ -7,7 +8,7 @@ ghost use Rattle.window_parts.specs.Over.{IsRangeOf, IsRangePlan, IsSelectorWith
 use holders::Items;
 use label_set::Rule;
 use logical_plan::{Plan, PlanNode};
-use plan_work::laws::{range_selectors_cost, range_selectors_look};
+use plan_work::laws::range_selectors_cost;
 use promql_ast::Moment;
 use promql_meaning::laws::more_rules_filter;
 use std::alloc::AllocError;
@@ -42,11 +43,11 @@ impl RangeSelector {
 /// none. The only error is want of memory.
 pub(crate) fn range_selector(p: &Plan) -> Result<Option<RangeSelector>, AllocError>
     ensures range { IfOk result (λ o. IfSome o (λ s. (asked : Asked) → IsRangeOf asked p.now s)) }
+    ensures leaf { IfOk result (λ o. IfSome o (λ s. IsLeafOf p.now s.rules)) }
     ensures total { (kept : Kept) → IsRangePlan kept p.now → IfOk result (λ o. IsSomeAnd o (IsSelectorWithin kept)) }
 {
     more_rules_filter();
     range_selectors_cost();
-    range_selectors_look();
     match &p.node {
         PlanNode::Range {
             rules,

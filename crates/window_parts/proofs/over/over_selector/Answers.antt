@@ -1,6 +1,7 @@
 use Rattle.std.proofs.Common.{◌≡◌, ◌∙◌, None, false, refl, subst, sym, true}
-use Rattle.match_rule.specs.Patterns.{HaveTheirPatterns}
+use Rattle.std.proofs.lemmas.Result.{err_from_is_err_and}
 use Rattle.op_window.specs.Sliding.{walked_of}
+use Rattle.plan_bases.specs.Bases.{AreSeries}
 use Rattle.plan_tree.specs.Worlds.{world}
 use Rattle.plan_tree.specs.Nodes.{CanGo, shape_of}
 use Rattle.plan_tree.specs.Shapes.{SeriesOf}
@@ -8,12 +9,15 @@ use Rattle.plan_tree.specs.Spending.{IsFresh}
 use Rattle.plan_tree.specs.declared.node.Node.{Node}
 use Rattle.promql_meaning.specs.Selecting.{asked_over}
 use Rattle.series_marks.specs.Reaches.{IsReached}
+use Rattle.window_parts.proofs.Handed.{handed_on}
 use Rattle.window_parts.proofs.Made.{series_part}
 use Rattle.window_parts.proofs.over.over_selector.Goals as goal
 
 pub returns-clause-part : goal.returns-clause-part
-returns-clause-part g c = λ p inner arguments e i one.
-    let asked = asked_over c.args.store.now c.args.patterns.now c.args.span.now in
+returns-clause-part c = λ kept p inner arguments right e i one.
+    let store = c.args.bases.now.samples in
+    let asked = asked_over store kept c.args.span.now in
+    let are : AreSeries kept store c.args.selector.now.rules c.in_ok-series.series = c.in_ok-series.ensures.series kept right in
     let walk = c.args.course.now.walk in
     let kernel = c.in_ok-kernel.kernel in
     let made = c.in_ok-kernel.ensures in
@@ -30,14 +34,14 @@ returns-clause-part g c = λ p inner arguments e i one.
       },
       subst (λ (n : Node). CanGo (world asked.samples gs) asked.kept ps None n) (sym same) (one.sound.can gs ps),
     ))
-    (subst IsFresh (sym same) one.sound.fresh) c.in_ok-series.ensures.selected c.in_ok-series.ensures.chosen (c.settled-moment.ensures.moment c.args.store.now c.args.patterns.now) c.settled-moment.ensures.closed
+    (subst IsFresh (sym same) one.sound.fresh) are.selected are.these (c.settled-moment.ensures.moment store kept) c.settled-moment.ensures.closed
     (c.if-not-are_within.ensures.forward refl) c.walk.ensures.instants (c.if-not-are_within.ensures.times refl) i
 
-pub returns-then-not-are_rules_kept-clause-total : goal.returns-then-not-are_rules_kept-clause-total
-returns-then-not-are_rules_kept-clause-total g c = λ n few near within.
-    let these = subst (HaveTheirPatterns c.args.patterns.now) (sym c.as_slice.ensures) within.rules in
-    let none : false ≡ true = c.if-not-are_rules_kept.ensures.1 these in absurd (cc)
-
 pub returns-then-not-are_within-clause-total : goal.returns-then-not-are_within-clause-total
-returns-then-not-are_within-clause-total g c = λ n few near within.
+returns-then-not-are_within-clause-total c = λ kept n few near within there.
     let none : false ≡ true = c.if-not-are_within.ensures.near n few (record { near = near; timed = c.settled-moment.ensures.near within.timed; long = within.long }) in absurd (cc)
+
+pub returns-in_err-series-clause-total : goal.returns-in_err-series-clause-total
+returns-in_err-series-clause-total c = λ kept n few near within there.
+    let p = err_from_is_err_and c.from_residual.result c.from_residual.ensures.1 in
+    handed_on false _ _ _ p.1 p.2 (c.in_err-series.ensures.total there)

@@ -8,7 +8,8 @@ use Rattle.logical_plan.specs.declared.nodes.Plan.{Plan}
 use Rattle.logical_plan.specs.declared.nodes.PlanNode.TheVariants as node
 use Rattle.match_rule.specs.Patterns.{HasItsPattern, HaveTheirPatterns}
 use Rattle.plan_parts.specs.Courses.{IsLength, IsMomentWithin}
-use Rattle.plan_work.specs.Looks.{LookAtNoMore}
+use Rattle.plan_bases.specs.LeafLaws.{filter_is_leaf, range_is_leaf}
+use Rattle.plan_bases.specs.Leaves.{IsLeafOf}
 use Rattle.plan_work.specs.PlanLaws.{CostsAtMost}
 use Rattle.promql_meaning.specs.Selecting.{Asked}
 use Rattle.window_parts.specs.Over.{IsRangeOf, IsRangePlan, IsSelectorWithin}
@@ -28,7 +29,6 @@ returns-in_ok-copy-in-Range-clause-range t c = λ asked.
     record {
       gives = λ u. range_gives asked p rules moment range c.in-Range.is u ∙ (λ j. plan_meaning asked (planned p.at (node.Range (sym same j) moment range)) u);
       within = subst (λ rs. CostsAtMost asked rs moment range p) (sym same) (c.range_selectors_cost.ensures.range asked p rules moment range c.in-Range.is);
-      looks = subst (λ rs. LookAtNoMore asked.samples rs p) (sym same) (c.range_selectors_look.ensures.range asked.samples p rules moment range c.in-Range.is);
     }
 
 pub returns-in_ok-filtered-in-Some-clause-range : goal.returns-in_ok-filtered-in-Some-clause-range
@@ -46,8 +46,19 @@ returns-in_ok-filtered-in-Some-clause-range t c = λ asked.
           ∙ (λ j. plan_meaning asked (planned p.at (node.Range (sym made.rules j) (sym made.moment j) (sym made.range j))) u);
       within = coe 1 0 (j. CostsAtMost asked (made.rules j) (made.moment j) (made.range j) p)
           (c.range_selectors_cost.ensures.filter asked p base selector.rules more selector.moment selector.range c.in-Filter.is below.within);
-      looks = subst (λ rs. LookAtNoMore asked.samples rs p) (sym made.rules) (c.range_selectors_look.ensures.filter asked.samples p base selector.rules more c.in-Filter.is below.looks);
     }
+
+pub returns-in_ok-copy-in-Range-clause-leaf : goal.returns-in_ok-copy-in-Range-clause-leaf
+returns-in_ok-copy-in-Range-clause-leaf t c =
+    let r = c.in-Range in
+    subst (IsLeafOf c.args.p.now) (sym c.in_ok-copy-in-Range.ensures) (range_is_leaf c.args.p.now r.rules r.moment r.range r.is)
+
+pub returns-in_ok-filtered-in-Some-clause-leaf : goal.returns-in_ok-filtered-in-Some-clause-leaf
+returns-in_ok-filtered-in-Some-clause-leaf t c =
+    let selector = c.in-Some.selector in
+    let found = some_at (λ (s : RangeSelector). IsLeafOf c.get.result.now s.rules) _ selector c.in-Some.is c.in_ok-selector-in-Filter.ensures.leaf in
+    let below = subst (λ (q : Plan). IsLeafOf q selector.rules) c.get.ensures found in
+    subst (IsLeafOf c.args.p.now) (sym c.in_ok-filtered-in-Some.ensures.rules) (filter_is_leaf c.args.p.now c.in-Filter.base selector.rules c.in-Filter.rules c.in-Filter.is below)
 
 pub returns-in_ok-copy-in-Range-clause-total : goal.returns-in_ok-copy-in-Range-clause-total
 returns-in_ok-copy-in-Range-clause-total t c = λ kept is.
