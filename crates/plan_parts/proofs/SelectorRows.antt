@@ -1,7 +1,9 @@
 -- Selectors, and filters over them.
-use Rattle.std.proofs.Common.{◌≡◌, ◌∙◌, ◌<◌, ◌≤◌, Bool, true, false, List, [], ◌∷◌, ◌++◌, refl, sym, ap, subst, arith}
-use Rattle.std.specs.Prelude.{ℤ, ⊤, Option, Some, IfSome}
+use Rattle.std.proofs.Common.{◌≡◌, ◌∙◌, ◌<◌, ◌≤◌, Bool, true, false, List, [], ◌∷◌, ◌++◌, refl, sym, ap, subst, arith, true≢false}
+use Rattle.std.specs.Prelude.{ℕ, ℤ, ⊤, Option, None, Some, IfSome, is_some}
+use Rattle.std.specs.Borrow.{Bor}
 use Rattle.std.specs.List.{AllByRecursion}
+use Rattle.std.specs.Option.{option_map}
 use Rattle.frac_text.specs.Times.{time_limit}
 use Rattle.holders.specs.Joins.{back_of, both_of, front_of}
 use Rattle.label_set.specs.declared.rules.Rule.{Rule}
@@ -41,6 +43,14 @@ use Rattle.plan_parts.specs.Parts.{IsReadable, IsSelectorOf}
 
 pub some_at : {X : Type 0} (P : X → Type 0) (o : Option X) (x : X) → o ≡ Some x → IfSome o P → P x
 some_at P o x e h = subst (λ z. IfSome z P) e h
+
+-- ---- series that were found
+
+pub found_is : (o : Option (Bor (List ℕ))) (s : Bor (List ℕ)) (there : Option (List ℕ)) → o ≡ Some s → option_map (λ (b : Bor (List ℕ)). b.now) o ≡ there → there ≡ Some s.now
+found_is o s there e f = sym f ∙ ap (option_map (λ (b : Bor (List ℕ)). b.now)) e
+
+pub not_found : (o : Option (Bor (List ℕ))) (there : Option (List ℕ)) → o ≡ None → option_map (λ (b : Bor (List ℕ)). b.now) o ≡ there → is_some there ≡ true → ⊥
+not_found o there e f h = true≢false (sym h ∙ ap is_some (sym f ∙ ap (option_map (λ (b : Bor (List ℕ)). b.now)) e))
 
 -- ---- what a selector gives and costs
 
@@ -122,6 +132,12 @@ pub filter_deep : (p base : Plan) (more : List Rule) → p.node ≡ node.Filter 
 filter_deep p base more e deep =
     let same = ap (λ (m : Measure). m.depth) (ap (λ (m : PlanNode). measured (planned p.at m)) e ∙ of-Filter node_measure (λ q. q.node q.at) p.at base more) in omega (arith, same, deep)
 
+abbrev serving_node : PlanNode-F Serving Serving → Serving
+serving_node = node_serving
+
+abbrev measure_node : PlanNode-F (ℕ → Measure) Measure → ℕ → Measure
+measure_node = node_measure
+
 abbrev Fits : Part → Type 0
 Fits = IsWithin (λ rules. ⊤) hundred_years time_limit
 
@@ -141,10 +157,10 @@ module _ (kept : Kept) where
   )
 
   module _ (p base : Plan) (more : List Rule) (e : p.node ≡ node.Filter base more) where
-    rules_are : serving p ≡ node_serving (PlanNode-F.Filter (serving base) more)
+    rules_are : serving p ≡ serving_node (PlanNode-F.Filter (serving base) more)
     rules_are = ap (λ (m : PlanNode). serving (planned p.at m)) e ∙ of-Filter node_serving (λ q. q.node) p.at base more
 
-    parts_are : measured p ≡ node_measure (PlanNode-F.Filter (measured base) more) p.at
+    parts_are : measured p ≡ measure_node (PlanNode-F.Filter (measured base) more) p.at
     parts_are = ap (λ (m : PlanNode). measured (planned p.at m)) e ∙ of-Filter node_measure (λ q. q.node q.at) p.at base more
 
     pub base_patterns : HaveTheirPatterns kept (serving p).rules → HaveTheirPatterns kept (serving base).rules

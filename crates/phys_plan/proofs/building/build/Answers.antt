@@ -23,8 +23,8 @@ returns-clause-ready g c = λ es.
     let asked = asked_over c.args.store.now c.args.patterns.now c.args.span.now in
     let p = c.args.p.now in
     let copied : c.in_ok-walk.walk ≡ c.in-Some.course.walk = c.in_ok-walk.ensures ∙ c.walk.ensures.walk in
-    c.planted.ensures.ready asked p es (part_over c.args.store.now c.in_ok-bases.bases.samples c.args.patterns.now c.of-bases.new.patterns c.args.span.now c.in-Some.course.walk c.in_ok-walk.walk p c.in_ok-part.part
-    c.in_ok-bases.ensures.store c.of-bases.ensures.same copied c.in_ok-part.ensures.part)
+    c.planted.ensures.ready asked p es (part_over c.args.store.now c.in_ok-bases.bases.samples c.args.patterns.now c.of-2.new.patterns c.args.span.now c.in-Some.course.walk c.in_ok-walk.walk p c.in_ok-part.part
+    c.in_ok-bases.ensures.store c.of-2.ensures.same copied c.in_ok-part.ensures.part)
 
 pub returns-clause-gives : goal.returns-clause-gives
 returns-clause-gives g c = λ stay t on.
@@ -33,16 +33,16 @@ returns-clause-gives g c = λ stay t on.
     let walk = c.args.walk.now in
     let same : c.in-Some.course.walk ≡ walk = subst (λ (o : Option Courses). IfSome o (λ (course : Courses). course.walk ≡ walk)) c.in-Some.is c.in_ok-course.ensures.walk in
     let copied : c.in_ok-walk.walk ≡ c.in-Some.course.walk = c.in_ok-walk.ensures ∙ c.walk.ensures.walk in
-    c.planted.ensures.gives asked p (part_over c.args.store.now c.in_ok-bases.bases.samples c.args.patterns.now c.of-bases.new.patterns c.args.span.now c.in-Some.course.walk c.in_ok-walk.walk p c.in_ok-part.part
-    c.in_ok-bases.ensures.store c.of-bases.ensures.same copied c.in_ok-part.ensures.part) stay t (subst (λ (w : Walk). IsInstant w t) (sym (copied ∙ same)) on)
+    c.planted.ensures.gives asked p (part_over c.args.store.now c.in_ok-bases.bases.samples c.args.patterns.now c.of-2.new.patterns c.args.span.now c.in-Some.course.walk c.in_ok-walk.walk p c.in_ok-part.part
+    c.in_ok-bases.ensures.store c.of-2.ensures.same copied c.in_ok-part.ensures.part) stay t (subst (λ (w : Walk). IsInstant w t) (sym (copied ∙ same)) on)
 
 pub returns-clause-fresh : goal.returns-clause-fresh
 returns-clause-fresh g c =
     let asked = asked_over c.args.store.now c.args.patterns.now c.args.span.now in
     let p = c.args.p.now in
     let copied : c.in_ok-walk.walk ≡ c.in-Some.course.walk = c.in_ok-walk.ensures ∙ c.walk.ensures.walk in
-    c.planted.ensures.fresh asked p (part_over c.args.store.now c.in_ok-bases.bases.samples c.args.patterns.now c.of-bases.new.patterns c.args.span.now c.in-Some.course.walk c.in_ok-walk.walk p c.in_ok-part.part
-    c.in_ok-bases.ensures.store c.of-bases.ensures.same copied c.in_ok-part.ensures.part)
+    c.planted.ensures.fresh asked p (part_over c.args.store.now c.in_ok-bases.bases.samples c.args.patterns.now c.of-2.new.patterns c.args.span.now c.in-Some.course.walk c.in_ok-walk.walk p c.in_ok-part.part
+    c.in_ok-bases.ensures.store c.of-2.ensures.same copied c.in_ok-part.ensures.part)
 
 pub returns-clause-within : goal.returns-clause-within
 returns-clause-within g c =
@@ -52,8 +52,8 @@ returns-clause-within g c =
     let same : c.in-Some.course.walk ≡ walk = subst (λ (o : Option Courses). IfSome o (λ (course : Courses). course.walk ≡ walk)) c.in-Some.is c.in_ok-course.ensures.walk in
     let copied : c.in_ok-walk.walk ≡ c.in-Some.course.walk = c.in_ok-walk.ensures ∙ c.walk.ensures.walk in
     subst (λ (w : Walk). StaysWithin asked w p (shape_of c.planted.result.node)) (copied ∙ same)
-    (c.planted.ensures.within asked p (part_over c.args.store.now c.in_ok-bases.bases.samples c.args.patterns.now c.of-bases.new.patterns c.args.span.now c.in-Some.course.walk c.in_ok-walk.walk p c.in_ok-part.part
-    c.in_ok-bases.ensures.store c.of-bases.ensures.same copied c.in_ok-part.ensures.part))
+    (c.planted.ensures.within asked p (part_over c.args.store.now c.in_ok-bases.bases.samples c.args.patterns.now c.of-2.new.patterns c.args.span.now c.in-Some.course.walk c.in_ok-walk.walk p c.in_ok-part.part
+    c.in_ok-bases.ensures.store c.of-2.ensures.same copied c.in_ok-part.ensures.part))
 
 pub returns-in_err-course-clause-total : goal.returns-in_err-course-clause-total
 returns-in_err-course-clause-total g c = λ tree asked.
@@ -64,8 +64,8 @@ returns-in_err-course-clause-total g c = λ tree asked.
 pub returns-in_default-clause-total : goal.returns-in_default-clause-total
 returns-in_default-clause-total g c = λ tree asked. absurd (none_and (IsCourseNear 0) c.in_ok-course.field-0 c.in_default.not-Some (c.in_ok-course.ensures.near asked))
 
-pub grown-part-requires : goal.grown-part-requires
-grown-part-requires g c = subst (λ (kept : Kept). AreRight kept c.in_ok-bases.bases.samples c.in_ok-bases.bases.lists) (sym c.of-bases.ensures.same) c.in_ok-bases.ensures.right
+pub grown-requires : goal.grown-requires
+grown-requires g c = subst (λ (kept : Kept). AreRight kept c.in_ok-bases.bases.samples c.in_ok-bases.bases.lists) (sym c.of-2.ensures.same) c.in_ok-bases.ensures.right
 
 pub returns-in_err-bases-clause-total : goal.returns-in_err-bases-clause-total
 returns-in_err-bases-clause-total g c = λ tree asked.
@@ -84,7 +84,7 @@ returns-in_err-part-clause-total g c = λ tree asked.
     let near : IsCourseNear 0 c.in-Some.course = subst (λ (o : Option Courses). IsSomeAnd o (IsCourseNear 0)) c.in-Some.is (c.in_ok-course.ensures.near asked) in
     let lists = c.in_ok-bases.bases.lists in
     let grows = whole_grows c.args.patterns.now lists c.args.p.now c.in_ok-bases.ensures.holds tree in
-    let e = c.in_err-part.ensures.total 0 near (subst (λ (kept : Kept). CanGrow kept lists 0 c.args.p.now) (sym c.of-bases.ensures.same) grows) in
+    let e = c.in_err-part.ensures.total 0 near (subst (λ (kept : Kept). CanGrow kept lists 0 c.args.p.now) (sym c.of-2.ensures.same) grows) in
     let r = c.from_residual-in_err-part in
     let p = err_from_is_err_and r.result r.ensures.1 in
     subst (λ (built : Result Tree Unbuilt). IsOkUnless built Memory) (sym p.1) (p.2 ∙ e)

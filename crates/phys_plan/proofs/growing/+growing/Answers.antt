@@ -167,7 +167,7 @@ pub filtered-returns-in-Some-clause-part : goal.filtered-returns-in-Some-clause-
 filtered-returns-in-Some-clause-part t c =
     let asked = asked_over c.args.site.now.bases.now.samples c.args.patterns.now c.args.site.now.span.now in
     let leaf = c.in-Some.leaf in
-    let is : IsSelectorOf asked c.args.p.now leaf.rules leaf.moment false = some_at (λ (s : InstantSelector). (asked : Asked) → IsSelectorOf asked c.args.p.now s.rules s.moment false) _ leaf c.in-Some.is c.in_ok-instant_selector.ensures.selector asked in
+    let is : IsSelectorOf asked c.args.p.now leaf.rules leaf.moment false = some_at (λ (s : InstantSelector). (asked : Asked) → IsSelectorOf asked c.args.p.now s.rules s.moment false) _ leaf c.in-Some.is c.in_ok-leaf.ensures.selector asked in
     c.select.ensures.leaf c.args.patterns.now c.args.p.now c.requires is
 
 pub filtered-returns-in-Some-clause-total : goal.filtered-returns-in-Some-clause-total
@@ -176,14 +176,14 @@ filtered-returns-in-Some-clause-total t c = λ base rules e n near can.
     let kept = c.args.patterns.now in
     let lists = c.args.site.now.bases.now.lists in
     let leaf = c.in-Some.leaf in
-    let is : IsLeafOf p leaf.rules = some_at (λ (s : InstantSelector). IsLeafOf p s.rules) _ leaf c.in-Some.is c.in_ok-instant_selector.ensures.leaf in
-    let deep : 0 < (measured p).depth = some_at (λ (s : InstantSelector). 0 < (measured p).depth) _ leaf c.in-Some.is c.in_ok-instant_selector.ensures.deep in
-    let readable : IsReadable kept leaf.rules leaf.moment = some_at (λ (s : InstantSelector). IsReadable kept s.rules s.moment) _ leaf c.in-Some.is (c.in_ok-instant_selector.ensures.total kept can.placed.served.rules can.placed.within) in
+    let is : IsLeafOf p leaf.rules = some_at (λ (s : InstantSelector). IsLeafOf p s.rules) _ leaf c.in-Some.is c.in_ok-leaf.ensures.leaf in
+    let deep : 0 < (measured p).depth = some_at (λ (s : InstantSelector). 0 < (measured p).depth) _ leaf c.in-Some.is c.in_ok-leaf.ensures.deep in
+    let readable : IsReadable kept leaf.rules leaf.moment = some_at (λ (s : InstantSelector). IsReadable kept s.rules s.moment) _ leaf c.in-Some.is (c.in_ok-leaf.ensures.total kept can.placed.served.rules can.placed.within) in
     subst (λ (b : Bool). IsBuilt b c.select.result) (sym (vector-Filter kept lists n p base rules e can))
     (c.select.ensures.total n (let room = can.placed.room in omega (arith, room, deep)) near (leaf_holds kept lists p leaf.rules is can.holds readable.0) readable.1)
 
-pub filtered-returns-in_err-instant_selector-clause-total : goal.filtered-returns-in_err-instant_selector-clause-total
-filtered-returns-in_err-instant_selector-clause-total t c = λ base rules e n near can.
+pub filtered-returns-in_err-leaf-clause-total : goal.filtered-returns-in_err-leaf-clause-total
+filtered-returns-in_err-leaf-clause-total t c = λ base rules e n near can.
     let r = c.from_residual in
     let p = err_from_is_err_and r.result r.ensures.1 in
     subst (IsBuilt (is_scalar (T c.args.p.now).kind)) (sym p.1) p.2

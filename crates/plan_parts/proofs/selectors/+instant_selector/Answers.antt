@@ -26,7 +26,7 @@ returns-in_ok-copy-in-Select-clause-deep t c = select_deep c.args.p.now c.in-Sel
 
 pub returns-in_ok-filtered-in-Some-clause-deep : goal.returns-in_ok-filtered-in-Some-clause-deep
 returns-in_ok-filtered-in-Some-clause-deep t c =
-    let found = some_at (λ (s : InstantSelector). 0 < (measured c.get.result.now).depth) _ c.in-Some.below c.in-Some.is c.in_ok-instant_selector-in-Filter.ensures.deep in
+    let found = some_at (λ (s : InstantSelector). 0 < (measured c.get.result.now).depth) _ c.in-Some.below c.in-Some.is c.in_ok-below-in-Filter.ensures.deep in
     filter_deep c.args.p.now c.in-Filter.base c.in-Filter.rules c.in-Filter.is (subst (λ (q : Plan). 0 < (measured q).depth) c.get.ensures found)
 
 pub returns-in_ok-copy-in-Select-clause-total : goal.returns-in_ok-copy-in-Select-clause-total
@@ -41,7 +41,7 @@ returns-in_ok-filtered-in-Some-clause-selector t c = λ asked.
     let more = c.in-Filter.rules in
     let below = c.in-Some.below in
     let made = c.in_ok-filtered-in-Some.ensures in
-    let found = some_at (λ (s : InstantSelector). (asked : Asked) → IsSelectorOf asked c.get.result.now s.rules s.moment false) _ below c.in-Some.is c.in_ok-instant_selector-in-Filter.ensures.selector asked in
+    let found = some_at (λ (s : InstantSelector). (asked : Asked) → IsSelectorOf asked c.get.result.now s.rules s.moment false) _ below c.in-Some.is c.in_ok-below-in-Filter.ensures.selector asked in
     let known = subst (λ (q : Plan). IsSelectorOf asked q below.rules below.moment false) c.get.ensures found in
     coe 1 0 (j. IsSelectorOf asked p (made.rules j) (made.moment j) false)
     (filter_is_selector asked c.more_rules_filter.ensures.rows c.range_selectors_cost.ensures.filter p base below.rules more below.moment c.in-Filter.is known)
@@ -49,7 +49,7 @@ returns-in_ok-filtered-in-Some-clause-selector t c = λ asked.
 pub returns-in_ok-filtered-in-Some-clause-leaf : goal.returns-in_ok-filtered-in-Some-clause-leaf
 returns-in_ok-filtered-in-Some-clause-leaf t c =
     let below = c.in-Some.below in
-    let found = some_at (λ (s : InstantSelector). IsLeafOf c.get.result.now s.rules) _ below c.in-Some.is c.in_ok-instant_selector-in-Filter.ensures.leaf in
+    let found = some_at (λ (s : InstantSelector). IsLeafOf c.get.result.now s.rules) _ below c.in-Some.is c.in_ok-below-in-Filter.ensures.leaf in
     let known = subst (λ (q : Plan). IsLeafOf q below.rules) c.get.ensures found in
     subst (IsLeafOf c.args.p.now) (sym c.in_ok-filtered-in-Some.ensures.rules) (filter_is_leaf c.args.p.now c.in-Filter.base below.rules c.in-Filter.rules c.in-Filter.is known)
 
@@ -61,7 +61,7 @@ returns-in_ok-filtered-in-Some-clause-total t c = λ kept have within.
     let below = c.in-Some.below in
     let made = c.in_ok-filtered-in-Some.ensures in
     let q = c.get.result.now in
-    let found = c.in_ok-instant_selector-in-Filter.ensures.total kept
+    let found = c.in_ok-below-in-Filter.ensures.total kept
     (subst (λ (r : Plan). HaveTheirPatterns kept (serving r).rules) (sym c.get.ensures) (base_patterns kept p base more c.in-Filter.is have))
     (subst Within (sym c.get.ensures) (base_within kept p base more c.in-Filter.is within)) in
     let known : IsReadable kept below.rules below.moment = some_at (λ (s : InstantSelector). IsReadable kept s.rules s.moment) _ below c.in-Some.is found in
