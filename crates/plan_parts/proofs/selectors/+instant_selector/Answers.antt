@@ -1,38 +1,46 @@
-use Rattle.std.proofs.Common.{◌∙◌, ◌<◌, List, Option, false, subst, sym}
+use Rattle.std.proofs.Common.{◌≡◌, ◌∙◌, ◌<◌, Bool, List, ap, false, subst, sym}
 use Rattle.label_set.specs.declared.rules.Rule.{Rule}
 use Rattle.logical_plan.specs.Validity.{measured}
 use Rattle.logical_plan.specs.declared.nodes.Plan.{Plan}
+use Rattle.logical_plan.specs.declared.nodes.PlanNode.TheVariants as node
 use Rattle.match_rule.specs.Patterns.{HaveTheirPatterns}
 use Rattle.plan_bases.specs.LeafLaws.{filter_is_leaf, select_is_leaf}
 use Rattle.plan_bases.specs.Leaves.{IsLeafOf}
 use Rattle.plan_serving.specs.Serving.{serving}
-use Rattle.promql_ast.specs.declared.tree.Moment.{Moment}
 use Rattle.promql_meaning.specs.Selecting.{Asked}
 use Rattle.plan_parts.specs.Parts.{IsReadable, IsSelectorOf}
 use Rattle.plan_parts.specs.declared.selectors.InstantSelector.{InstantSelector}
 use Rattle.plan_parts.proofs.SelectorRows.{Within, base_patterns, base_within, filter_deep, filter_is_selector, filter_readable, select_deep, select_is_selector, select_readable, some_at}
 use Rattle.plan_parts.proofs.selectors.+instant_selector.Goals as goal
 
-pub returns-in_ok-copy-in-Select-clause-selector : goal.returns-in_ok-copy-in-Select-clause-selector
-returns-in_ok-copy-in-Select-clause-selector t c = λ asked.
-    subst (λ (rules : List Rule). IsSelectorOf asked c.args.p.now rules c.in-Select.moment false) (sym c.in_ok-copy-in-Select.ensures)
-    (select_is_selector asked c.args.p.now c.in-Select.rules c.in-Select.moment false c.in-Select.is)
+pub returns-in_ok-copy-in-Select-default-default-false-clause-selector : goal.returns-in_ok-copy-in-Select-default-default-false-clause-selector
+returns-in_ok-copy-in-Select-default-default-false-clause-selector t c = λ asked.
+    let s = c.in-Select-default-default-false in
+    let is : c.args.p.now.node ≡ node.Select s.rules s.moment false = s.is ∙ ap (λ (stamped : Bool). node.Select s.rules s.moment stamped) s.stamped-test in
+    subst (λ (rules : List Rule). IsSelectorOf asked c.args.p.now rules s.moment false) (sym c.in_ok-copy-in-Select-default-default-false.ensures) (select_is_selector asked c.args.p.now s.rules s.moment false is)
 
-pub returns-in_ok-copy-in-Select-clause-leaf : goal.returns-in_ok-copy-in-Select-clause-leaf
-returns-in_ok-copy-in-Select-clause-leaf t c = subst (IsLeafOf c.args.p.now) (sym c.in_ok-copy-in-Select.ensures) (select_is_leaf c.args.p.now c.in-Select.rules c.in-Select.moment c.in-Select.is)
+pub returns-in_ok-copy-in-Select-default-default-false-clause-leaf : goal.returns-in_ok-copy-in-Select-default-default-false-clause-leaf
+returns-in_ok-copy-in-Select-default-default-false-clause-leaf t c =
+    let s = c.in-Select-default-default-false in
+    let is : c.args.p.now.node ≡ node.Select s.rules s.moment false = s.is ∙ ap (λ (stamped : Bool). node.Select s.rules s.moment stamped) s.stamped-test in
+    subst (IsLeafOf c.args.p.now) (sym c.in_ok-copy-in-Select-default-default-false.ensures) (select_is_leaf c.args.p.now s.rules s.moment is)
 
-pub returns-in_ok-copy-in-Select-clause-deep : goal.returns-in_ok-copy-in-Select-clause-deep
-returns-in_ok-copy-in-Select-clause-deep t c = select_deep c.args.p.now c.in-Select.rules c.in-Select.moment false c.in-Select.is
+pub returns-in_ok-copy-in-Select-default-default-false-clause-deep : goal.returns-in_ok-copy-in-Select-default-default-false-clause-deep
+returns-in_ok-copy-in-Select-default-default-false-clause-deep t c =
+    let s = c.in-Select-default-default-false in
+    let is : c.args.p.now.node ≡ node.Select s.rules s.moment false = s.is ∙ ap (λ (stamped : Bool). node.Select s.rules s.moment stamped) s.stamped-test in
+    select_deep c.args.p.now s.rules s.moment false is
+
+pub returns-in_ok-copy-in-Select-default-default-false-clause-total : goal.returns-in_ok-copy-in-Select-default-default-false-clause-total
+returns-in_ok-copy-in-Select-default-default-false-clause-total t c = λ kept have within.
+    let s = c.in-Select-default-default-false in
+    let is : c.args.p.now.node ≡ node.Select s.rules s.moment false = s.is ∙ ap (λ (stamped : Bool). node.Select s.rules s.moment stamped) s.stamped-test in
+    subst (λ (rules : List Rule). IsReadable kept rules s.moment) (sym c.in_ok-copy-in-Select-default-default-false.ensures) (select_readable kept c.args.p.now s.rules s.moment false is have within)
 
 pub returns-in_ok-filtered-in-Some-clause-deep : goal.returns-in_ok-filtered-in-Some-clause-deep
 returns-in_ok-filtered-in-Some-clause-deep t c =
     let found = some_at (λ (s : InstantSelector). 0 < (measured c.get.result.now).depth) _ c.in-Some.below c.in-Some.is c.in_ok-below-in-Filter.ensures.deep in
     filter_deep c.args.p.now c.in-Filter.base c.in-Filter.rules c.in-Filter.is (subst (λ (q : Plan). 0 < (measured q).depth) c.get.ensures found)
-
-pub returns-in_ok-copy-in-Select-clause-total : goal.returns-in_ok-copy-in-Select-clause-total
-returns-in_ok-copy-in-Select-clause-total t c = λ kept have within.
-    subst (λ (rules : List Rule). IsReadable kept rules c.in-Select.moment) (sym c.in_ok-copy-in-Select.ensures)
-    (select_readable kept c.args.p.now c.in-Select.rules c.in-Select.moment false c.in-Select.is have within)
 
 pub returns-in_ok-filtered-in-Some-clause-selector : goal.returns-in_ok-filtered-in-Some-clause-selector
 returns-in_ok-filtered-in-Some-clause-selector t c = λ asked.
