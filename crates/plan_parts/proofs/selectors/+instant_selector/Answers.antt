@@ -16,25 +16,29 @@ use Rattle.plan_parts.proofs.selectors.+instant_selector.Goals as goal
 pub returns-in_ok-copy-in-Select-default-default-false-clause-selector : goal.returns-in_ok-copy-in-Select-default-default-false-clause-selector
 returns-in_ok-copy-in-Select-default-default-false-clause-selector t c = λ asked.
     let s = c.in-Select-default-default-false in
-    let is : c.args.p.now.node ≡ node.Select s.rules s.moment false = s.is ∙ ap (λ (stamped : Bool). node.Select s.rules s.moment stamped) s.stamped-test in
+    let plain : s.stamped ≡ false = rw s.stamped-is at s.stamped-test in
+    let is : c.args.p.now.node ≡ node.Select s.rules s.moment false = s.is ∙ ap (λ (stamped : Bool). node.Select s.rules s.moment stamped) plain in
     subst (λ (rules : List Rule). IsSelectorOf asked c.args.p.now rules s.moment false) (sym c.in_ok-copy-in-Select-default-default-false.ensures) (select_is_selector asked c.args.p.now s.rules s.moment false is)
 
 pub returns-in_ok-copy-in-Select-default-default-false-clause-leaf : goal.returns-in_ok-copy-in-Select-default-default-false-clause-leaf
 returns-in_ok-copy-in-Select-default-default-false-clause-leaf t c =
     let s = c.in-Select-default-default-false in
-    let is : c.args.p.now.node ≡ node.Select s.rules s.moment false = s.is ∙ ap (λ (stamped : Bool). node.Select s.rules s.moment stamped) s.stamped-test in
+    let plain : s.stamped ≡ false = rw s.stamped-is at s.stamped-test in
+    let is : c.args.p.now.node ≡ node.Select s.rules s.moment false = s.is ∙ ap (λ (stamped : Bool). node.Select s.rules s.moment stamped) plain in
     subst (IsLeafOf c.args.p.now) (sym c.in_ok-copy-in-Select-default-default-false.ensures) (select_is_leaf c.args.p.now s.rules s.moment is)
 
 pub returns-in_ok-copy-in-Select-default-default-false-clause-deep : goal.returns-in_ok-copy-in-Select-default-default-false-clause-deep
 returns-in_ok-copy-in-Select-default-default-false-clause-deep t c =
     let s = c.in-Select-default-default-false in
-    let is : c.args.p.now.node ≡ node.Select s.rules s.moment false = s.is ∙ ap (λ (stamped : Bool). node.Select s.rules s.moment stamped) s.stamped-test in
+    let plain : s.stamped ≡ false = rw s.stamped-is at s.stamped-test in
+    let is : c.args.p.now.node ≡ node.Select s.rules s.moment false = s.is ∙ ap (λ (stamped : Bool). node.Select s.rules s.moment stamped) plain in
     select_deep c.args.p.now s.rules s.moment false is
 
 pub returns-in_ok-copy-in-Select-default-default-false-clause-total : goal.returns-in_ok-copy-in-Select-default-default-false-clause-total
 returns-in_ok-copy-in-Select-default-default-false-clause-total t c = λ kept have within.
     let s = c.in-Select-default-default-false in
-    let is : c.args.p.now.node ≡ node.Select s.rules s.moment false = s.is ∙ ap (λ (stamped : Bool). node.Select s.rules s.moment stamped) s.stamped-test in
+    let plain : s.stamped ≡ false = rw s.stamped-is at s.stamped-test in
+    let is : c.args.p.now.node ≡ node.Select s.rules s.moment false = s.is ∙ ap (λ (stamped : Bool). node.Select s.rules s.moment stamped) plain in
     subst (λ (rules : List Rule). IsReadable kept rules s.moment) (sym c.in_ok-copy-in-Select-default-default-false.ensures) (select_readable kept c.args.p.now s.rules s.moment false is have within)
 
 pub returns-in_ok-filtered-in-Some-clause-deep : goal.returns-in_ok-filtered-in-Some-clause-deep
