@@ -28,6 +28,6 @@ rewrites choices kept p =
     (chosen choices.propagate (rebuilt hand_rules)
     (chosen choices.sort (rebuilt (order_rules kept)) p))))
 
--- those that a plan goes through before it is evaluated where one store holds all samples: no selectors are merged, and no average is split
+-- those that a plan goes through before it is evaluated where one store holds all samples: no average is split
 abbrev pub evaluating : Choices → Choices
-evaluating choices = record { sort = choices.sort; propagate = choices.propagate; merge = false; trim = choices.trim; avg = false }
+evaluating choices = record { sort = choices.sort; propagate = choices.propagate; merge = choices.merge; trim = choices.trim; avg = false }

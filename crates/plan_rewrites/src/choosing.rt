@@ -110,10 +110,9 @@ pub fn rewritten(
     Ok(q)
 }
 
-/// A plan as it is evaluated where one store holds all samples: behind the rewrites that are chosen but two. An average isn't split,
-/// since the sum and the count would both be made of the same samples; and selectors aren't merged, since a selector reads no sample
-/// then of a series that a filter over it would leave out. Otherwise as with all rewrites that are chosen. The only error is want of
-/// memory. (This project's own.)
+/// A plan as it is evaluated where one store holds all samples: behind the rewrites that are chosen but one. An average isn't split,
+/// since the sum and the count would both be made of the same samples. Otherwise as with all rewrites that are chosen. The only error
+/// is want of memory. (This project's own.)
 pub fn evaluated(
     alloc: Global,
     p: Plan,
@@ -130,7 +129,7 @@ pub fn evaluated(
     let whole = Choices {
         sort: choices.sort,
         propagate: choices.propagate,
-        merge: false,
+        merge: choices.merge,
         trim: choices.trim,
         avg: false,
     };

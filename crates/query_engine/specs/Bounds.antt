@@ -18,7 +18,7 @@ use Rattle.query_engine.specs.Planning.{plan_of}
 use Rattle.ticks.specs.Works.{Counts}
 use Rattle.ticks.specs.declared.grid.Grid.{Grid}
 
--- the plan that a typed tree is evaluated by: behind the rewrites that are chosen, but that no selectors are merged and no average is split
+-- the plan that a typed tree is evaluated by: behind the rewrites that are chosen, but that no average is split
 abbrev pub evaluated_plan : Choices → Kept → List Placed → Expr → Plan
 evaluated_plan choices kept placed e = plan_of (evaluating choices) kept placed e
 

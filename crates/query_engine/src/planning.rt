@@ -38,10 +38,10 @@ fn planned(
     plan_rewrites::rewritten(alloc, plan, options.choices(), patterns)
 }
 
-/// The plan that a typed tree is evaluated by over a store: behind the rewrites that are chosen, but that no selectors are merged and no
-/// average is split. Over samples whose labels are label sets it means what the tree means. It gives a scalar or a vector, each of its
-/// nodes is typed, within the limits of the language it is valid, and kernels serve it where the patterns of the tree are kept. The only
-/// error is want of memory.
+/// The plan that a typed tree is evaluated by over a store: behind the rewrites that are chosen, but that no average is split. Over
+/// samples whose labels are label sets it means what the tree means. It gives a scalar or a vector, each of its nodes is typed, within
+/// the limits of the language it is valid, and kernels serve it where the patterns of the tree are kept. The only error is want of
+/// memory.
 pub(crate) fn evaluated(
     alloc: Global,
     typed: &Typed,
