@@ -1,1 +1,3 @@
 mod Costs
+mod Looked
+mod Read

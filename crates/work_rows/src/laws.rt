@@ -1,5 +1,6 @@
 //! Rows of counts. Each sample stands on a minute, the first one at time 0, whatever its value.
 ghost use Rattle.work_rows.specs.Rows.{FixedEndsFetchFour, MatchingRulesFetchTwo, SlidingSumsFetchEachSampleOnce, SumsSeekOnce, UnmatchedRulesFetchEleven};
+ghost use Rattle.work_rows.specs.Tests.{EqualSelectorsAreSelectedOnce, MergedSelectorsTestFour, WrittenSelectorsTestThree};
 
 /// `sum_over_time(x[10m])` over an hour of samples, at each of its minutes: each of the 61 samples is fetched once.
 pub fn sliding_sums_fetch_each_sample_once()
@@ -24,4 +25,21 @@ pub fn unmatched_rules_fetch_eleven()
 /// `a{x="1"} * b{x="1"}`, as the rules of a side are given to the other: two.
 pub fn matching_rules_fetch_two()
     ensures { MatchingRulesFetchTwo }
+{}
+
+/// `sum(metric{a="b",c="d"}) / scalar(sum(metric{a="b"}))` as it is written, where no series but these two has the name or `c="d"`: one
+/// series for the first selector and two for the second.
+pub fn written_selectors_test_three()
+    ensures { WrittenSelectorsTestThree }
+{}
+
+/// The same with a filter of one rule over the second selector in place of the first: two series for the selector, once, and two for the
+/// filter.
+pub fn merged_selectors_test_four()
+    ensures { MergedSelectorsTestFour }
+{}
+
+/// `metric{a="b"} + metric{a="b"}`: the two series, once.
+pub fn equal_selectors_are_selected_once()
+    ensures { EqualSelectorsAreSelectedOnce }
 {}
