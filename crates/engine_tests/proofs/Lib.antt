@@ -1,0 +1,4 @@
+mod Askables
+mod Beginning
+mod Loading
+mod Moving

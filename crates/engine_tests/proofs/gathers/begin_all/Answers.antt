@@ -1,0 +1,14 @@
+use Rattle.std.proofs.Common.{◌≡◌, ◌∙◌, ◌≤◌, length, arith}
+use Rattle.engine_tests.proofs.Beginning.{all_begun, begun_more, set_long}
+use Rattle.engine_tests.proofs.gathers.begin_all.Goals as goal
+
+pub loop-i-preserved : goal.loop-i-preserved
+loop-i-preserved g c = record {
+  begun = begun_more (λ b. (goal.Engine-dyn g (b.vtable, b.value)).seen b.value) c.loop-i.engines c.loop-i.i c.begin.new.engine c.begin.ensures.asks c.begin.ensures.going c.loop-i.invariant.begun;
+  len = set_long c.loop-i.engines c.loop-i.i c.begin.new.engine ∙ c.loop-i.invariant.len;
+}
+
+pub returns : goal.returns
+returns g c =
+    let whole : length c.loop-i.engines ≤ c.loop-i.i = omega (arith, c.loop-i-test.false, c.loop-i.invariant.len) in
+    all_begun (λ b. (goal.Engine-dyn g (b.vtable, b.value)).seen b.value) c.loop-i.engines c.loop-i.i whole c.loop-i.invariant.begun
