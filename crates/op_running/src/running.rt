@@ -7,6 +7,9 @@ use crate::summary::Summary;
 use std::alloc::{AllocError, Global};
 use xfrac::XFrac;
 
+/// Of fewer values than this nothing is kept: to go over them costs no more than what is kept of them.
+const FEW: usize = 8;
+
 /// Two stacks: what is kept of each tail of the values in front, the shortest first, and of so many values behind these. What came
 /// later isn't counted yet.
 #[derive(Drop)]
@@ -42,12 +45,15 @@ impl<S: Summary> Running<S> {
         }
     }
 
-    /// Counts the values that came. The only error is want of memory; then none is counted.
+    /// Counts the values that came, but a first few. The only error is want of memory; then none is counted.
     pub fn settle(&mut self, values: &[XFrac]) -> Result<(), AllocError>
         requires { Keeps S.is_of self.old.tails.items self.old.behind self.old.counted values.now }
         ensures { Keeps S.is_of self.new.tails.items self.new.behind self.new.counted values.now }
     {
         if self.tails.is_empty() && self.counted == 0 {
+            if values.len() < FEW {
+                return Ok(());
+            }
             self.behind = S::none();
             self.begin(values)
         } else {
