@@ -53,3 +53,12 @@ equal_by_parts a b t left right is =
   where
     reflexive : (f : ℤ × ℕ) → fraction_order f f ≡ Equal
     reflexive f = same_int (f.0 *ℤ pos f.1)
+
+-- of whole numbers the numerators decide
+pub wholes_by_numerators : (a b : ℤ × ℕ) → a.1 ≡ 1 → b.1 ≡ 1 → int_cmp a.0 b.0 ≡ fraction_order a b
+wholes_by_numerators a b one other =
+    let first : a.0 *ℤ pos 1 ≡ a.0 = omega (arith, ints) in
+    let second : b.0 *ℤ pos 1 ≡ b.0 = omega (arith, ints) in
+    let left : a.0 *ℤ pos b.1 ≡ a.0 = ap (λ (k : ℕ). a.0 *ℤ pos k) other ∙ first in
+    let right : b.0 *ℤ pos a.1 ≡ b.0 = ap (λ (k : ℕ). b.0 *ℤ pos k) one ∙ second in
+    sym (ap (λ (x : ℤ). int_cmp x (b.0 *ℤ pos a.1)) left ∙ ap (λ (y : ℤ). int_cmp a.0 y) right)

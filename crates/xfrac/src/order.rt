@@ -72,11 +72,24 @@ fn holds(op: CompareOp, order: Ordering) -> bool
     }
 }
 
+/// How two whole numbers stand to one another.
+fn cmp_wholes(a: &Frac, b: &Frac) -> Ordering
+    requires left { a.now.1 ≡ 1 }
+    requires right { b.now.1 ≡ 1 }
+    ensures { result ≡ fraction_order a.now b.now }
+{
+    a.numerator().cmp(&b.numerator())
+}
+
+/// How two fractions stand to one another.
 fn cmp_fractions(a: &Frac, b: &Frac) -> Ordering
     ensures { result ≡ fraction_order a.now b.now }
 {
-    let (m, d) = (a.magnitude(), a.denominator());
-    let (n, e) = (b.magnitude(), b.denominator());
+    let (d, e) = (a.denominator(), b.denominator());
+    if d == 1 && e == 1 {
+        return cmp_wholes(a, b);
+    }
+    let (m, n) = (a.magnitude(), b.magnitude());
     match (a.is_negative(), b.is_negative()) {
         (false, false) => ratio::order(m, d, n, e),
         (true, true) => ratio::order(n, e, m, d),
