@@ -11,7 +11,8 @@ use Rattle.xfrac.specs.Fractions.{IsReduced, limit, lowest, with_sign}
 use Rattle.xfrac.specs.Sums.{Totals, totals, joined, alone, fits, value_of, sum_of, upper, lower}
 use Rattle.xfrac.specs.declared.value.XFrac.TheVariants.{Fin}
 use Rattle.xfrac.specs.Gcds.{product_positive, gcd-unique, dvd_other_factor, apart_below, reduced_apart, positive_quotient}
-use Rattle.xfrac.specs.Formed.{reduced_parts, lowest-with_sign}
+use Rattle.xfrac.specs.Formed.{reduced_parts, lowest-with_sign, reduced_whole}
+use Rattle.xfrac.specs.Reduced.{IsGcd-one}
 use Rattle.xfrac.proofs.Multiples.{lcm-is}
 use Rattle.xfrac.proofs.Totalling.{same_totals, totals-single, joined_totals}
 use Rattle.xfrac.proofs.Adding.{above-with_sign, below-with_sign, upper_times, lower_times}
@@ -167,3 +168,23 @@ pub value_over : (s t b : Bool) (a c m n p q r : ℕ) → with_sign b r ≡ pos 
 value_over s t b a c m n p q r is em ea ec =
     ap (λ z. lowest z m) is ∙ ap (λ z. lowest (pos (upper s a + upper t c) -ℤ pos (lower s a + lower t c)) z) em
     ∙ ap (λ z. lowest (pos (upper s z + upper t c) -ℤ pos (lower s z + lower t c)) n) ea ∙ ap (λ z. lowest (pos (upper s p + upper t z) -ℤ pos (lower s p + lower t z)) n) ec
+
+-- ---- whole numbers
+
+pub whole_totals : (f h : ℤ × ℕ) (s t : Bool) (m n d e : ℕ) → f ≡ (with_sign s m, d) → h ≡ (with_sign t n, e) → f.1 ≡ 1 → h.1 ≡ 1 → totals (Fin f ∷ Fin h ∷ []) ≡ two s t 1 m n
+whole_totals f h s t m n d e ef eh one other =
+    let some : 0 < 1 = omega arith in
+    let left : m * 1 ≡ m = omega arith in
+    let right : n * 1 ≡ n = omega arith in
+    let d_is : d ≡ 1 = sym (ap (λ (z : ℤ × ℕ). z.1) ef) ∙ one in
+    let e_is : e ≡ 1 = sym (ap (λ (z : ℤ × ℕ). z.1) eh) ∙ other in
+    two_totals f h s t m 1 n 1 1 1 1 (ef ∙ ap (λ (z : ℕ). (with_sign s m, z)) d_is) (eh ∙ ap (λ (z : ℕ). (with_sign t n, z)) e_is) some some (IsGcd-one 1) refl refl
+    ∙ ap (λ z. two s t 1 z (n * 1)) left ∙ ap (λ z. two s t 1 m z) right
+
+pub whole_value : (s t b : Bool) (m n r : ℕ) → with_sign b r ≡ pos (upper s m + upper t n) -ℤ pos (lower s m + lower t n) → (with_sign b r, 1) ≡ lowest (pos (upper s m + upper t n) -ℤ pos (lower s m + lower t n)) 1
+whole_value s t b m n r is = as_it_stands ∙ ap (λ z. lowest z 1) is
+  where
+    as_it_stands : (with_sign b r, 1) ≡ lowest (with_sign b r) 1
+    as_it_stands =
+        let parts : (r / gcd r 1 ≡ r) × (1 / gcd r 1 ≡ 1) = reduced_whole r 1 refl in
+        sym (lowest-with_sign b r 1 ∙ ap (λ x. (with_sign b x, 1 / gcd r 1)) parts.0 ∙ ap (λ y. (with_sign b r, y)) parts.1)

@@ -243,6 +243,9 @@ pub(crate) fn sum_of_two(a: &XFrac, b: &XFrac) -> Option<XFrac>
 fn sum_of_fractions(x: &Frac, y: &Frac) -> Option<XFrac>
     ensures { result ≡ sum_of (XFrac.Fin x.now ∷ XFrac.Fin y.now ∷ []) }
 {
+    if x.denominator() == 1 && y.denominator() == 1 {
+        return sum_of_wholes(x, y);
+    }
     let (negative, m, d) = x.split();
     let (other_negative, n, e) = y.split();
     let shared = shared_divisor(d, e);
@@ -256,6 +259,21 @@ fn sum_of_fractions(x: &Frac, y: &Frac) -> Option<XFrac>
     }
     let (below, total) = signed_sum(negative, left, other_negative, right);
     Some(XFrac::Fin(reduced_by(below, total, multiple, shared)))
+}
+
+/// The sum of two whole numbers.
+fn sum_of_wholes(x: &Frac, y: &Frac) -> Option<XFrac>
+    requires left { x.now.1 ≡ 1 }
+    requires right { y.now.1 ≡ 1 }
+    ensures { result ≡ sum_of (XFrac.Fin x.now ∷ XFrac.Fin y.now ∷ []) }
+{
+    let (negative, m, _) = x.split();
+    let (other_negative, n, _) = y.split();
+    if m + n > LIMIT {
+        return None;
+    }
+    let (below, total) = signed_sum(negative, m, other_negative, n);
+    Some(XFrac::Fin(Frac::with_parts(below, total, 1)))
 }
 
 /// The sum of two magnitudes with their signs.
