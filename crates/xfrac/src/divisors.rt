@@ -26,9 +26,25 @@ fn common_divisor(a: u128, b: u128) -> u128
         return a;
     }
     if a <= SMALL && b <= SMALL {
-        return small_common_divisor(a as u64, b as u64) as u128;
+        return divided_common_divisor(a as u64, b as u64) as u128;
     }
     common_divisor(b, a % b)
+}
+
+/// By two divisions, which often end it, and else bring numbers of unlike sizes together.
+fn divided_common_divisor(a: u64, b: u64) -> u64
+    requires { 0 < b }
+    ensures { IsGcd a b result }
+{
+    let rest = a % b;
+    if rest == 0 {
+        return b;
+    }
+    let next = b % rest;
+    if next == 0 {
+        return rest;
+    }
+    small_common_divisor(rest, next)
 }
 
 /// By differences of odd numbers, after the twos that both numbers have.
