@@ -105,8 +105,8 @@ fn copy_of<T: Copy>(alloc: Global, items: &[T]) -> Result<Vec<T>, AllocError>
     Ok(copy)
 }
 
-/// How many samples there is room for from the first one on.
-const FIRST: usize = 16;
+/// How many samples there is room for from the first one on: five minutes have as many at a sample each half minute.
+const FIRST: usize = 10;
 
 /// Room is made in both columns first, so that they stay of one length.
 fn push_both(
@@ -152,10 +152,17 @@ fn pack(times: &mut Vec<Ms>, values: &mut Vec<XFrac>, start: usize) -> usize
     ensures times { times.new.items ≡ drop start times.old.items }
     ensures values { values.new.items ≡ drop start values.old.items }
 {
-    let left = times.len() - start;
-    times.rotate_left(start);
-    times.truncate(left);
-    values.rotate_left(start);
-    values.truncate(left);
+    keep_from(times, start);
+    keep_from(values, start);
     0
+}
+
+/// Moves the items from a place on to the front, and lets those before go.
+fn keep_from<T: Copy>(items: &mut Vec<T>, start: usize)
+    requires { start ≤ length items.old.items }
+    ensures { items.new.items ≡ drop start items.old.items }
+{
+    let left = items.len() - start;
+    items.copy_within(start.., 0);
+    items.truncate(left);
 }
