@@ -153,14 +153,22 @@ pub(crate) fn no_marks(alloc: Global) -> Marks
     }
 }
 
-/// A step without slots and marks. It takes no memory.
-fn blank(alloc: Global, at: Ms) -> PlacedStep
-    ensures { result ≡ blank at }
+/// A step without slots and marks, with room for so many slots. The only error is want of memory.
+fn blank(alloc: Global, at: Ms, room: usize) -> Result<PlacedStep, AllocError>
+    ensures { IfOk result (λ step. step ≡ blank at) }
 {
-    PlacedStep {
+    Ok(PlacedStep {
         at,
-        slots: Items::new(alloc),
+        slots: Items::with_capacity(alloc, room)?,
         marks: no_marks(alloc),
+    })
+}
+
+/// How many slots the last step has.
+fn slots_of_last(steps: &[PlacedStep]) -> usize {
+    match steps.last() {
+        Some(step) => step.slots.as_slice().len(),
+        None => 0,
     }
 }
 
@@ -199,7 +207,9 @@ fn begin_at(
         make_blank(&mut all[count], alloc, at);
         return Ok(count + 1);
     }
-    all.push(blank(alloc, at))?;
+    // Steps mostly have as many slots as the one before.
+    let step = blank(alloc, at, slots_of_last(all.as_slice()))?;
+    all.push(step)?;
     Ok(all.len())
 }
 
