@@ -221,7 +221,7 @@ impl Labels {
         ensures { IfOk result (λ l. l ≡ filter (λ p. is_chosen listed (with_metric metric names.now) p.0) self.now) }
     {
         let marks = marks_of(&self.pairs, metric, names);
-        let mut pairs = Pairs::new(self.pairs.allocator());
+        let mut pairs = self.pairs.blank()?;
         for place in 0..self.pairs.len() {
             let marked = marks[place];
             if marked != listed {

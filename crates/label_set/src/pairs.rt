@@ -49,6 +49,15 @@ impl Pairs {
         }
     }
 
+    /// No pairs, with as much room as these take, on their allocator. The only error is want of memory.
+    pub fn blank(&self) -> Result<Pairs, AllocError>
+        ensures { IfOk result (λ ps. ps ≡ []) }
+    {
+        let text = String::with_capacity(self.allocator(), self.text.as_str().len())?;
+        let spans = Items::with_capacity(self.allocator(), self.len())?;
+        Ok(Pairs { text, spans })
+    }
+
     /// The allocator that the pairs were made with.
     pub fn allocator(&self) -> Global {
         self.spans.allocator()
