@@ -29,7 +29,7 @@ impl PatternRoom {
     pub fn new(alloc: Global) -> Result<PatternRoom, AllocError>
         ensures places { IfOk result (λ room. room ≡ 32) }
     {
-        let mut places = Vec::new(alloc);
+        let mut places = Vec::with_capacity(alloc, MOST_PATTERNS)?;
         for _ in 0..MOST_PATTERNS {
             places.push(OnceCell::new())?;
         }
