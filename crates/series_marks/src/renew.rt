@@ -1,7 +1,8 @@
 ghost use Rattle.sample_store.specs.Samples.{EndsBy, EndsWith, samples_at};
+ghost use Rattle.series_marks.specs.Picks.{BeginsAt, picked_at, picked_of};
 ghost use Rattle.series_marks.specs.Reads.{IsNoEarlier, Rises, edge_of, after, head_of, later_of, mark_at, mark_of, probes_of, read_at, read_of};
 ghost use Rattle.std.specs.Option.{option_to_list};
-ghost use Rattle.std.specs.Prelude.{◌≡◌, ◌+◌, ◌++◌, ◌<◌, ◌<ℤ◌, ◌≤◌, ◌≤ℤ◌, None, drop, if◌then◌else◌, length, MatchOption};
+ghost use Rattle.std.specs.Prelude.{◌≡◌, ◌+◌, ◌++◌, ◌<◌, ◌<ℤ◌, ◌≤◌, ◌≤ℤ◌, ℤ, None, drop, if◌then◌else◌, length, MatchOption};
 
 use crate::advance::{advance, stands_at};
 use crate::mark::Mark;
@@ -73,6 +74,7 @@ fn begin<W: Ledger>(store: &Store, s: u32, edge: Ms, m: Ms, work: &mut Work<W>) 
     requires rises { Rises None (samples_at store.now s) }
     ensures mark { result ≡ mark_at edge.0 m.0 (samples_at store.now s) }
     ensures read { work.new.fetched ≤ work.old.fetched + read_at edge.0 m.0 (samples_at store.now s) }
+    ensures counted { work.new.fetched ≡ work.old.fetched + picked_at edge.0 m.0 m.0 (samples_at store.now s) }
     ensures probed { work.new.probed ≤ work.old.probed + 64 }
     ensures tested { work.new.tested ≡ work.old.tested }
 {
@@ -131,6 +133,7 @@ pub fn renewed<W: Ledger>(
     requires later { IsNoEarlier reached m }
     ensures mark { result ≡ mark_at (edge_of reached edge).0 m.0 (samples_at store.now s) }
     ensures read { work.new.fetched + read_of reached (samples_at store.now s) ≤ work.old.fetched + read_at (edge_of reached edge).0 m.0 (samples_at store.now s) }
+    ensures counted { (first : ℤ) → BeginsAt first reached m → work.new.fetched + picked_of first reached (samples_at store.now s) ≡ work.old.fetched + picked_at (edge_of reached edge).0 first m.0 (samples_at store.now s) }
     ensures probed { work.new.probed + probes_of reached ≤ work.old.probed + 64 }
     ensures tested { work.new.tested ≡ work.old.tested }
 {

@@ -4,6 +4,7 @@ use Rattle.sample_store.specs.Samples.{Samples, later_than, samples_at}
 use Rattle.ticks.specs.declared.moment.Ms.{Ms}
 use Rattle.series_marks.specs.declared.mark.Mark.{Mark}
 use Rattle.series_marks.specs.Marked.{is_mark}
+use Rattle.series_marks.specs.Counted.{picked_first}
 use Rattle.series_marks.specs.Reads.{after, ahead_of, head_of, later_of, until}
 use Rattle.series_marks.proofs.Newest.{after_reach, newest_among, newest_is}
 use Rattle.series_marks.proofs.Stores.{after_edge, few_behind, rest_behind}
@@ -39,3 +40,12 @@ returns-clause-read g c =
     let two = c.next_unless-ahead.ensures.fetched in
     let none = c.seek-cursor.ensures.fetched in
     omega (arith, last, ahead, one, two, none)
+
+pub returns-clause-counted : goal.returns-clause-counted
+returns-clause-counted g c =
+    let S = samples_at c.args.store.now c.args.s in
+    let is = returns-clause-mark g c in
+    let one = c.newest_behind-last.ensures.fetched in
+    let none = c.seek-cursor.ensures.fetched in
+    picked_first c.args.edge.0 c.args.m.0 S c.next_unless-ahead.new.work.fetched c.newest_behind-last.new.work.fetched c.args.work.now.fetched (length (option_to_list c.newest_behind-last.result)) (length (option_to_list c.next_unless-ahead.result))
+    (omega (arith, one, none)) c.next_unless-ahead.ensures.fetched (ap (λ (k : Mark). length (option_to_list k.last)) is) (ap (λ (k : Mark). length (option_to_list k.ahead)) is)
