@@ -1,10 +1,11 @@
 ghost use Rattle.op_select.specs.Newest.{entry_shown, entry_under, marks_of, names_of, shown as value_shown, told as value_told};
 ghost use Rattle.promql_meaning.specs.Selecting.{fresh_sample};
+ghost use Rattle.series_marks.specs.Picks.{BeginsAt, picks_of};
 ghost use Rattle.series_marks.specs.Reaches.{AreThere, reads_of, searches_of};
 ghost use Rattle.series_marks.specs.Reads.{AreRising, IsNoEarlier, edge_of};
 ghost use Rattle.std.specs.List.{filter_map};
 ghost use Rattle.std.specs.Option.{option_to_list};
-ghost use Rattle.std.specs.Prelude.{◌≡◌, ◌+◌, ◌<◌, ◌≤◌, ◌++◌, ◌∷◌, [], Some, length, option_and_then, slice_get, OnOk};
+ghost use Rattle.std.specs.Prelude.{◌≡◌, ◌+◌, ◌<◌, ◌≤◌, ◌++◌, ◌∷◌, [], ℤ, Some, length, option_and_then, slice_get, OnOk};
 ghost use Rattle.std.specs.Result.{result_ok};
 ghost use Rattle.step_batch.specs.Lent.{IsFreeFrom, IsLater, no_marks, stages, step_of};
 ghost use Rattle.window_fn.specs.Points.{in_seconds, milliseconds};
@@ -103,6 +104,7 @@ pub fn put_rows<W: Ledger>(
     ensures lent { OnOk result ((front at : _) → stages buffer.old ≡ front ++ record { at = at; step = step_of [] no_marks } ∷ []
         → stages buffer.new ≡ front ++ record { at = at; step = step_of (filter_map (entry_shown store.now stamped (Some (edge_of reached edge, m)) edge.0) series.now) no_marks } ∷ []) }
     ensures fetched { work.new.fetched + reads_of reached store.now series.now ≤ work.old.fetched + reads_of (Some (edge_of reached edge, m)) store.now series.now }
+    ensures counted { OnOk result ((first : ℤ) → BeginsAt first reached m → work.new.fetched + picks_of first reached store.now series.now ≡ work.old.fetched + picks_of first (Some (edge_of reached edge, m)) store.now series.now) }
     ensures probed { work.new.probed + searches_of reached series.now ≤ work.old.probed + searches_of (Some (edge_of reached edge, m)) series.now }
     ensures tested { work.new.tested ≡ work.old.tested }
 {

@@ -1,5 +1,6 @@
 ghost use Rattle.op_select.specs.Newest.{AreNamed, AreOnce, marks_of, names_of, selected};
 ghost use Rattle.promql_meaning.specs.Selecting.{lookback};
+ghost use Rattle.series_marks.specs.Picks.{BeginsWith, picks_of};
 ghost use Rattle.series_marks.specs.Reaches.{AreThere, Follow, IsReached, IsSoon, reach, reach_all, reads_of, searches_of, window_edge};
 ghost use Rattle.series_marks.specs.Reads.{AreRising, blank};
 ghost use Rattle.step_batch.specs.Lent.{IsLater, stages};
@@ -8,7 +9,7 @@ ghost use Rattle.ticks.specs.Walks.{IsTime, moment_at};
 ghost use Rattle.std.specs.List.{IsDistinct};
 ghost use Rattle.std.specs.Map.{keys_of};
 ghost use Rattle.label_set.specs.LabelEquality.{labels_eq};
-ghost use Rattle.std.specs.Prelude.{◌≡◌, ◌+◌, ◌-ℤ◌, ◌<ℤ◌, ◌≤◌, ◌++◌, ◌∷◌, [], None, Some, map, OnOk, IfOk};
+ghost use Rattle.std.specs.Prelude.{◌≡◌, ◌+◌, ◌-ℤ◌, ◌<ℤ◌, ◌≤◌, ◌++◌, ◌∷◌, [], ℤ, None, Some, map, OnOk, IfOk};
 
 use crate::rows::put_rows;
 use holders::Items;
@@ -161,6 +162,8 @@ impl Select {
         ensures later { OnOk result ((u : _) → t.0 <ℤ u.0 → IsLater self.new.buffer u) }
         ensures lent { OnOk result (stages self.new.buffer ≡ stages self.old.buffer ++ selected store.now self.old.series self.old.moment self.old.stamped t ∷ []) }
         ensures fetched { work.new.fetched + reads_of self.old.reached store.now self.old.series ≤ work.old.fetched + reads_of (reach lookback self.old.reached self.old.moment t) store.now self.old.series }
+        ensures counted { OnOk result ((first : ℤ) → BeginsWith first self.old.reached self.old.moment (t ∷ [])
+            → work.new.fetched + picks_of first self.old.reached store.now self.old.series ≡ work.old.fetched + picks_of first (reach lookback self.old.reached self.old.moment t) store.now self.old.series) }
         ensures probed { work.new.probed + searches_of self.old.reached self.old.series ≤ work.old.probed + searches_of (reach lookback self.old.reached self.old.moment t) self.old.series }
         ensures tested { work.new.tested ≡ work.old.tested }
     {
@@ -208,6 +211,8 @@ impl Select {
         ensures edge { OnOk result (IsReached self.old.moment.closed lookback self.new.reached) }
         ensures lent { OnOk result (stages self.new.buffer ≡ map (selected store.now self.old.series self.old.moment self.old.stamped) at.now) }
         ensures fetched { work.new.fetched + reads_of self.old.reached store.now self.old.series ≤ work.old.fetched + reads_of (reach_all lookback self.old.reached self.old.moment at.now) store.now self.old.series }
+        ensures counted { OnOk result ((first : ℤ) → BeginsWith first self.old.reached self.old.moment at.now
+            → work.new.fetched + picks_of first self.old.reached store.now self.old.series ≡ work.old.fetched + picks_of first (reach_all lookback self.old.reached self.old.moment at.now) store.now self.old.series) }
         ensures probed { work.new.probed + searches_of self.old.reached self.old.series ≤ work.old.probed + searches_of (reach_all lookback self.old.reached self.old.moment at.now) self.old.series }
         ensures tested { work.new.tested ≡ work.old.tested }
     {

@@ -1,10 +1,11 @@
 use Rattle.std.proofs.Common.{◌≡◌, ◌+◌, ◌++◌, ◌∷◌, [], ◌≤◌, Some, take, drop}
-use Rattle.std.specs.Prelude.{List, ◌*◌}
+use Rattle.std.specs.Prelude.{ℤ, List, ◌*◌}
 use Rattle.std.specs.List.{filter_map}
 use Rattle.series_marks.specs.Reads.{edge_of, probes_of}
 use Rattle.step_batch.specs.Lent.{IsFreeFrom, IsLater, no_marks, stages, step_of}
 use Rattle.step_table.specs.Timed.{StepAt}
 use Rattle.ticks.specs.declared.moment.Ms.{Ms}
+use Rattle.series_marks.specs.Picks.{BeginsAt, picks_of}
 use Rattle.series_marks.specs.Reaches.{reads_of}
 use Rattle.op_select.specs.Newest.{entry_shown, marks_of}
 use Rattle.op_select.proofs.rows.put_rows.Given as goal
@@ -13,6 +14,7 @@ abbrev pub invariant-loop-i : goal.invariant-loop-i
 invariant-loop-i g l = record {
   marks : l.marks ≡ marks_of (Some (edge_of l.reached l.edge, l.m)) l.store (take l.i l.series) ++ marks_of l.reached l.store (drop l.i l.series);
   fetched : l.work.fetched + reads_of l.reached l.store (take l.i l.series) ≤ l.fn.work.fetched + reads_of (Some (edge_of l.reached l.edge, l.m)) l.store (take l.i l.series);
+  counted : (first : ℤ) → BeginsAt first l.reached l.m → l.work.fetched + picks_of first l.reached l.store (take l.i l.series) ≡ l.fn.work.fetched + picks_of first (Some (edge_of l.reached l.edge, l.m)) l.store (take l.i l.series);
   labels : l.buffer.labels ≡ l.fn.buffer.labels;
   free : IsFreeFrom l.i l.buffer;
   later : (u : Ms) → IsLater l.fn.buffer u → IsLater l.buffer u;

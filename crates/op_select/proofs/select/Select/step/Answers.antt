@@ -6,6 +6,7 @@ use Rattle.promql_meaning.specs.Selecting.{lookback}
 use Rattle.series_marks.specs.Reaches.{IsReached}
 use Rattle.series_marks.specs.Spent.{reached_on, reads_reach}
 use Rattle.op_select.proofs.Instants.{stage_selected}
+use Rattle.op_select.proofs.Picks.{picks_reach}
 use Rattle.op_select.proofs.select.Select.step.Goals as goal
 
 pub put_rows-requires-clause-soon : goal.put_rows-requires-clause-soon
@@ -27,3 +28,8 @@ pub returns-in_err-begin-clause-fetched : goal.returns-in_err-begin-clause-fetch
 returns-in_err-begin-clause-fetched g c =
     let h = reads_reach lookback c.args.store.now c.args.self.now.series c.args.self.now.reached c.args.self.now.moment c.args.t c.requires.soon in
     omega arith
+
+pub returns-clause-counted : goal.returns-clause-counted
+returns-clause-counted g c =
+    picks_reach c.args.store.now c.args.self.now.series c.as_slice.result.now c.args.self.now.moment c.args.self.now.reached c.edge_of_window-edge.result c.moment_of-m.result c.args.t c.put_rows.new.work.fetched c.args.work.now.fetched
+    c.edge_of_window-edge.ensures c.moment_of-m.ensures c.as_slice.ensures c.in_ok-put_rows.ensures.counted
