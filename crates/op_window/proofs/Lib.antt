@@ -1,4 +1,5 @@
 pub mod Costs
+pub mod Counts
 pub mod Fills
 pub mod Instants
 pub mod Lists

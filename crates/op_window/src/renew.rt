@@ -120,6 +120,7 @@ fn renew<W: Ledger>(
     ensures mark { IfOk result (λ to. to ≡ mark_of (Some (edge_of reached span.edge, span.moment)) (samples_at store.now s)) }
     ensures window { OnOk result (slices.new ≡ columns_of (window span.closed span.moment.0 span.range.0 (samples_at store.now s))) }
     ensures read { work.new.fetched + read_of reached (samples_at store.now s) ≤ work.old.fetched + read_of (Some (edge_of reached span.edge, span.moment)) (samples_at store.now s) }
+    ensures counted { OnOk result (work.new.fetched + read_of reached (samples_at store.now s) ≡ work.old.fetched + read_of (Some (edge_of reached span.edge, span.moment)) (samples_at store.now s)) }
     ensures probed { work.new.probed + probes_of reached ≤ work.old.probed + 64 }
     ensures tested { work.new.tested ≡ work.old.tested }
 {
@@ -157,6 +158,7 @@ pub(crate) fn renewed<W: Ledger>(
     requires span { IsSpan span }
     ensures now { IfOk result (λ now. now ≡ walked_at span.closed span.range.0 (Some (edge_of reached span.edge, span.moment)) (samples_at store.now s)) }
     ensures read { work.new.fetched + read_of reached (samples_at store.now s) ≤ work.old.fetched + read_of (Some (edge_of reached span.edge, span.moment)) (samples_at store.now s) }
+    ensures counted { OnOk result (work.new.fetched + read_of reached (samples_at store.now s) ≡ work.old.fetched + read_of (Some (edge_of reached span.edge, span.moment)) (samples_at store.now s)) }
     ensures probed { work.new.probed + probes_of reached ≤ work.old.probed + 64 }
     ensures tested { work.new.tested ≡ work.old.tested }
 {

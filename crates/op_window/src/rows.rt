@@ -198,6 +198,7 @@ impl WindowRows {
         ensures later { OnOk result ((u : _) → t.0 <ℤ u.0 → IsLater self.new.buffer u) }
         ensures lent { OnOk result (stages self.new.buffer ≡ stages self.old.buffer ++ record { at = t; step = by_scalar self.old.f (frame_at self.old.moment self.old.range t) scalar (rows_of_series self.old.moment.closed (frame_at self.old.moment self.old.range t) store.now self.old.series) } ∷ []) }
         ensures fetched { work.new.fetched + reads_of self.old.reached store.now self.old.series ≤ work.old.fetched + reads_of (reach self.old.range.0 self.old.reached self.old.moment t) store.now self.old.series }
+        ensures counted { OnOk result (work.new.fetched + reads_of self.old.reached store.now self.old.series ≡ work.old.fetched + reads_of (reach self.old.range.0 self.old.reached self.old.moment t) store.now self.old.series) }
         ensures probed { work.new.probed + searches_of self.old.reached self.old.series ≤ work.old.probed + searches_of (reach self.old.range.0 self.old.reached self.old.moment t) self.old.series }
         ensures tested { work.new.tested ≡ work.old.tested }
     {
@@ -249,6 +250,7 @@ impl WindowRows {
         ensures reached { OnOk result (HasReached self.old self.new store.now at.now) }
         ensures lent { OnOk result (stages self.new.buffer ≡ map (windowed_at self.old.f (windows_of_series store.now self.old.series self.old.moment self.old.range)) (fed_by self.old.f at.now (stages arg.now))) }
         ensures fetched { work.new.fetched + reads_of self.old.reached store.now self.old.series ≤ work.old.fetched + reads_of (reach_all self.old.range.0 self.old.reached self.old.moment at.now) store.now self.old.series }
+        ensures counted { OnOk result (work.new.fetched + reads_of self.old.reached store.now self.old.series ≡ work.old.fetched + reads_of (reach_all self.old.range.0 self.old.reached self.old.moment at.now) store.now self.old.series) }
         ensures probed { work.new.probed + searches_of self.old.reached self.old.series ≤ work.old.probed + searches_of (reach_all self.old.range.0 self.old.reached self.old.moment at.now) self.old.series }
         ensures tested { work.new.tested ≡ work.old.tested }
     {
@@ -305,6 +307,7 @@ impl WindowRows {
         ensures lent { MatchEither from.entry (λ store. OnOk result (stages self.new.buffer ≡ map (windowed_at self.old.f (windows_of_series store.now self.old.series self.old.moment self.old.range)) (fed_by self.old.f at.now (stages arg.now)))) (λ windows. OnOk result (stages self.new.buffer ≡ map (windowed_at self.old.f (windows_of_lent windows.now self.old.moment self.old.range)) (fed_by self.old.f at.now (stages arg.now)))) }
         ensures reached { MatchEither from.entry (λ store. OnOk result (HasReached self.old self.new store.now at.now)) (λ windows. ⊤) }
         ensures fetched { MatchEither from.entry (λ store. work.new.fetched + reads_of self.old.reached store.now self.old.series ≤ work.old.fetched + reads_of (reach_all self.old.range.0 self.old.reached self.old.moment at.now) store.now self.old.series) (λ windows. work.new.fetched ≡ work.old.fetched) }
+        ensures counted { MatchEither from.entry (λ store. OnOk result (work.new.fetched + reads_of self.old.reached store.now self.old.series ≡ work.old.fetched + reads_of (reach_all self.old.range.0 self.old.reached self.old.moment at.now) store.now self.old.series)) (λ windows. ⊤) }
         ensures probed { MatchEither from.entry (λ store. work.new.probed + searches_of self.old.reached self.old.series ≤ work.old.probed + searches_of (reach_all self.old.range.0 self.old.reached self.old.moment at.now) self.old.series) (λ windows. work.new.probed ≡ work.old.probed) }
         ensures tested { work.new.tested ≡ work.old.tested }
     {

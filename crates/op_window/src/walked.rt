@@ -47,6 +47,7 @@ pub(crate) fn renew_all<W: Ledger>(
     requires span { IsSpan span }
     ensures now { OnOk result (walked.new ≡ all_walked span.closed span.range.0 (Some (edge_of reached span.edge, span.moment)) store.now series.now) }
     ensures fetched { work.new.fetched + reads_of reached store.now series.now ≤ work.old.fetched + reads_of (Some (edge_of reached span.edge, span.moment)) store.now series.now }
+    ensures counted { OnOk result (work.new.fetched + reads_of reached store.now series.now ≡ work.old.fetched + reads_of (Some (edge_of reached span.edge, span.moment)) store.now series.now) }
     ensures probed { work.new.probed + searches_of reached series.now ≤ work.old.probed + searches_of (Some (edge_of reached span.edge, span.moment)) series.now }
     ensures tested { work.new.tested ≡ work.old.tested }
 {

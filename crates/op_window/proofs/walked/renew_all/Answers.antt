@@ -1,7 +1,10 @@
-use Rattle.std.proofs.Common.{◌≡◌, ◌∙◌, ◌+◌, ◌++◌, ◌<◌, ℕ, Some, get_or, length, slice_set, take, drop, map, refl, ap, arith}
+use Rattle.std.proofs.Common.{◌≡◌, ◌∙◌, ◌+◌, ◌++◌, ◌<◌, ℕ, Some, get_or, length, slice_set, take, drop, map, refl, ap, subst, arith}
 use Rattle.std.specs.Prelude.{List, slice_get}
+use Rattle.std.proofs.lemmas.List.{take_all}
 use Rattle.sample_store.specs.Samples.{samples_at}
-use Rattle.series_marks.specs.Reads.{edge_of, probes_of}
+use Rattle.series_marks.specs.Counted.{sums_more}
+use Rattle.series_marks.specs.Reaches.{reads_of}
+use Rattle.series_marks.specs.Reads.{edge_of, probes_of, read_of}
 use Rattle.series_marks.specs.Spent.{probes_few, probes_left, probes_more, reads_more, reads_so_far}
 use Rattle.op_window.specs.Sliding.{walked_at}
 use Rattle.op_window.specs.declared.renew.SeriesWindow.{SeriesWindow}
@@ -12,6 +15,7 @@ pub loop-i-init : goal.loop-i-init
 loop-i-init g c = record {
   walked = c.requires.was;
   fetched = omega arith;
+  counted = omega arith;
   probed = omega arith;
   tested = refl;
 }
@@ -54,6 +58,8 @@ loop-i-preserved g c =
       walked = c.replace.ensures.now ∙ ap (λ (ws : List SeriesWindow). slice_set ws i now) (c.replace-was.ensures.now ∙ ap (λ (ws : List SeriesWindow). slice_set ws i blank) c.loop-i.invariant.walked)
           ∙ ap (λ (w : SeriesWindow). slice_set (slice_set was i blank) i w) is ∙ changed_twice F G xs i blank c.loop-i-test.true;
       fetched = reads_more store c.args.reached span.edge span.moment xs i c.renewed.new.work.fetched c.loop-i.work.fetched c.args.work.now.fetched c.loop-i-test.true c.loop-i.invariant.fetched c.renewed.ensures.read;
+      counted = sums_more (λ (s : ℕ). read_of c.args.reached (samples_at store s)) (λ (s : ℕ). read_of (Some (edge_of c.args.reached span.edge, span.moment)) (samples_at store s)) xs i c.renewed.new.work.fetched c.loop-i.work.fetched
+          c.args.work.now.fetched c.loop-i-test.true c.loop-i.invariant.counted c.in_ok-now.ensures.counted;
       probed = probes_more (probes_of c.args.reached) 64 c.renewed.new.work.probed c.loop-i.work.probed c.args.work.now.probed i (length xs) c.loop-i-test.true (probes_few c.args.reached) c.loop-i.invariant.probed c.renewed.ensures.probed;
       tested = c.renewed.ensures.tested ∙ c.loop-i.invariant.tested;
     }
@@ -71,3 +77,10 @@ pub returns-in_err-now-clause-probed : goal.returns-in_err-now-clause-probed
 returns-in_err-now-clause-probed g c =
     probes_left c.args.reached c.renewed.new.work.probed c.args.work.now.probed (c.loop-i.i + 1) (length c.args.series.now) (let h : c.loop-i.i < length c.args.series.now = c.loop-i-test.true in omega arith)
     (probes_more (probes_of c.args.reached) 64 c.renewed.new.work.probed c.loop-i.work.probed c.args.work.now.probed c.loop-i.i (length c.args.series.now) c.loop-i-test.true (probes_few c.args.reached) c.loop-i.invariant.probed c.renewed.ensures.probed)
+
+pub returns-clause-counted : goal.returns-clause-counted
+returns-clause-counted g c =
+    let xs = c.args.series.now in
+    let store = c.args.store.now in
+    let span = c.args.span in
+    subst (λ (zs : List ℕ). c.loop-i.work.fetched + reads_of c.args.reached store zs ≡ c.args.work.now.fetched + reads_of (Some (edge_of c.args.reached span.edge, span.moment)) store zs) (take_all c.loop-i.i xs c.loop-i-test.false) c.loop-i.invariant.counted

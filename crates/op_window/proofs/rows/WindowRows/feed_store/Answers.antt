@@ -1,14 +1,16 @@
 use Rattle.std.proofs.Common.{◌≡◌, ◌∙◌, ◌+◌, ◌<◌, Some, drop, length, refl, sym, ap, subst, arith}
+use Rattle.std.proofs.lemmas.List.{drop_all}
 use Rattle.std.specs.Prelude.{pos, slice_get, slice_index_or}
 use Rattle.func_table.specs.declared.table.Window.{Window}
 use Rattle.step_batch.specs.Lent.{stages}
 use Rattle.step_table.specs.Timed.{StepAt}
 use Rattle.op_window.specs.Kernels.{Kernel}
-use Rattle.series_marks.specs.Reaches.{Follow, reach, reach_all}
+use Rattle.series_marks.specs.Reaches.{Follow, reach, reach_all, reads_of}
 use Rattle.series_marks.specs.Reads.{Reached}
 use Rattle.series_marks.specs.Walked.{all_rise}
 use Rattle.ticks.specs.declared.moment.Ms.{Ms}
 use Rattle.op_window.specs.Rules.{fed_by, names_of, scalar_in, windowed_at, windows_of_series}
+use Rattle.op_window.proofs.Counts.{counts_next}
 use Rattle.op_window.proofs.Instants.{edge_same, follow_at, instants_at, reach_at, reach_same, reads_left_in, reads_next, reads_stay, searches_left_in, searches_next, searches_stay, walked_same}
 use Rattle.op_window.proofs.Stages.{series_all, series_next_at}
 use Rattle.op_window.proofs.rows.WindowRows.feed_store.Goals as goal
@@ -88,6 +90,7 @@ loop-i-preserved g c =
       instants = instants_at l.buffer new.buffer at n none more i.instants s.later;
       lent = series_next_at k.f l.f store k.series l.series k.moment l.moment k.range l.range at c.args.arg.now n none c.in_ok-scalar.scalar _ _ i.f i.series i.moment i.range c.requires.scalars (let h : n < length at = more in omega arith) (subst (λ (x : Window). (s : StepAt) → slice_get (fed_by x at (stages c.args.arg.now)) n ≡ Some s → c.in_ok-scalar.scalar ≡ scalar_in x s.step) (ap (λ (z : Kernel). z.f) c.self.view_is) c.in_ok-scalar.ensures) i.lent s.lent;
       fetched = reads_next store k.series l.series k.reached l.reached new.reached (reach l.range.0 l.reached l.moment t) c.step.new.work.fetched c.loop-i.work.fetched c.args.work.now.fetched i.series s.reached i.fetched c.step.ensures.fetched;
+      counted = counts_next store k.series l.series k.reached l.reached new.reached (reach l.range.0 l.reached l.moment t) c.step.new.work.fetched c.loop-i.work.fetched c.args.work.now.fetched i.series s.reached i.counted s.counted;
       probed = searches_next k.series l.series k.reached l.reached new.reached (reach l.range.0 l.reached l.moment t) c.step.new.work.probed c.loop-i.work.probed c.args.work.now.probed i.series s.reached i.probed c.step.ensures.probed;
       tested = c.step.ensures.tested ∙ i.tested;
     }
@@ -96,3 +99,11 @@ pub returns-clause-lent : goal.returns-clause-lent
 returns-clause-lent g c =
     let k = c.args.self.now in
     series_all k.f (windowed_at k.f (windows_of_series c.args.store.now k.series k.moment k.range)) c.args.at.now c.args.arg.now c.loop-i.i _ c.requires.scalars c.loop-i-test.false c.loop-i.invariant.lent
+
+pub returns-clause-counted : goal.returns-clause-counted
+returns-clause-counted g c =
+    let k = c.args.self.now in
+    let l = c.loop-i.self in
+    let i = c.loop-i.invariant in
+    let is : l.reached ≡ reach_all k.range.0 k.reached k.moment c.args.at.now = sym (ap (reach_all k.range.0 l.reached k.moment) (drop_all _ _ c.loop-i-test.false)) ∙ i.reached in
+    subst (λ (r : Reached). c.loop-i.work.fetched + reads_of k.reached c.args.store.now k.series ≡ c.args.work.now.fetched + reads_of r c.args.store.now k.series) is i.counted

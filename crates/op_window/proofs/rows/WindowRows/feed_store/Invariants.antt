@@ -20,6 +20,7 @@ invariant-loop-i g l = record {
   instants : InstantsFrom l.self.buffer (drop l.i l.at);
   lent : stages l.self.buffer ≡ map (windowed_at l.fn.self.f (windows_of_series l.store l.fn.self.series l.fn.self.moment l.fn.self.range)) (take l.i (fed_by l.fn.self.f l.at (stages l.arg)));
   fetched : l.work.fetched + reads_of l.fn.self.reached l.store l.fn.self.series ≤ l.fn.work.fetched + reads_of l.self.reached l.store l.fn.self.series;
+  counted : l.work.fetched + reads_of l.fn.self.reached l.store l.fn.self.series ≡ l.fn.work.fetched + reads_of l.self.reached l.store l.fn.self.series;
   probed : l.work.probed + searches_of l.fn.self.reached l.fn.self.series ≤ l.fn.work.probed + searches_of l.self.reached l.fn.self.series;
   tested : l.work.tested ≡ l.fn.work.tested;
 }
