@@ -2,6 +2,7 @@ pub mod Beside
 pub mod Bounds
 pub mod Chained
 pub mod Copies
+pub mod Counted
 pub mod Courses
 pub mod Filling
 pub mod Given

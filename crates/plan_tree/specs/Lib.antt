@@ -1,5 +1,6 @@
 pub mod Asking
 pub mod Chains
+pub mod Counting
 pub mod Feeding
 pub mod Feeds
 pub mod Gathering

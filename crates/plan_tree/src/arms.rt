@@ -59,6 +59,7 @@ pub(crate) fn series_fed<O: Outside, W: Ledger>(
     ensures lent { OnOk result ((g : ℤ → Step) → stages (lent_by (O.places outside.now) scalar.now) ≡ steps_over g at.now
         → stages kernel.new.buffer ≡ steps_over (λ t. windowed_by kernel.old.f t (g t) (windows_of_series store.now kernel.old.series kernel.old.moment kernel.old.range (record { 0 = t }))) at.now) }
     ensures fetched { work.new.fetched + reads_of kernel.old.reached store.now kernel.old.series ≤ work.old.fetched + reads_of (reach_all kernel.old.range.0 kernel.old.reached kernel.old.moment at.now) store.now kernel.old.series }
+    ensures counted { OnOk result (work.new.fetched + reads_of kernel.old.reached store.now kernel.old.series ≡ work.old.fetched + reads_of (reach_all kernel.old.range.0 kernel.old.reached kernel.old.moment at.now) store.now kernel.old.series) }
     ensures probed { work.new.probed + searches_of kernel.old.reached kernel.old.series ≤ work.old.probed + searches_of (reach_all kernel.old.range.0 kernel.old.reached kernel.old.moment at.now) kernel.old.series }
     ensures tested { work.new.tested ≡ work.old.tested }
     ensures memory { IfErr result (λ fault. fault ≡ run.Memory) }

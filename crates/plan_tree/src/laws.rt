@@ -1,4 +1,5 @@
 //! Laws of trees. The functions do nothing: each stands for what its contract says.
+ghost use Rattle.plan_tree.specs.Counting.{FreshTreesHaveFetchedNothing};
 ghost use Rattle.plan_tree.specs.Laws.{EachTreeHasOneBound, FreshTreesBegin, MarksAreSets, PlainTreesBegin, ScalarsHaveOneRow, SpendingIsBounded, TurnsAreTheWalk};
 
 use step_kernels::laws::{marks_stay_sets, scalars_stay};
@@ -42,6 +43,11 @@ pub fn spending_is_bounded()
 /// A tree that was fed nothing has spent nothing, whatever the counters are.
 pub fn fresh_trees_begin()
     ensures { FreshTreesBegin }
+{}
+
+/// The leaves of a tree that was fed nothing were given nothing.
+pub fn fresh_trees_have_fetched_nothing()
+    ensures { FreshTreesHaveFetchedNothing }
 {}
 
 /// A tree without gathers, which was fed nothing, may go on whatever engines there are.

@@ -1,4 +1,5 @@
 //! The nodes of a tree.
+ghost use Rattle.plan_tree.specs.Counting.{fetched_by};
 ghost use Rattle.plan_tree.specs.Feeding.{CanFeed, CanFill, CanRepeat, HasFed, HasFilled, HasMade, HasRun, OthersStay};
 ghost use Rattle.plan_tree.specs.Feeds.{fed_on, last_of, once};
 ghost use Rattle.plan_tree.specs.Nodes.{IsThere, lent_by, shape_of};
@@ -6,7 +7,7 @@ ghost use Rattle.plan_tree.specs.Shapes.{is_single as is_single_shape};
 ghost use Rattle.plan_tree.specs.Spending.{FeedSpends, FillSpends};
 ghost use Rattle.op_subquery.specs.Rings.{IsReady};
 ghost use Rattle.subquery_rows.specs.Rings.{IsNextAfter};
-ghost use Rattle.std.specs.Prelude.{◌≡◌, ◌∷◌, [], Some, IfOk, OnOk};
+ghost use Rattle.std.specs.Prelude.{◌≡◌, ◌+◌, ◌∷◌, [], Some, IfOk, OnOk};
 
 use crate::arms::{
     binary_fed, child_named, clamp_fed, inner_taken, once_fed, points_fed, series_fed, unary_fed,
@@ -123,7 +124,7 @@ impl Node {
     /// Makes the steps of more instants, one at least, later than those that were fed before, and takes out those of the last
     /// feed. In all feeds of one tree the store, the kept patterns and the engines are the same. An engine that fails or strays is
     /// told, and want of memory; after either the tree and the exchange may only be dropped. On any answer the counters rise by at
-    /// most what its leaves read more of the store.
+    /// most what its leaves read more of the store, and where the feed is made, that of the samples by exactly what they were given.
     #[cycle(running)]
     pub fn feed<O: Outside, W: Ledger>(
         &mut self,
@@ -142,6 +143,7 @@ impl Node {
         ensures names { O.names outside.new ≡ O.names outside.old }
         ensures run { HasRun result (O.engines outside.old) (O.engines outside.new) }
         ensures spent { FeedSpends store.now fed (fed_on fed at.now) result self.old self.new work.old work.new }
+        ensures counted { OnOk result (work.new.fetched + fetched_by store.now fed self.old ≡ work.old.fetched + fetched_by store.now (fed_on fed at.now) self.new) }
     {
         match self {
             Node::Instants { kernel, none } => or_memory(kernel.feed(at, &none.lend())),
@@ -227,6 +229,7 @@ fn fill<O: Outside, W: Ledger>(
     ensures names { O.names outside.new ≡ O.names outside.old }
     ensures run { HasRun result (O.engines outside.old) (O.engines outside.new) }
     ensures spent { FillSpends store.now kernel.old.walk fed result inner.old inner.new work.old work.new }
+    ensures counted { IfOk result (λ now. work.new.fetched + fetched_by store.now fed inner.old ≡ work.old.fetched + fetched_by store.now now inner.new) }
 {
     marks_are_sets();
     walks_are_listed();
@@ -261,6 +264,7 @@ fn ready<O: Outside, W: Ledger>(
     ensures names { O.names outside.new ≡ O.names outside.old }
     ensures run { HasRun result (O.engines outside.old) (O.engines outside.new) }
     ensures spent { FeedSpends store.now (once first fed) (Some (record { first = first; last = first })) result child.old child.new work.old work.new }
+    ensures counted { OnOk result (work.new.fetched + fetched_by store.now (once first fed) child.old ≡ work.old.fetched + fetched_by store.now (Some (record { first = first; last = first })) child.new) }
 {
     match fed {
         Some(_) => Ok(()),

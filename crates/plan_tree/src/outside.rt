@@ -1,5 +1,6 @@
 //! What stands outside of a tree: the exchange of its gathers, the engines, and the courier that picks among these.
 ghost use Rattle.exchange.specs.declared.place.Place.{Place};
+ghost use Rattle.plan_tree.specs.Counting.{fetched_by};
 ghost use Rattle.plan_tree.specs.Feeding.{CanFeed, HasFed, HasRun};
 ghost use Rattle.plan_tree.specs.Feeds.{fed_on};
 ghost use Rattle.plan_tree.specs.Gathering.{CanTake, HasTaken};
@@ -7,7 +8,7 @@ ghost use Rattle.plan_tree.specs.Nodes.{shape_of};
 ghost use Rattle.plan_tree.specs.Spending.{FeedSpends};
 ghost use Rattle.remote_api.specs.Seen.{EngineSeen};
 ghost use Rattle.std.specs.Borrow.{GName};
-ghost use Rattle.std.specs.Prelude.{◌≡◌, ℕ, List, OnOk, map, slice_get};
+ghost use Rattle.std.specs.Prelude.{◌≡◌, ◌+◌, ℕ, List, OnOk, map, slice_get};
 ghost use Rattle.ticks.specs.declared.moment.Ms.{Ms};
 
 use crate::gathering::take_next;
@@ -88,6 +89,7 @@ pub(crate) fn feed_over<C: Courier, W: Ledger>(
     ensures fed { OnOk result (HasFed store.now patterns.old (map (λ b. seen b) engines.old) (map (λ b. seen b) engines.new) exchange.old.places exchange.new.places fed at.now node.old node.new) }
     ensures run { HasRun result (map (λ b. seen b) engines.old) (map (λ b. seen b) engines.new) }
     ensures spent { FeedSpends store.now fed (fed_on fed at.now) result node.old node.new work.old work.new }
+    ensures counted { OnOk result (work.new.fetched + fetched_by store.now fed node.old ≡ work.old.fetched + fetched_by store.now (fed_on fed at.now) node.new) }
 {
     let mut outside = Running {
         exchange,

@@ -1,12 +1,13 @@
 //! A tree that goes a walk.
 ghost use Rattle.plan_tree.specs.Chains.{Chain, HasBegun, IsComing, IsReady, IsSame, IsTurn};
+ghost use Rattle.plan_tree.specs.Counting.{fetched_by};
 ghost use Rattle.plan_tree.specs.Feeding.{HasGone};
 ghost use Rattle.plan_tree.specs.Nodes.{IsThere, lent_by, shape_of};
 ghost use Rattle.plan_tree.specs.Shapes.{is_single, rule};
 ghost use Rattle.plan_tree.specs.Spending.{HasSpent, IsWithinBound};
 ghost use Rattle.plan_tree.specs.Worlds.{Gathers, world};
 ghost use Rattle.sample_store.specs.Samples.{AllSeries};
-ghost use Rattle.std.specs.Prelude.{◌≡◌, ◌<◌, ◌≤◌, List, [], None, Option, Some, length, map, true, if◌then◌else◌, IfNone, IfOk, IfSome, OnOk};
+ghost use Rattle.std.specs.Prelude.{◌≡◌, ◌+◌, ◌<◌, ◌≤◌, List, [], None, Option, Some, length, map, true, if◌then◌else◌, IfNone, IfOk, IfSome, OnOk};
 ghost use Rattle.step_batch.specs.Lent.{stages};
 ghost use Rattle.step_table.specs.Timed.{steps_over};
 ghost use Rattle.ticks.specs.Works.{Counts};
@@ -136,7 +137,7 @@ impl Tree {
     /// Goes on by one to `batch` instants of the walk; there is none left where it answers false. The first call makes all asks of its
     /// gathers, and then each of them pulls for its own next step. An engine that fails or strays is told, and want of memory; after
     /// either the tree may only be dropped. On any answer the counters rose since the tree's start by at most the bound over its whole
-    /// walk.
+    /// walk; where a turn is made, that of the samples rises by exactly what the leaves were given in it.
     pub fn step<C: Courier, W: Ledger>(
         &mut self,
         store: &Store,
@@ -154,6 +155,7 @@ impl Tree {
         ensures run { HasGone result (map (λ b. seen b) engines.old) (map (λ b. seen b) engines.new) }
         ensures bounded { (start : Counts) → HasSpent store.now self.old start work.old → IsWithinBound store.now self.old.walk (shape_of self.old.node) start work.new }
         ensures spent { OnOk result ((start : Counts) → HasSpent store.now self.old start work.old → HasSpent store.now self.new start work.new) }
+        ensures counted { OnOk result (work.new.fetched + fetched_by store.now self.old.fed self.old.node ≡ work.old.fetched + fetched_by store.now self.new.fed self.new.node) }
     {
         spending_is_bounded();
         walks_are_listed();

@@ -28,3 +28,7 @@ returns-clause-reached g c =
 
 pub returns-clause-memory : goal.returns-clause-memory
 returns-clause-memory g c = own_memory c.feed_store.result c.or_memory.result c.or_memory.ensures
+
+pub returns-clause-counted : goal.returns-clause-counted
+returns-clause-counted g c =
+    ran c.feed_store.result c.or_memory.result c.or_memory.ensures c.feed_store.ensures.counted (λ h. h)

@@ -1,4 +1,4 @@
-use Rattle.std.proofs.Common.{◌≡◌, ◌∙◌, ℕ, List, [], ◌∷◌, ◌++◌, get_or, Option, Some, refl, sym, ap, subst, arith}
+use Rattle.std.proofs.Common.{◌≡◌, ◌∙◌, ℕ, List, [], ◌∷◌, ◌++◌, ◌+◌, get_or, Option, Some, refl, sym, ap, subst, arith}
 use Rattle.std.specs.Prelude.{ℤ, pos, ◌||◌}
 use Rattle.std.specs.List.{AllByRecursion}
 use Rattle.op_labels.specs.Rules.{Kept}
@@ -14,13 +14,16 @@ use Rattle.ticks.specs.declared.moment.Ms.{Ms}
 use Rattle.ticks.specs.declared.walk.Walk.{Walk}
 use Rattle.plan_tree.specs.declared.node.Node.{Node}
 use Rattle.plan_tree.specs.declared.turns.Fed.{Fed}
+use Rattle.plan_tree.specs.Counting.{fetched_by, leaf_picked}
 use Rattle.plan_tree.specs.Feeding.{CanFeed}
-use Rattle.plan_tree.specs.Feeds.{Goes, fed_on, last_of, once}
+use Rattle.plan_tree.specs.Feeds.{Goes, fed_on, last_of, once, reached_of}
 use Rattle.plan_tree.specs.Gathering.{HaveCome}
 use Rattle.plan_tree.specs.Nodes.{CanGo, IsThere, lent_by, shape_of}
 use Rattle.plan_tree.specs.Shapes.{GatherOf, IsAskedOn, Shape, StaysInTimes, is_single, places_of, rule}
 use Rattle.plan_tree.specs.Spending.{HasRead, IsAlong, IsSum, LeafMayRead, MayRead, leaf_read, nothing}
 use Rattle.plan_tree.specs.Worlds.{world}
+use Rattle.series_marks.specs.Reaches.{reads_of}
+use Rattle.plan_tree.proofs.Counted.{counted_as, counted_self, counts_more, once_begun, once_counts, once_same, part_counts, select_counts, series_counts, two_counts}
 use Rattle.plan_tree.proofs.Filling.{Fills, feed_kept, fill_feeds, fill_given, fill_has, fill_step, filled_behind, fills_more, fills_none, gather_made, gather_takes, labels_stay, once_repeats, points_fill, repeat_given, repeat_has, repeat_made, repeat_may, repeat_stays}
 use Rattle.plan_tree.proofs.Going.{at_some, goes_rise, once_end}
 use Rattle.plan_tree.proofs.Heights.{height}
@@ -1329,6 +1332,7 @@ fill-loop-u-init g t c =
       names = refl;
       run = done_none _;
       spent = spent;
+      counted = refl;
     }
 
 pub fill-wanted-requires : goal.fill-wanted-requires
@@ -1472,6 +1476,7 @@ fill-loop-u-preserved g t c =
       names = c.feed.ensures.names ∙ inv.names;
       run = run_done _ _ _ (run_then _ _ _ _ _ inv.run c.in_ok-feed.ensures.run);
       spent = subst (λ (o : Option Fed). Filled S walk c.args.fed o inner0 c.feed.new.self c.args.work.now c.feed.new.work) (sym now) more;
+      counted = counts_more S c.args.fed c.loop-u.now c.fed_with-now.result to inner0 c.loop-u.inner c.feed.new.self c.args.work.now.fetched c.loop-u.work.fetched c.feed.new.work.fetched now inv.counted c.in_ok-feed.ensures.counted;
     }
 
 pub fill-returns-clause-run : goal.fill-returns-clause-run
@@ -1722,3 +1727,96 @@ ready-returns-in-Some-clause-spent g t c = once_stays c.args.store.now c.args.fi
 pub ready-returns-in_ok-feed-in-None-clause-spent : goal.ready-returns-in_ok-feed-in-None-clause-spent
 ready-returns-in_ok-feed-in-None-clause-spent g t c =
     once_feeds c.args.store.now c.args.first c.args.fed c.child_named.result c.args.child.now c.feed.new.self c.args.work.now c.feed.new.work c.in-None.is c.in_ok-feed-in-None.ensures.spent
+
+-- ---- what was counted
+
+pub Node::feed-returns-in-Instants-clause-counted : goal.Node::feed-returns-in-Instants-clause-counted
+Node::feed-returns-in-Instants-clause-counted g t c =
+    let w = c.args.work.now.fetched in
+    counted_as c.args.store.now c.args.fed c.or_memory.result c.args.self.now _ w w 0 c.in-Instants.is refl
+
+pub Node::feed-returns-in-Select-clause-counted : goal.Node::feed-returns-in-Select-clause-counted
+Node::feed-returns-in-Select-clause-counted g t c =
+    let S = c.args.store.now in let fed = c.args.fed in let at = c.args.at.now in let w = c.args.work.now.fetched in let x = c.feed-in-Select.new.work.fetched in
+    let k = c.in-Select.kernel in let e = c.feed-in-Select.ensures in let new = c.feed-in-Select.new.self in
+    let K = c.args.patterns.now in let P = (g.O.Outside.places c.args.outside.now) in let own = as_tree S K _ P fed at c.args.self.now _ c.in-Select.is c.requires in
+    let goes = own.goes_on.can (completed own.goes_on.taken) (completed_are own.goes_on.all own.goes_on.known own.goes_on.taken K _ P own.goes_on.out) in
+    ran c.feed-in-Select.result c.or_memory-in-Select.result c.or_memory-in-Select.ensures e.counted
+    (λ h. counted_self S fed c.args.self.now _ x w (leaf_picked S new.series new.moment (fed_on fed at)) c.in-Select.is
+    (select_counts S k.series new.series k.moment new.moment fed at k.reached x w goes.reached goes.edge e.series e.moment h))
+
+pub Node::feed-returns-in_ok-feed-in-Series-clause-counted : goal.Node::feed-returns-in_ok-feed-in-Series-clause-counted
+Node::feed-returns-in_ok-feed-in-Series-clause-counted g t c =
+    let S = c.args.store.now in let fed = c.args.fed in let at = c.args.at.now in let to = fed_on fed at in
+    let w = c.args.work.now.fetched in let x = c.feed-in-Series.new.work.fetched in let y = c.series_fed.new.work.fetched in
+    let k = c.in-Series.kernel in let e = c.series_fed.ensures in let new = c.series_fed.new.kernel in let scalar = c.in-Series.scalar.value in
+    let K = c.args.patterns.now in let P = (g.O.Outside.places c.args.outside.now) in let own = as_tree S K _ P fed at c.args.self.now _ c.in-Series.is c.requires in
+    let goes = own.goes_on.can (completed own.goes_on.taken) (completed_are own.goes_on.all own.goes_on.known own.goes_on.taken K _ P own.goes_on.out) in
+    let from_leaf : ℕ = reads_of (reached_of k.range.0 k.moment fed) S k.series in
+    let to_leaf : ℕ = reads_of (reached_of new.range.0 new.moment to) S new.series in
+    let first = part_counts S fed c.deref_mut.result.now scalar x w (fetched_by S to c.feed-in-Series.new.self) c.deref_mut.ensures.value c.in_ok-feed-in-Series.ensures.counted in
+    on_ok c.series_fed.result e.counted
+    (λ h. counted_self S fed c.args.self.now _ y w (fetched_by S to c.feed-in-Series.new.self + to_leaf) c.in-Series.is
+    (two_counts w x y (fetched_by S fed scalar) from_leaf (fetched_by S to c.feed-in-Series.new.self) to_leaf first
+    (series_counts k.range.0 new.range.0 S k.series new.series k.moment new.moment fed at k.reached y x goes.0.reached (ap (λ (r : Ms). r.0) e.range) e.series e.moment h)))
+
+pub Node::feed-returns-in_ok-feed-in-Unary-clause-counted : goal.Node::feed-returns-in_ok-feed-in-Unary-clause-counted
+Node::feed-returns-in_ok-feed-in-Unary-clause-counted g t c =
+    let S = c.args.store.now in let fed = c.args.fed in let to = fed_on fed c.args.at.now in
+    let w = c.args.work.now.fetched in let x = c.feed-in-Unary.new.work.fetched in let n = fetched_by S to c.feed-in-Unary.new.self in
+    counted_as S fed c.unary_fed.result c.args.self.now _ x w n c.in-Unary.is
+    (part_counts S fed c.deref_mut-in-Unary.result.now c.in-Unary.rows.value x w n c.deref_mut-in-Unary.ensures.value c.in_ok-feed-in-Unary.ensures.counted)
+
+pub Node::feed-returns-in_ok-feed-in-Binary-2-clause-counted : goal.Node::feed-returns-in_ok-feed-in-Binary-2-clause-counted
+Node::feed-returns-in_ok-feed-in-Binary-2-clause-counted g t c =
+    let S = c.args.store.now in let fed = c.args.fed in let to = fed_on fed c.args.at.now in
+    let rows = c.in-Binary.rows.value in let beside = c.in-Binary.beside.value in
+    let w = c.args.work.now.fetched in let x = c.feed-in-Binary.new.work.fetched in let y = c.feed-in-Binary-2.new.work.fetched in
+    let m = fetched_by S to c.feed-in-Binary.new.self in let n = fetched_by S to c.feed-in-Binary-2.new.self in
+    counted_as S fed c.binary_fed.result c.args.self.now _ y w (m + n) c.in-Binary.is
+    (two_counts w x y (fetched_by S fed rows) (fetched_by S fed beside) m n (part_counts S fed c.deref_mut-in-Binary.result.now rows x w m c.deref_mut-in-Binary.ensures.value c.in_ok-feed-in-Binary.ensures.counted)
+    (part_counts S fed c.deref_mut-in-Binary-2.result.now beside y x n c.deref_mut-in-Binary-2.ensures.value c.in_ok-feed-in-Binary-2.ensures.counted))
+
+pub Node::feed-returns-in_ok-feed-in-Clamp-3-clause-counted : goal.Node::feed-returns-in_ok-feed-in-Clamp-3-clause-counted
+Node::feed-returns-in_ok-feed-in-Clamp-3-clause-counted g t c =
+    let S = c.args.store.now in let fed = c.args.fed in let to = fed_on fed c.args.at.now in
+    let rows = c.in-Clamp.rows.value in let low = c.in-Clamp.low.value in let high = c.in-Clamp.high.value in
+    let w = c.args.work.now.fetched in let x = c.feed-in-Clamp.new.work.fetched in let y = c.feed-in-Clamp-2.new.work.fetched in let z = c.feed-in-Clamp-3.new.work.fetched in
+    let l = fetched_by S to c.feed-in-Clamp.new.self in let m = fetched_by S to c.feed-in-Clamp-2.new.self in let n = fetched_by S to c.feed-in-Clamp-3.new.self in
+    counted_as S fed c.clamp_fed.result c.args.self.now _ z w (l + (m + n)) c.in-Clamp.is
+    (two_counts w x z (fetched_by S fed rows) (fetched_by S fed low + fetched_by S fed high) l (m + n) (part_counts S fed c.deref_mut-in-Clamp.result.now rows x w l c.deref_mut-in-Clamp.ensures.value c.in_ok-feed-in-Clamp.ensures.counted)
+    (two_counts x y z (fetched_by S fed low) (fetched_by S fed high) m n (part_counts S fed c.deref_mut-in-Clamp-2.result.now low y x m c.deref_mut-in-Clamp-2.ensures.value c.in_ok-feed-in-Clamp-2.ensures.counted)
+    (part_counts S fed c.deref_mut-in-Clamp-3.result.now high z y n c.deref_mut-in-Clamp-3.ensures.value c.in_ok-feed-in-Clamp-3.ensures.counted)))
+
+pub Node::feed-returns-in_ok-inner_fed-in-Points-clause-counted : goal.Node::feed-returns-in_ok-inner_fed-in-Points-clause-counted
+Node::feed-returns-in_ok-inner_fed-in-Points-clause-counted g t c =
+    let S = c.args.store.now in let fed = c.args.fed in let to = fed_on fed c.args.at.now in
+    let inner_fed = c.in-Points.inner_fed in let inner = c.in-Points.inner.value in let scalar = c.in-Points.scalar.value in let end = c.in_ok-inner_fed-in-Points.field-0 in
+    let w = c.args.work.now.fetched in let x = c.feed-in-Points.new.work.fetched in let y = c.fill.new.work.fetched in
+    let m = fetched_by S to c.feed-in-Points.new.self in let n = fetched_by S end c.fill.new.inner in
+    counted_as S fed c.points_fed.result c.args.self.now _ y w (m + n) c.in-Points.is
+    (two_counts w x y (fetched_by S fed scalar) (fetched_by S inner_fed inner) m n (part_counts S fed c.deref_mut-in-Points.result.now scalar x w m c.deref_mut-in-Points.ensures.value c.in_ok-feed-in-Points.ensures.counted)
+    (part_counts S inner_fed c.deref_mut-in-Points-2.result.now inner y x n c.deref_mut-in-Points-2.ensures.value c.in_ok-inner_fed-in-Points.ensures.counted))
+
+pub Node::feed-returns-in_ok-ready-in-Once-clause-counted : goal.Node::feed-returns-in_ok-ready-in-Once-clause-counted
+Node::feed-returns-in_ok-ready-in-Once-clause-counted g t c =
+    let S = c.args.store.now in let fed = c.args.fed in let at = c.args.at.now in let first = c.in-Once.first in let child = c.in-Once.child.value in
+    let w = c.args.work.now.fetched in let x = c.ready.new.work.fetched in
+    counted_as S fed c.once_fed.result c.args.self.now _ x w (fetched_by S (once first (fed_on fed at)) c.ready.new.child) c.in-Once.is
+    (once_counts S first fed at child c.ready.new.child x w c.requires.some
+    (part_counts S (once first fed) c.deref_mut-in-Once.result.now child x w (fetched_by S (fed_once first) c.ready.new.child) c.deref_mut-in-Once.ensures.value c.in_ok-ready-in-Once.ensures.counted))
+
+pub Node::feed-returns-in-Gather-clause-counted : goal.Node::feed-returns-in-Gather-clause-counted
+Node::feed-returns-in-Gather-clause-counted g t c =
+    let w = c.args.work.now.fetched in
+    counted_as c.args.store.now c.args.fed c.feed_gather.result c.args.self.now _ w w 0 c.in-Gather.is refl
+
+pub fill-returns-clause-counted : goal.fill-returns-clause-counted
+fill-returns-clause-counted g t c = c.loop-u.invariant.counted
+
+pub ready-returns-in-Some-clause-counted : goal.ready-returns-in-Some-clause-counted
+ready-returns-in-Some-clause-counted g t c = once_same c.args.store.now c.args.first c.args.fed c.in-Some.field-0 c.args.child.now c.args.work.now.fetched c.in-Some.is
+
+pub ready-returns-in_ok-feed-in-None-clause-counted : goal.ready-returns-in_ok-feed-in-None-clause-counted
+ready-returns-in_ok-feed-in-None-clause-counted g t c =
+    once_begun c.args.store.now c.args.first c.args.fed c.child_named.result c.args.child.now c.feed.new.self c.feed.new.work.fetched c.args.work.now.fetched c.in-None.is c.in_ok-feed-in-None.ensures.counted

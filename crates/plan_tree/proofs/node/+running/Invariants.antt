@@ -1,6 +1,7 @@
 use Rattle.std.proofs.Common.{◌≡◌, ◌+◌, ◌*◌}
 use Rattle.subquery_rows.specs.Rings.{IsNextAfter, time_left}
 use Rattle.ticks.specs.Walks.{moment_at}
+use Rattle.plan_tree.specs.Counting.{fetched_by}
 use Rattle.plan_tree.specs.Feeding.{HasRun, OthersStay}
 use Rattle.plan_tree.specs.Feeds.{last_of}
 use Rattle.plan_tree.specs.Nodes.{shape_of}
@@ -37,6 +38,7 @@ invariant-fill-loop-u g l =
       names : g.O.Outside.names l.outside ≡ g.O.Outside.names l.fn.outside;
       run : HasRun done es fs;
       spent : Filled l.store l.fn.kernel.walk l.fn.fed l.now l.fn.inner l.inner l.fn.work l.work;
+      counted : l.work.fetched + fetched_by l.store l.fn.fed l.fn.inner ≡ l.fn.work.fetched + fetched_by l.store l.now l.inner;
     }
 
 abbrev pub decreases-fill-loop-u : goal.decreases-fill-loop-u

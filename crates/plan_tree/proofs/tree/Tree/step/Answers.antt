@@ -19,6 +19,7 @@ use Rattle.plan_tree.specs.Shapes.{Shape, StaysInTimes, is_single, rule}
 use Rattle.plan_tree.specs.Spending.{HasRead, IsAlong}
 use Rattle.plan_tree.specs.Worlds.{world}
 use Rattle.plan_tree.proofs.Chained.{chain_goes, chain_stays, not_none, one_alone}
+use Rattle.plan_tree.proofs.Counted.{turn_counts}
 use Rattle.plan_tree.proofs.Courses.{bounded_fed, bounded_here, spent_fed}
 use Rattle.plan_tree.proofs.Filling.{feed_kept}
 use Rattle.plan_tree.proofs.Parts.{fed_given}
@@ -269,3 +270,18 @@ returns-clause-spent g c start h =
     let chain : Chain T.walk T.fed at = subst (λ (z : Walk). Chain z T.fed at) e.walk (subst (λ (f : Option Fed). Chain T1.walk f at) e.fed chain1) in
     let feed : PartSpends S T.fed (fed_on T.fed at) T.node N w x = subst (λ (f : Option Fed). PartSpends S f (fed_on f at) T.node N w x) e.fed (subst (λ (n : Node). PartSpends S T1.fed (fed_on T1.fed at) n N w x) e.node c.in_ok-feed_over.ensures.spent) in
     spent_fed S T (record T1 { node = N; exchange = c.feed_over.new.exchange; fed = c.fed_with-self.result }) start w x at chain e.walk (c.fed_with-self.ensures ∙ ap (λ (f : Option Fed). fed_on f at) e.fed) feed h
+
+pub returns-then-is_empty-clause-counted : goal.returns-then-is_empty-clause-counted
+returns-then-is_empty-clause-counted g c =
+    let T = c.args.self.now in
+    let T1 = c.begin.new.self in
+    let e = c.begin.ensures in
+    let w = c.args.work.now.fetched in
+    turn_counts c.args.store.now T.fed T1.fed T1.fed T1.fed T.node T1.node T1.node w w e.fed e.node refl refl
+
+pub returns-clause-counted : goal.returns-clause-counted
+returns-clause-counted g c =
+    let T = c.args.self.now in
+    let T1 = c.begin.new.self in
+    let e = c.begin.ensures in
+    turn_counts c.args.store.now T.fed T1.fed (fed_on T1.fed c.as_slice-at.result.now) c.fed_with-self.result T.node T1.node c.feed_over.new.node c.feed_over.new.work.fetched c.args.work.now.fetched e.fed e.node c.fed_with-self.ensures c.in_ok-feed_over.ensures.counted
