@@ -9,6 +9,7 @@ ghost use Rattle.std.specs.Prelude.{◌≡◌, ◌<◌, ◌≤◌, ◌+◌, ◌+
 
 use crate::postings::{Postings, put_series};
 use crate::select::places_of;
+use crate::shortest::shortest;
 use crate::timeline::Timeline;
 use crate::{Cursor, StoreRefusal};
 use holders::Items;
@@ -145,6 +146,16 @@ impl Store {
             patterns,
             work,
         )
+    }
+
+    /// How many series a selection by these rules looks at. The only error is want of memory.
+    pub fn looks(&self, rules: &[Rule]) -> Result<usize, AllocError>
+        ensures { IfOk result (λ n. n ≡ looked_at rules.now self.now) }
+    {
+        match shortest(self.alloc, &self.series, &self.postings, rules)? {
+            Some(list) => Ok(list.len()),
+            None => Ok(self.series.len()),
+        }
     }
 
     /// A cursor before the samples of a series that are later than a time. It takes no memory, and looks at no more than
