@@ -116,6 +116,11 @@ flat-set (x ∷ xs) (suc k) c new h =
     append-again [] ys zs = refl
     append-again (x ∷ xs) ys zs = ap (λ k. x ∷ k) (append-again xs ys zs)
 
+pub set-same : (chunks : List Samples) (k : ℕ) (c : Samples) → slice_get chunks k ≡ Some c → slice_set chunks k c ≡ chunks
+set-same [] k c h = absurd (cc)
+set-same (x ∷ xs) zero c h = let e : c ≡ x = cc in ap (λ z. z ∷ xs) e
+set-same (x ∷ xs) (suc k) c h = ap (λ z. x ∷ z) (set-same xs k c h)
+
 pub filled-set : (chunks : List Samples) (k : ℕ) (new : Samples) → AreFilled chunks → 0 < length new → AreFilled (slice_set chunks k new)
 filled-set [] k new f l = tt
 filled-set (x ∷ xs) zero new f l = (l, f.1)

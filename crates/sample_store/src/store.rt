@@ -200,7 +200,25 @@ impl Store {
         ensures ok { OnOk result (self.new ≡ with_sample self.old labels.now at held.now) }
         ensures err { OnErr result (self.new ≡ self.old) }
     {
-        self.append_one(labels, at, held)
+        self.append_one(labels, at, held, 0)
+    }
+
+    /// The same where so many more samples are about to follow: a new series takes room for them at once.
+    #[tactic(auto, using(crate::proofs::Stores::told_refused, crate::proofs::Stores::told_there, crate::proofs::Stores::told_done, crate::proofs::Stores::told_left, crate::proofs::Stores::told_same))]
+    pub fn append_before(
+        &mut self,
+        labels: &Labels,
+        at: Ms,
+        held: &Held,
+        more: u32,
+    ) -> Result<(), StoreRefusal>
+        ensures refused { MatchOption (refusal_of self.old labels.now at held.now) (IsOkUnless result StoreRefusal.Memory) (λ e. result ≡ Err e) }
+        ensures taken { held_in (samples_of self.old labels.now) at ≡ Some held.now → IsOk result }
+        ensures same { held_in (samples_of self.old labels.now) at ≡ Some held.now → self.new ≡ self.old }
+        ensures ok { OnOk result (self.new ≡ with_sample self.old labels.now at held.now) }
+        ensures err { OnErr result (self.new ≡ self.old) }
+    {
+        self.append_one(labels, at, held, more)
     }
 
     /// The same for the series with a number, whose labels aren't looked up. No series changes its number.
@@ -219,13 +237,19 @@ impl Store {
     }
 
     #[tactic(auto, using(crate::proofs::Stores::number_found))]
-    fn append_one(&mut self, labels: &Labels, at: Ms, held: &Held) -> Result<(), StoreRefusal>
+    fn append_one(
+        &mut self,
+        labels: &Labels,
+        at: Ms,
+        held: &Held,
+        more: u32,
+    ) -> Result<(), StoreRefusal>
         ensures appends { Appends self.old self.new labels.now at held.now result }
         ensures rising { AllByRecursion (λ (s : Names × Samples). IsRising s.1) self.old }
     {
         match place_of(&self.series, self.latest, labels) {
             Some(place) => self.add_sample(place, at, held),
-            None => self.add_series(labels, at, held),
+            None => self.add_series(labels, at, held, more),
         }
     }
 
@@ -247,9 +271,15 @@ impl Store {
         }
     }
 
-    /// Puts in a series of one sample.
+    /// Puts in a series of one sample, with room for so many more.
     #[tactic(auto, using(crate::proofs::Stores::store_relisted))]
-    fn add_series(&mut self, labels: &Labels, at: Ms, held: &Held) -> Result<(), StoreRefusal>
+    fn add_series(
+        &mut self,
+        labels: &Labels,
+        at: Ms,
+        held: &Held,
+        more: u32,
+    ) -> Result<(), StoreRefusal>
         requires absent { lookup (labels_eq labels.now) self.old ≡ None }
         ensures { Appends self.old self.new labels.now at held.now result }
     {
@@ -260,7 +290,7 @@ impl Store {
         if self.samples >= MOST_SAMPLES {
             return Err(StoreRefusal::TooManySamples);
         }
-        match one_sample(self.alloc, labels, at, held) {
+        match one_sample(self.alloc, labels, at, held, more) {
             Err(_) => Err(StoreRefusal::Memory),
             Ok((names, samples)) => {
                 match put_series(
@@ -328,13 +358,14 @@ fn place_of(series: &IndexMap<Labels, Timeline>, latest: usize, labels: &Labels)
     }
 }
 
-/// A new series of one sample.
+/// A new series of one sample, with room for so many more.
 #[tactic(auto, using(crate::proofs::Chunks::rising_none))]
 fn one_sample(
     alloc: Global,
     labels: &Labels,
     at: Ms,
     held: &Held,
+    more: u32,
 ) -> Result<(Labels, Timeline), AllocError>
     ensures one { IfOk result (λ one. one ≡ (labels.now, (at, held.now) ∷ [])) }
     ensures labelled { IsLabelSet labels.now }
@@ -344,6 +375,9 @@ fn one_sample(
     let mut samples = Timeline::new(alloc);
     match samples.put(at, held, 0) {
         Err(_) => Err(AllocError),
-        Ok(_) => Ok((labels.copy()?, samples)),
+        Ok(_) => {
+            samples.make_room(more)?;
+            Ok((labels.copy()?, samples))
+        }
     }
 }

@@ -19,12 +19,13 @@ use xfrac::{ArithOp, Held, XFrac, arith};
 /// No sample's time is further from 0 than this, in milliseconds.
 const TIME_LIMIT: u128 = 100_000_000_000_000;
 
-/// A series that samples are put into: its line, its labels, and the time between its places.
+/// A series that samples are put into: its line, its labels, the time between its places, and how many samples it may have room for.
 #[derive(Clone, Copy)]
 struct Target<'a> {
     line: u32,
     labels: &'a Labels,
     interval: Ms,
+    room: u32,
 }
 
 /// The time of a place, counted from 0, unless it is beyond the limit.
@@ -59,6 +60,7 @@ fn fault_for(line: u32, refusal: StoreRefusal) -> RunnerFault
 fn append_first(
     store: &mut Store,
     labels: &Labels,
+    room: u32,
     series: &mut Option<u32>,
     at: Ms,
     held: &Held,
@@ -68,7 +70,7 @@ fn append_first(
     ensures err { OnErr result (store.new ≡ store.old) }
     ensures known { IsKnown store.new labels.now series.new }
 {
-    let answer = store.append(labels, at, held);
+    let answer = store.append_before(labels, at, held, room);
     *series = store.find(labels);
     answer
 }
@@ -77,6 +79,7 @@ fn append_first(
 fn append_next(
     store: &mut Store,
     labels: &Labels,
+    room: u32,
     series: &mut Option<u32>,
     at: Ms,
     held: &Held,
@@ -89,7 +92,7 @@ fn append_next(
 {
     match *series {
         Some(s) => store.append_to(s, at, held),
-        None => append_first(store, labels, series, at, held),
+        None => append_first(store, labels, room, series, at, held),
     }
 }
 
@@ -104,7 +107,7 @@ fn append(
     ensures put { Leaves result store.new (sample_put target.entry.line target.entry.labels.now at held.now store.old) }
     ensures known { IsKnown store.new target.entry.labels.now series.new }
 {
-    match append_next(store, target.labels, series, at, held) {
+    match append_next(store, target.labels, target.room, series, at, held) {
         Ok(()) => Ok(()),
         Err(refusal) => Err(fault_for(target.line, refusal)),
     }
@@ -114,6 +117,20 @@ fn out_of_range<T>(line: u32) -> Result<T, RunnerFault>
     ensures { result ≡ Err (RunnerFault.Range line) }
 {
     Err(RunnerFault::Range(line))
+}
+
+/// How many samples items have, as far as a number below 2^32 tells.
+fn samples_in(items: &[SeriesItem]) -> u32 {
+    let mut count: u32 = 0;
+    for item in items {
+        let more = match item {
+            SeriesItem::Gap(_) => 0,
+            SeriesItem::Stale => 1,
+            SeriesItem::Run { more, .. } => more.saturating_add(1),
+        };
+        count = count.saturating_add(more);
+    }
+    count
 }
 
 /// Puts the sample of a place.
@@ -213,6 +230,7 @@ fn put_line(store: &mut Store, interval: Ms, line: &SeriesLine) -> Result<(), Ru
         line: line.line,
         labels: &line.labels,
         interval,
+        room: samples_in(line.items.as_slice()).saturating_sub(1),
     };
     let mut series = None;
     let mut place = 0;
