@@ -1,18 +1,19 @@
--- How far counters rise over leaves.
-use Rattle.std.proofs.Common.{◌≡◌, ◌∙◌, ◌<◌, ◌≤◌, ◌+◌, ◌*◌, ℕ, zero, suc, arith, Bool, true, false, List, [], ◌∷◌, ◌++◌, length, map, take, drop, get_or, refl, sym, ap, subst, true≢false, if◌then◌else◌}
-use Rattle.std.specs.Prelude.{◌||◌, sum_by}
+-- How far counters rise over filters and leaves.
+use Rattle.std.proofs.Common.{◌≡◌, ◌∙◌, ◌<◌, ◌≤◌, ◌+◌, ◌*◌, ℕ, zero, suc, arith, Bool, true, false, List, [], ◌∷◌, ◌++◌, length, map, take, drop, get_or, length-append, refl, sym, ap, subst, true≢false, if◌then◌else◌}
+use Rattle.std.specs.Prelude.{◌||◌}
 use Rattle.std.specs.List.{AllByRecursion, list_any}
 use Rattle.std.proofs.lemmas.List.{drop_more, take_more}
 use Rattle.std.proofs.lemmas.List.Sums.{sum_by-cons}
 use Rattle.holders.specs.Joins.{both_of}
 use Rattle.label_set.specs.declared.rules.Rule.{Rule}
-use Rattle.match_rule.specs.Patterns.{HaveTheirPatterns}
-use Rattle.sample_store.specs.Samples.{AllSeries, looked_at}
+use Rattle.sample_store.specs.Samples.{AllSeries, chosen, looked_at}
 use Rattle.ticks.specs.Works.{Counts}
-use Rattle.plan_bases.specs.Bases.{Holds, HoldsEach, HoldsLeaf, Kept, Lists, Stays, is_under}
-use Rattle.plan_bases.specs.Looks.{LooksAt, distinct_behind, filters_test, leaf_tests, leaves_look_behind, selectors_look}
+use Rattle.plan_bases.specs.Bases.{AreSeries, Holds, HoldsEach, HoldsLeaf, Kept, Lists, Stays}
+use Rattle.plan_bases.specs.Leaves.{bare, filtered}
+use Rattle.plan_bases.specs.Looks.{LooksAt, distinct_behind, filter_tests, leaf_tests, leaves_look_behind, selectors_look}
 use Rattle.plan_bases.specs.RuleEquality.{rules_decide, rules_eq}
 use Rattle.plan_bases.specs.declared.leaves.Leaf.{Leaf}
+use Rattle.plan_bases.proofs.Narrowing.{counted}
 
 -- ---- counters
 
@@ -30,6 +31,23 @@ looks_both before now after first second most one other l = record {
   fetched = other.fetched ∙ one.fetched;
   probed = other.probed ∙ one.probed;
 }
+
+-- ---- filters
+
+-- a filter selects by the joined rules where that looks at fewer series than it has tests over its selector, and makes these tests else
+module _ (kept : Kept) (samples : AllSeries) (under more joined : List Rule) (series : List ℕ) (is : joined ≡ under ++ more) (are : AreSeries kept samples under series)
+    (looks tests : ℕ) (found : looks ≡ looked_at joined samples) (all : tests ≡ length series * length more) where
+  found_as : looks ≡ looked_at (under ++ more) samples
+  found_as = found ∙ ap (λ (rules : List Rule). looked_at rules samples) is
+
+  tests_as : tests ≡ length (chosen kept under samples) * length more
+  tests_as = all ∙ ap (λ (n : ℕ). n * length more) (counted kept samples under series are)
+
+  pub selects : looks < tests → looked_at joined samples ≡ filter_tests kept samples under more
+  selects less = let l = found_as in let t = tests_as in omega (arith, found, l, t, less)
+
+  pub tests_each : (looks < tests → ⊥) → tests ≡ filter_tests kept samples under more
+  tests_each off = let l = found_as in let t = tests_as in let least : tests ≤ looks = omega (arith, off) in omega (arith, l, t, least)
 
 -- ---- what is there
 
@@ -108,6 +126,59 @@ module _ (kept : Kept) (samples : AllSeries) where
           let t = looks.tested in
           let all = leaf_new seen leaf leaves e in
           omega (arith, t, all, within)
+
+-- ---- selectors that are merged
+
+one_seen : (b : Bool) → (b || false) ≡ true → b ≡ true
+one_seen true e = refl
+one_seen false e = e
+
+module _ (kept : Kept) (samples : AllSeries) (under more : List Rule) where
+  abbrev merged : ℕ
+  merged = leaves_look_behind kept samples [] (bare under ∷ filtered (bare under) more ∷ [])
+
+  abbrev written : ℕ
+  written = leaves_look_behind kept samples [] (bare under ∷ bare (under ++ more) ∷ [])
+
+  merged_is : merged ≡ looked_at under samples + filter_tests kept samples under more
+  merged_is =
+      let again : list_any (rules_eq under) (under ∷ []) ≡ true = ap (λ (b : Bool). b || false) ((rules_decide under under).1 refl) in
+      let first = leaf_new kept samples [] (bare under) (filtered (bare under) more ∷ []) refl in
+      let second = leaf_seen kept samples (under ∷ []) (filtered (bare under) more) [] again in
+      omega (arith, first, second)
+
+  written_is : (b : Bool) → list_any (rules_eq (under ++ more)) (under ∷ []) ≡ b → written ≡ looked_at under samples + (if b then 0 else looked_at (under ++ more) samples)
+  written_is true seen =
+      let first = leaf_new kept samples [] (bare under) (bare (under ++ more) ∷ []) refl in
+      let second = leaf_seen kept samples (under ∷ []) (bare (under ++ more)) [] seen in
+      omega (arith, first, second)
+  written_is false new =
+      let first = leaf_new kept samples [] (bare under) (bare (under ++ more) ∷ []) refl in
+      let second = leaf_new kept samples (under ∷ []) (bare (under ++ more)) [] new in
+      omega (arith, first, second)
+
+  -- a filter without rules tests nothing
+  none_more : under ++ more ≡ under → filter_tests kept samples under more ≡ 0
+  none_more e =
+      let lengths = ap length e in
+      let sum = length-append under more in
+      let none : length more ≡ 0 = omega (arith, lengths, sum) in
+      let tests : length (chosen kept under samples) * length more ≡ length (chosen kept under samples) * 0 = ap (λ (n : ℕ). length (chosen kept under samples) * n) none in
+      omega (arith, tests)
+
+  pub merged_no_more : merged ≤ written
+  merged_no_more = by (list_any (rules_eq (under ++ more)) (under ∷ [])) refl
+    where
+      by : (b : Bool) → list_any (rules_eq (under ++ more)) (under ∷ []) ≡ b → merged ≤ written
+      by true seen =
+          let none = none_more ((rules_decide (under ++ more) under).0 (one_seen (rules_eq (under ++ more) under) seen)) in
+          let m = merged_is in
+          let w = written_is true seen in
+          omega (arith, none, m, w)
+      by false new =
+          let m = merged_is in
+          let w = written_is false new in
+          omega (arith, m, w)
 
 -- ---- leaves, one after another
 

@@ -1,11 +1,12 @@
 -- Lists of rules with one list more.
-use Rattle.std.proofs.Common.{◌≡◌, ◌∙◌, ℕ, Bool, true, false, List, [], ◌∷◌, ◌++◌, Option, Some, None, refl, sym, ap, subst, true≢false, if◌then◌else◌}
-use Rattle.std.specs.Prelude.{is_some, IfSome, OnOk, Result, Ok, Err}
+use Rattle.std.proofs.Common.{◌≡◌, ◌∙◌, ℕ, Bool, true, false, List, Option, Some, refl, sym, ap, subst, true≢false, if◌then◌else◌}
+use Rattle.std.specs.Prelude.{is_some, IfOk, IfSome, OnOk, Result, Ok, Err}
 use Rattle.std.specs.Borrow.{Bor}
 use Rattle.std.specs.Option.{option_map}
 use Rattle.label_set.specs.declared.rules.Rule.{Rule}
+use Rattle.match_rule.specs.Patterns.{HaveTheirPatterns}
 use Rattle.sample_store.specs.Samples.{AllSeries}
-use Rattle.plan_bases.specs.Bases.{AreRight, AreSeries, Kept, Lists, Stays, is_under, series_under}
+use Rattle.plan_bases.specs.Bases.{AreRight, AreSeries, Holds, Kept, Lists, Stays, is_under, series_under}
 use Rattle.plan_bases.specs.RuleEquality.{rules_decide, rules_eq}
 
 pub on_ok_then : {X E : Type 0} {P Q : Type 0} (r : Result X E) → OnOk r P → (P → Q) → OnOk r Q
@@ -15,6 +16,15 @@ on_ok_then (Err e) h f = h
 pub on_ok_both : {X E : Type 0} {P Q R : Type 0} (r : Result X E) → OnOk r P → OnOk r Q → (P → Q → R) → OnOk r R
 on_ok_both (Ok x) h k f = f h k
 on_ok_both (Err e) h k f = h
+
+pub if_ok_all : {X E : Type 0} {P : Type 0} (r : Result X E) → P → IfOk r (λ _. P)
+if_ok_all (Ok x) h = h
+if_ok_all (Err e) h = tt
+
+-- rules whose patterns are kept and that aren't there don't hold
+pub new_rules : (kept : Kept) (lists : Lists) (joined rules : List Rule) → joined ≡ rules → HaveTheirPatterns kept joined → is_under lists joined ≡ false → Holds kept lists rules → ⊥
+new_rules kept lists joined rules e have off holds =
+    true≢false (sym (subst (Holds kept lists) (sym e) holds have) ∙ off)
 
 pub some_at : {X : Type 0} (P : X → Type 0) (o : Option X) (x : X) → o ≡ Some x → IfSome o P → P x
 some_at P o x e h = subst (λ z. IfSome z P) e h

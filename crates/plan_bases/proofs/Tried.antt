@@ -1,5 +1,5 @@
 -- Series that are tested one after another.
-use Rattle.std.proofs.Common.{◌≡◌, ◌∙◌, ◌<◌, ◌≤◌, ◌+◌, ◌*◌, ℕ, zero, suc, arith, Bool, true, false, cond, List, [], ◌∷◌, ◌++◌, length, drop, filter, Some, slice_get, refl, sym, ap, subst, add-mul, mul-le-mul_right, one-mul}
+use Rattle.std.proofs.Common.{◌≡◌, ◌∙◌, ◌<◌, ◌≤◌, ◌+◌, ◌*◌, ℕ, zero, suc, arith, Bool, true, false, cond, List, [], ◌∷◌, ◌++◌, length, drop, filter, Some, slice_get, refl, sym, ap, subst, add-mul, one-mul}
 use Rattle.std.specs.List.{AllByRecursion}
 
 pub all_at : (most : ℕ) (numbers : List ℕ) (i n : ℕ) → AllByRecursion (λ (k : ℕ). k < most) numbers → slice_get numbers i ≡ Some n → n < most
@@ -8,12 +8,8 @@ all_at most (x ∷ xs) zero n a h = let e : x ≡ n = cc in subst (λ z. z < mos
 all_at most (x ∷ xs) (suc i) n a h = all_at most xs i n a.1 h
 
 -- one turn more of as many tests
-pub tests_more : (i rules before now after : ℕ) → now ≤ before + i * rules → after ≤ now + rules → after ≤ before + (i + 1) * rules
+pub tests_more : (i rules before now after : ℕ) → now ≡ before + i * rules → after ≡ now + rules → after ≡ before + (i + 1) * rules
 tests_more i rules before now after h k = let e : (i + 1) * rules ≡ i * rules + 1 * rules = add-mul i 1 rules in let one : 1 * rules ≡ rules = one-mul rules in omega (arith, h, k, e, one)
-
--- and all tests so far are within those of all numbers
-pub tests_within : (i n rules before now : ℕ) → i ≤ n → now ≤ before + i * rules → now ≤ before + n * rules
-tests_within i n rules before now l h = let m : i * rules ≤ n * rules = mul-le-mul_right rules l in omega (arith, h, m)
 
 append-none : (xs : List ℕ) → xs ++ [] ≡ xs
 append-none [] = refl

@@ -1,13 +1,14 @@
 -- How many series are tested before the tree of a plan grows: a sum over the distinct selectors of the plan and a sum over its filters,
--- which a reader can work out by hand. (This project's own.)
-use Rattle.std.specs.Prelude.{◌≡◌, ◌+◌, ◌*◌, ◌≤◌, ℕ, List, [], ◌∷◌, ◌++◌, length, map, sum_by, if◌then◌else◌}
+-- which a reader can work out by hand. A filter over a selector looks where the fewest are: among the series of its selector, or among
+-- those that have the rarest of the pairs that the rules of the two ask for. (This project's own.)
+use Rattle.std.specs.Prelude.{◌≡◌, ◌+◌, ◌*◌, ◌≤◌, ℕ, List, [], ◌∷◌, ◌++◌, length, map, min, sum_by, if◌then◌else◌}
 use Rattle.std.specs.List.{list_any}
 use Rattle.label_set.specs.declared.rules.Rule.{Rule}
 use Rattle.logical_plan.specs.declared.nodes.Plan.{Plan}
 use Rattle.sample_store.specs.Samples.{AllSeries, chosen, looked_at}
 use Rattle.ticks.specs.Works.{Counts}
 use Rattle.plan_bases.specs.Bases.{Kept}
-use Rattle.plan_bases.specs.Leaves.{leaves_of}
+use Rattle.plan_bases.specs.Leaves.{bare, filtered, leaves_of}
 use Rattle.plan_bases.specs.RuleEquality.{rules_eq}
 use Rattle.plan_bases.specs.declared.leaves.Leaf.{Leaf}
 
@@ -27,10 +28,15 @@ distinct_behind seen (rules ∷ lists) =
 abbrev pub selectors_look : AllSeries → List (List Rule) → ℕ
 selectors_look samples lists = sum_by (λ (rules : List Rule). looked_at rules samples) lists
 
--- the filters over a selector: of each one test for each of its rules and each series that it stands over
+-- a filter over a selector: one test for each of its rules and each series that it stands over, or one for each series that a selection
+-- by the rules of both looks at, whichever is less
+abbrev pub filter_tests : Kept → AllSeries → (under more : List Rule) → ℕ
+filter_tests kept samples under more = min (length (chosen kept under samples) * length more) (looked_at (under ++ more) samples)
+
+-- the filters over a selector, each over those before it
 abbrev pub filters_test : Kept → AllSeries → List Rule → List (List Rule) → ℕ
 filters_test kept samples under [] = 0
-filters_test kept samples under (more ∷ filters) = length (chosen kept under samples) * length more + filters_test kept samples (under ++ more) filters
+filters_test kept samples under (more ∷ filters) = filter_tests kept samples under more + filters_test kept samples (under ++ more) filters
 
 abbrev pub leaf_tests : Kept → AllSeries → Leaf → ℕ
 leaf_tests kept samples leaf = filters_test kept samples leaf.base leaf.filters
@@ -43,3 +49,18 @@ leaves_look_behind kept samples seen leaves =
 -- a plan: its distinct selectors, and its filters over selectors
 abbrev pub plan_looks : Kept → AllSeries → Plan → ℕ
 plan_looks kept samples p = leaves_look_behind kept samples [] (leaves_of p)
+
+-- ---- laws
+
+-- a filter tests each series that it stands over once for each of its rules at most
+abbrev pub FiltersTestWithinTheirSelector : Type 0
+FiltersTestWithinTheirSelector = (kept : Kept) (samples : AllSeries) (under more : List Rule) → filter_tests kept samples under more ≤ length (chosen kept under samples) * length more
+
+-- and no more series than a selector with the rules of both looks at
+abbrev pub FiltersTestWithinTheRarest : Type 0
+FiltersTestWithinTheRarest = (kept : Kept) (samples : AllSeries) (under more : List Rule) → filter_tests kept samples under more ≤ looked_at (under ++ more) samples
+
+-- a selector and a filter over it test no more than that selector and one with the rules of both
+abbrev pub MergedSelectorsTestNoMore : Type 0
+MergedSelectorsTestNoMore = (kept : Kept) (samples : AllSeries) (under more : List Rule)
+    → leaves_look_behind kept samples [] (bare under ∷ filtered (bare under) more ∷ []) ≤ leaves_look_behind kept samples [] (bare under ∷ bare (under ++ more) ∷ [])

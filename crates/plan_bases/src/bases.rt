@@ -32,10 +32,11 @@ impl<'s> Model for Bases<'s> {
 }
 
 impl<'s> Bases<'s> {
-    /// The series of the selectors of a plan and of the filters over them. Each distinct selector is selected once, and each filter tests
-    /// each series that it stands over with each of its rules. On every answer at most these series and tests were counted as tested, and
-    /// no sample was read. Rules whose patterns aren't kept are left out. The only error is want of memory. (Filters over selectors are
-    /// those of thanos-io/promql-engine; that a selector is selected once is this project's own.)
+    /// The series of the selectors of a plan and of the filters over them. Each distinct selector is selected once, and each filter looks
+    /// where the fewest are: it tests each series that it stands over with each of its rules, or selects by the rules of both. On every
+    /// answer at most these series and tests were counted as tested, and no sample was read. Rules whose patterns aren't kept are left out.
+    /// The only error is want of memory. (Filters over selectors are those of thanos-io/promql-engine; that a selector is selected once, and
+    /// where a filter looks, is this project's own.)
     pub fn of<W: Ledger>(
         alloc: Global,
         p: &Plan,

@@ -3,6 +3,7 @@
 
 mod bases;
 mod kept;
+pub mod laws;
 mod leaves;
 mod lists;
 mod rule_list;

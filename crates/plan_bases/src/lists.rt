@@ -1,10 +1,10 @@
 //! The series of lists of rules, put together leaf by leaf.
 ghost use Rattle.match_rule.specs.Patterns.{HaveTheirPatterns};
 ghost use Rattle.plan_bases.specs.Bases.{AreRight, AreSeries, Holds, HoldsEach, HoldsLeaf, HoldsLeaves, Stays, is_under, series_under};
-ghost use Rattle.plan_bases.specs.Looks.{LooksAt, filters_test, leaf_tests, leaves_look_behind};
+ghost use Rattle.plan_bases.specs.Looks.{LooksAt, filter_tests, filters_test, leaf_tests, leaves_look_behind};
 ghost use Rattle.plan_bases.specs.RuleEquality.{rules_eq};
-ghost use Rattle.sample_store.specs.Samples.{chosen, looked_at};
-ghost use Rattle.std.specs.Prelude.{◌≡◌, ◌+◌, ◌*◌, ◌++◌, List, [], Some, true, length, option_map, IfOk, IfSome, IsSome, OnOk, if◌then◌else◌};
+ghost use Rattle.sample_store.specs.Samples.{looked_at};
+ghost use Rattle.std.specs.Prelude.{◌≡◌, ◌<◌, ◌+◌, ◌*◌, ◌++◌, ◌↔◌, List, [], Some, false, true, option_map, IfOk, IfSome, IsSome, IsTrue, OnOk, if◌then◌else◌};
 
 use crate::kept::are_rules_kept;
 use crate::leaves::Leaf;
@@ -72,7 +72,8 @@ impl SeriesLists {
         }
     }
 
-    /// Selects the series of rules, where these aren't there yet and their patterns are kept.
+    /// Selects the series of rules, where these aren't there yet and their patterns are kept. Then exactly the series that the rules look
+    /// at are counted as tested, and else none.
     fn select<W: Ledger>(
         &mut self,
         rules: &Items<Rule>,
@@ -86,6 +87,8 @@ impl SeriesLists {
         ensures holds { OnOk result (Holds patterns.old self.new rules.now) }
         ensures known { Holds patterns.old self.old rules.now → LooksAt work.old work.new 0 }
         ensures tested { LooksAt work.old work.new (looked_at rules.now store.now) }
+        ensures counted { HaveTheirPatterns patterns.old rules.now → is_under self.old rules.now ≡ false → IfOk result (λ _. work.new.tested ≡ work.old.tested + looked_at rules.now store.now) }
+        ensures uncounted { Holds patterns.old self.old rules.now → work.new.tested ≡ work.old.tested }
         ensures same { patterns.new ≡ patterns.old }
     {
         if !are_rules_kept(patterns, rules.as_slice()) {
@@ -97,7 +100,7 @@ impl SeriesLists {
         self.select_new(rules, store, patterns, work)
     }
 
-    /// Selects the series of rules, whose patterns are kept.
+    /// Selects the series of rules, whose patterns are kept. Exactly the series that the rules look at are counted as tested.
     fn select_new<W: Ledger>(
         &mut self,
         rules: &Items<Rule>,
@@ -111,46 +114,48 @@ impl SeriesLists {
         ensures stays { OnOk result (Stays self.old self.new) }
         ensures there { OnOk result (is_under self.new rules.now ≡ true) }
         ensures tested { LooksAt work.old work.new (looked_at rules.now store.now) }
+        ensures counted { IfOk result (λ _. work.new.tested ≡ work.old.tested + looked_at rules.now store.now) }
         ensures same { patterns.new ≡ patterns.old }
     {
         let series = store.select(rules, patterns, work)?;
         self.put(rules.copy()?, series)
     }
 
-    /// Of the series of rules, if these are there, those that pass the rules of a filter too.
+    /// Of the series of rules, if these are there, those that pass the rules of a filter too. They are looked for where the fewest are: they
+    /// are selected by the joined rules where that looks at fewer series than there are tests of each series by each rule of the filter, and
+    /// exactly these series or these tests are counted.
     fn narrowed<W: Ledger>(
         &self,
         under: &Items<Rule>,
         more: &Items<Rule>,
+        joined: &Items<Rule>,
         store: &Store,
         patterns: &mut Patterns<'_>,
         work: &mut Work<W>,
     ) -> Result<Option<Items<u32>>, AllocError>
         requires right { AreRight patterns.old store.now self.now }
-        requires patterns { HaveTheirPatterns patterns.old more.now }
-        ensures series { IfOk result (λ o. IfSome o (AreSeries patterns.old store.now (under.now ++ more.now))) }
+        requires joined { joined.now ≡ under.now ++ more.now }
+        requires patterns { HaveTheirPatterns patterns.old joined.now }
+        ensures series { IfOk result (λ o. IfSome o (AreSeries patterns.old store.now joined.now)) }
         ensures there { is_under self.now under.now ≡ true → IfOk result IsSome }
-        ensures tested { LooksAt work.old work.new (length (chosen patterns.old under.now store.now) * length more.now) }
+        ensures tested { LooksAt work.old work.new (filter_tests patterns.old store.now under.now more.now) }
+        ensures counted { IfOk result (λ o. IfSome o (λ _. work.new.tested ≡ work.old.tested + filter_tests patterns.old store.now under.now more.now)) }
         ensures same { patterns.new ≡ patterns.old }
     {
-        match self.series(under)? {
-            None => Ok(None),
-            Some(series) => {
-                let found = passing(
-                    self.alloc,
-                    series.as_slice(),
-                    more.as_slice(),
-                    store,
-                    patterns,
-                    work,
-                )?;
-                Ok(Some(found))
-            }
+        let Some(series) = self.series(under)? else {
+            return Ok(None);
+        };
+        let numbers = series.as_slice();
+        let rules = more.as_slice();
+        if is_less(store.looks(joined.as_slice())?, numbers.len(), rules.len()) {
+            return Ok(Some(store.select(joined, patterns, work)?));
         }
+        let found = passing(self.alloc, numbers, rules, store, patterns, work)?;
+        Ok(Some(found))
     }
 
     /// The series that rules and those of a filter behind them choose, of those that the rules choose, where the two together aren't there
-    /// yet and their patterns are kept.
+    /// yet and their patterns are kept. Then exactly what the filter tests is counted, and else nothing.
     fn filter<W: Ledger>(
         &mut self,
         under: &Items<Rule>,
@@ -165,7 +170,9 @@ impl SeriesLists {
         ensures right { OnOk result (AreRight patterns.old store.now self.new) }
         ensures stays { OnOk result (Stays self.old self.new) }
         ensures holds { OnOk result (Holds patterns.old self.new (under.now ++ more.now)) }
-        ensures tested { LooksAt work.old work.new (length (chosen patterns.old under.now store.now) * length more.now) }
+        ensures tested { LooksAt work.old work.new (filter_tests patterns.old store.now under.now more.now) }
+        ensures counted { HaveTheirPatterns patterns.old (under.now ++ more.now) → is_under self.old (under.now ++ more.now) ≡ false → IfOk result (λ _. work.new.tested ≡ work.old.tested + filter_tests patterns.old store.now under.now more.now) }
+        ensures uncounted { Holds patterns.old self.old (under.now ++ more.now) → work.new.tested ≡ work.old.tested }
         ensures same { patterns.new ≡ patterns.old }
     {
         let mut rules = under.copy()?;
@@ -176,7 +183,7 @@ impl SeriesLists {
         if self.has(&rules)? {
             return Ok(rules);
         }
-        match self.narrowed(under, more, store, patterns, work)? {
+        match self.narrowed(under, more, &rules, store, patterns, work)? {
             None => Ok(rules),
             Some(series) => {
                 self.put(rules.copy()?, series)?;
@@ -250,5 +257,15 @@ impl SeriesLists {
             self.add(leaf, store, patterns, work)?;
         }
         Ok(())
+    }
+}
+
+/// Whether so many series are fewer than the tests of some series by some rules.
+fn is_less(looks: usize, series: usize, rules: usize) -> bool
+    ensures { IsTrue result ↔ looks < series * rules }
+{
+    match series.checked_mul(rules) {
+        Some(tests) => looks < tests,
+        None => true,
     }
 }

@@ -1,4 +1,4 @@
-use Rattle.std.proofs.Common.{rules, ◌≡◌, ◌∙◌, ◌+◌, Bool, List, ℕ, true, false, length, sym, subst, ap}
+use Rattle.std.proofs.Common.{rules, ◌≡◌, ◌∙◌, Bool, List, ℕ, true, false, length, sym, subst, ap}
 use Rattle.match_rule.specs.Patterns.{labels_pass}
 use Rattle.sample_store.specs.Samples.{labels_at}
 use Rattle.plan_bases.proofs.Tried.{failed, passed, tests_more}
@@ -16,7 +16,7 @@ loop-i-preserved-then-not-branch g c =
     record {
       found = failed (λ (k : ℕ). labels_pass kept rules_now (labels_at store k)) c.args.numbers.now c.loop-i.i n c.loop-i.found _ c.loop-i.invariant.found c.number_at-n.ensures off;
       same = c.passes_each.ensures.same ∙ c.loop-i.invariant.same;
-      tested = tests_more c.loop-i.i (length rules_now) c.args.work.now.tested c.loop-i.work.tested c.passes_each.new.work.tested c.loop-i.invariant.tested c.passes_each.ensures.tested.tested;
+      tested = tests_more c.loop-i.i (length rules_now) c.args.work.now.tested c.loop-i.work.tested c.passes_each.new.work.tested c.loop-i.invariant.tested c.in_ok-passes_each.ensures.counted;
       fetched = c.passes_each.ensures.tested.fetched ∙ c.loop-i.invariant.fetched;
       probed = c.passes_each.ensures.tested.probed ∙ c.loop-i.invariant.probed;
     }
@@ -33,7 +33,7 @@ loop-i-preserved g c =
     record {
       found = passed (λ (k : ℕ). labels_pass kept rules_now (labels_at store k)) c.args.numbers.now c.loop-i.i n c.loop-i.found _ c.loop-i.invariant.found c.number_at-n.ensures c.push.new.self on c.in_ok-push.ensures.ok;
       same = c.passes_each.ensures.same ∙ c.loop-i.invariant.same;
-      tested = tests_more c.loop-i.i (length rules_now) c.args.work.now.tested c.loop-i.work.tested c.passes_each.new.work.tested c.loop-i.invariant.tested c.passes_each.ensures.tested.tested;
+      tested = tests_more c.loop-i.i (length rules_now) c.args.work.now.tested c.loop-i.work.tested c.passes_each.new.work.tested c.loop-i.invariant.tested c.in_ok-passes_each.ensures.counted;
       fetched = c.passes_each.ensures.tested.fetched ∙ c.loop-i.invariant.fetched;
       probed = c.passes_each.ensures.tested.probed ∙ c.loop-i.invariant.probed;
     }
