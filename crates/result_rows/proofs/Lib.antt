@@ -3,3 +3,4 @@ pub mod Placing
 pub mod Sorted
 pub mod Taking
 pub mod Under
+pub mod Risen

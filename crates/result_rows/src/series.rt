@@ -1,15 +1,20 @@
 //! The series by the places of their labels, and in the end by their labels.
 ghost use Rattle.label_set.specs.LabelEquality.{labels_eq};
+ghost use Rattle.label_set.specs.Labels.{labels_cmp};
 ghost use Rattle.promql_meaning.specs.Results.{series_of_group};
 ghost use Rattle.promql_meaning.specs.declared.answer.Point.{Point};
 ghost use Rattle.result_rows.specs.Taken.{AreFront, names_of, points_under, with_series};
-ghost use Rattle.std.specs.List.{IsDistinct};
-ghost use Rattle.std.specs.Prelude.{◌≡◌, ◌++◌, ◌∷◌, [], List, fold, map, IfOk, OnErr, OnOk};
+ghost use Rattle.std.specs.List.{IsDistinct, filter};
+ghost use Rattle.std.specs.List.Sorted.{IsStrictlySortedBy};
+ghost use Rattle.std.specs.declared.cmp.Ordering.TheVariants.{Less};
+ghost use Rattle.std.specs.Prelude.{◌≡◌, ◌++◌, ◌∷◌, [], List, fold, map, IfOk, IsTrue, OnErr, OnOk};
+ghost use Rattle.step_table.specs.Alike.{has_some};
 ghost use Rattle.step_table.specs.Groups.{Names, gathered, items_of};
 
 use label_set::{Items, Labels};
 use promql_meaning::{Point, ResultSeries};
 use std::alloc::{AllocError, Global};
+use std::cmp::Ordering;
 use std::collections::BTreeMap;
 
 /// A series for each of the labels, where there are those of the first ones. The only error is want of memory.
@@ -54,7 +59,51 @@ pub(crate) fn series_of(
     requires { IsDistinct labels_eq (names_of series.items) }
     ensures { IfOk result (λ sorted. (items : List (Names × Point)) → ((names : Names) → points_under names series.items ≡ items_of items names) → sorted ≡ map series_of_group (gathered items)) }
 {
+    if are_rising(series.as_slice()) {
+        return Ok(with_points(series));
+    }
     series_in(alloc, by_labels(alloc, series)?)
+}
+
+/// Whether series are in the order of their labels, as those of one selector are, no two with equal labels.
+fn are_rising(series: &[ResultSeries]) -> bool
+    ensures { IsTrue result → IsStrictlySortedBy labels_cmp (names_of series.now) }
+{
+    for i in 1..series.len() {
+        let before = &series[i - 1];
+        let one = &series[i];
+        if !is_below(before, one) {
+            return false;
+        }
+    }
+    true
+}
+
+fn is_below(a: &ResultSeries, b: &ResultSeries) -> bool
+    ensures { IsTrue result → labels_cmp a.now.labels b.now.labels ≡ Less }
+{
+    matches!(a.labels.cmp(&b.labels), Ordering::Less)
+}
+
+/// The series that have points, as they stand. It takes no memory.
+fn with_points(mut series: Vec<ResultSeries>) -> Items<ResultSeries>
+    ensures { result ≡ filter (λ one. has_some one.points) series.items }
+{
+    series.retain(
+        |one: &ResultSeries| -> bool
+            ensures { result ≡ has_some one.now.points }
+        { has_points(one) },
+    );
+    Items::from_vec(series)
+}
+
+fn has_points(series: &ResultSeries) -> bool
+    ensures { result ≡ has_some series.now.points }
+{
+    match series.points.as_slice() {
+        [] => false,
+        [_, ..] => true,
+    }
 }
 
 /// The points of the series that have some, by their labels.
