@@ -60,8 +60,9 @@ pub fn build<W: Ledger>(
         → (t : ℤ) → IsInstant walk.now t → rule (over store.now) patterns.old (shape_of tree.node) t ≡ plan_step (asked_over store.now patterns.old span.now) p.now t) }
     // over the whole walk it may spend at most what the plan costs at the walk's instants, which is worked out by hand over its selectors
     ensures within { IfOk result (λ tree. StaysWithin (asked_over store.now patterns.old span.now) walk.now p.now (shape_of tree.node)) }
-    // on every answer at most the series were tested that the plan's distinct selectors look at, and those that each filter over a
-    // selector stands over, once for each of its rules; and no sample was read
+    // on every answer at most the series were tested that the plan's distinct selectors look at, and for each filter over a selector those
+    // that it stands over, once for each of its rules, or those that a selection by the rules of both looks at, whichever is less; and no
+    // sample was read
     ensures tested { LooksAt work.old work.new (plan_looks patterns.old store.now p.now) }
     ensures same { patterns.new ≡ patterns.old }
 {

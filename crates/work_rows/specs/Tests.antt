@@ -54,10 +54,10 @@ WrittenSelectorsTestThree = (kept : Kept) (narrow wide : Samples) (others : AllS
     → plan_looks kept (beside narrow wide others) (by_all op pairing (select (wide_rules ++ more_rules) instant)) ≡ 3
 
 -- a filter over the wider selector in the narrower one's place
-abbrev pub MergedSelectorsTestFour : Type 0
-MergedSelectorsTestFour = (kept : Kept) (narrow wide : Samples) (others : AllSeries) (op : PairOp) (pairing : Pairing)
-    → NoneHas named_metric others
-    → plan_looks kept (beside narrow wide others) (by_all op pairing (plan (node.Filter (select wide_rules instant) more_rules))) ≡ 4
+abbrev pub MergedSelectorsTestThree : Type 0
+MergedSelectorsTestThree = (kept : Kept) (narrow wide : Samples) (others : AllSeries) (op : PairOp) (pairing : Pairing)
+    → NoneHas named_metric others → NoneHas c_is_d others
+    → plan_looks kept (beside narrow wide others) (by_all op pairing (plan (node.Filter (select wide_rules instant) more_rules))) ≡ 3
 
 abbrev pub EqualSelectorsAreSelectedOnce : Type 0
 EqualSelectorsAreSelectedOnce = (kept : Kept) (narrow wide : Samples) (others : AllSeries) (op : PairOp) (pairing : Pairing)

@@ -1,6 +1,6 @@
 //! Rows of counts. Each sample stands on a minute, the first one at time 0, whatever its value.
 ghost use Rattle.work_rows.specs.Rows.{FixedEndsFetchFour, MatchingRulesFetchTwo, SlidingSumsFetchEachSampleOnce, SumsSeekOnce, UnmatchedRulesFetchEleven};
-ghost use Rattle.work_rows.specs.Tests.{EqualSelectorsAreSelectedOnce, MergedSelectorsTestFour, WrittenSelectorsTestThree};
+ghost use Rattle.work_rows.specs.Tests.{EqualSelectorsAreSelectedOnce, MergedSelectorsTestThree, WrittenSelectorsTestThree};
 
 /// `sum_over_time(x[10m])` over an hour of samples, at each of its minutes: each of the 61 samples is fetched once.
 pub fn sliding_sums_fetch_each_sample_once()
@@ -33,10 +33,10 @@ pub fn written_selectors_test_three()
     ensures { WrittenSelectorsTestThree }
 {}
 
-/// The same with a filter of one rule over the second selector in place of the first: two series for the selector, once, and two for the
-/// filter.
-pub fn merged_selectors_test_four()
-    ensures { MergedSelectorsTestFour }
+/// The same with a filter of one rule over the second selector in place of the first: two series for the selector, once, and for the filter
+/// the one that has `c="d"`, which is fewer than the two that it stands over.
+pub fn merged_selectors_test_three()
+    ensures { MergedSelectorsTestThree }
 {}
 
 /// `metric{a="b"} + metric{a="b"}`: the two series, once.
