@@ -1,4 +1,4 @@
-use Rattle.std.proofs.Common.{rules, ◌<◌, ◌-◌, ◌+◌, length, arith}
+use Rattle.std.proofs.Common.{rules, ◌<◌, ◌-◌, length, arith}
 use Rattle.std.proofs.lemmas.List.Elements.{pair_read}
 use Rattle.std.proofs.lemmas.List.Sorted.{all_adjacent_more}
 use Rattle.result_rows.proofs.Risen.{IsBelow, names_risen}
