@@ -1,0 +1,2 @@
+mod Rebuilt
+mod Splits
