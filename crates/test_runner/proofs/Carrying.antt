@@ -33,7 +33,7 @@ tried : (r : Result AllSeries RunnerFault) (f g h : AllSeries → Result AllSeri
 tried (Err fault) f g h same = refl
 tried (Ok s) f g h same = same s
 
-left_join : (xs ys : List Command) (series : AllSeries) → left_by_all (xs ++ ys) series ≡ then_try (left_by_all xs series) (left_by_all ys)
+pub left_join : (xs ys : List Command) (series : AllSeries) → left_by_all (xs ++ ys) series ≡ then_try (left_by_all xs series) (left_by_all ys)
 left_join [] ys series = refl
 left_join (x ∷ xs) ys series = tried (left_by x.what series) (left_by_all (xs ++ ys)) (left_by_all xs) (left_by_all ys) (left_join xs ys)
 
@@ -122,16 +122,6 @@ failed_join vs ws = sum_by-append (λ (judged : Judged). cond (not (has_passed j
 
 lines_join : (path : List ℕ) (vs ws : List Judged) → lines_text path (vs ++ ws) ≡ lines_text path vs ++ lines_text path ws
 lines_join path vs ws = flat_map-append (verdict_text path) vs ws
-
--- nothing was carried out yet
-pub carried_none : (closed : Bool) (kept : PatternList) (path : List ℕ) (before : Option (List ℕ)) (totals : Totals) → totals.passed ≡ 0 → totals.failed ≡ 0 → CarriedOut closed kept path [] [] before before totals
-carried_none closed kept path before totals passed failed = record {
-  verdicts = [];
-  are = ended [];
-  written = sym (appended-nil before);
-  passed = passed;
-  failed = failed;
-}
 
 pub cut_none : (closed : Bool) (kept : PatternList) (path : List ℕ) (series : AllSeries) (commands : List Command) (before : Option (List ℕ)) → WasCutOff closed kept path series commands before before
 cut_none closed kept path series commands before = record { done = []; left = commands; parts = refl; verdicts = []; are = ended series; front = front_none before [] }

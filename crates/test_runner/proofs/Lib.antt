@@ -2,3 +2,4 @@ pub mod Loading
 pub mod Standing
 pub mod Carrying
 pub mod Spending
+pub mod Beginning

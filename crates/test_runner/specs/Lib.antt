@@ -5,3 +5,4 @@ pub mod Lines
 pub mod Running
 pub mod Spending
 pub mod Steps
+pub mod Begun

@@ -5,6 +5,7 @@
 
 mod answering;
 mod batch;
+mod begun;
 mod evaluation;
 mod fault;
 mod laws;

@@ -3,14 +3,16 @@ ghost use Rattle.edge_io.specs.Causes.{HasCause};
 ghost use Rattle.query_engine.specs.Batches.{IsBatch};
 ghost use Rattle.script_check.specs.Verdicts.{HasItsPatterns, HasPatterns, KeepsPatterns};
 ghost use Rattle.std.specs.Prelude.{◌≡◌, ◌<◌, ◌+◌, ◌^◌, [], ◌∷◌, Ok, length, IfErr, IfOk, IsErrOf};
+ghost use Rattle.test_runner.specs.Begun.{HasBegun};
 ghost use Rattle.test_runner.specs.Loads.{left_by, samples_left};
 ghost use Rattle.test_runner.specs.Running.{AnswersLoads, CarriedOut, HasRun, IfCut, IfOfLoads, WasCut, WasCutOff};
 ghost use Rattle.test_runner.specs.Spending.{CommandSpends, CommandsSpend, EvaluationSpends};
 ghost use Rattle.test_runner.specs.Steps.{IsJudgementOn, WroteLess, WroteLine};
 
+use crate::begun::{Begun, begin};
 use crate::evaluation::{Evaluation, judge_evaluation};
 use crate::fault::RunnerFault;
-use crate::load::{change_store, load_all};
+use crate::load::change_store;
 use crate::totals::Totals;
 use edge_io::{Sink, SinkFail, write_all};
 use match_rule::Patterns;
@@ -95,11 +97,13 @@ fn run_command<S: Sink, W: Ledger>(
     }
 }
 
-/// Carries out the commands of a script, and answers the totals of its evaluations.
+/// Carries out the commands of a script but for those in front, which evaluate nothing and left a store, and answers the totals of its
+/// evaluations.
 fn run_commands<S: Sink, W: Ledger>(
     alloc: Global,
     path: &str,
     script: &Script,
+    begun: Begun,
     searches: &mut Patterns,
     options: &Options,
     out: &mut S,
@@ -107,6 +111,7 @@ fn run_commands<S: Sink, W: Ledger>(
 ) -> Result<Totals, RunnerFault>
     requires kept { KeepsPatterns searches.old script.now }
     requires few { length script.now.commands < 2 ^ 32 }
+    requires begun { HasBegun script.now.commands begun.store begun.done }
     requires batch { IsBatch options.now.batch }
     ensures ran { IfOk result (HasRun options.now.closed searches.old path.now script.now (S.written out.old) (S.written out.new)) }
     ensures rests { IfOk result (λ totals. totals.passed + totals.failed ≡ 0 → work.new ≡ work.old) }
@@ -118,9 +123,11 @@ fn run_commands<S: Sink, W: Ledger>(
     ensures same { searches.new ≡ searches.old }
     ensures bounded { CommandsSpend options.now [] script.now.commands work.old work.new }
 {
-    let mut store = Store::new(alloc);
+    let Begun { mut store, done } = begun;
     let mut totals = Totals::NONE;
-    for command in script.commands.as_slice() {
+    let commands = script.commands.as_slice();
+    for i in done..commands.len() {
+        let command = &commands[i];
         let more = run_command(
             alloc, path, command, options, &mut store, searches, out, work,
         )?;
@@ -167,6 +174,6 @@ pub fn run<S: Sink, W: Ledger>(
     // The counters rise by at most what the plans of the evaluations cost, each over the samples that stand then.
     ensures bounded { CommandsSpend options.now [] script.now.commands work.old work.new }
 {
-    load_all(alloc, script)?;
-    run_commands(alloc, path, script, searches, options, out, work)
+    let begun = begin(alloc, script)?;
+    run_commands(alloc, path, script, begun, searches, options, out, work)
 }

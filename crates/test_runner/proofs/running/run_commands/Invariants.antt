@@ -9,14 +9,14 @@ use Rattle.ticks.specs.Works.{Counts}
 use Rattle.test_runner.proofs.running.run_commands.Given as goal
 
 -- the commands so far were carried out
-abbrev pub invariant-loop-command : goal.invariant-loop-command
-invariant-loop-command g l = record {
-  ran : CarriedOut l.options.closed l.fn.searches l.path [] (take l.command-index l.command-items) (g.S.Sink.written l.fn.out) (g.S.Sink.written l.out) l.totals;
-  left : left_by_all (take l.command-index l.command-items) [] ≡ Ok l.store;
+abbrev pub invariant-loop-i : goal.invariant-loop-i
+invariant-loop-i g l = record {
+  ran : CarriedOut l.options.closed l.fn.searches l.path [] (take l.i l.commands) (g.S.Sink.written l.fn.out) (g.S.Sink.written l.out) l.totals;
+  left : left_by_all (take l.i l.commands) [] ≡ Ok l.store;
   rests : l.totals.passed + l.totals.failed ≡ 0 → l.work ≡ l.fn.work;
-  kept : AllByRecursion (λ (command : Command). HasItsPatterns l.fn.searches command.what) (drop l.command-index l.command-items);
+  kept : AllByRecursion (λ (command : Command). HasItsPatterns l.fn.searches command.what) (drop l.i l.commands);
   same : l.searches ≡ l.fn.searches;
   later : g.S.Sink.faults l.fn.out ≤ g.S.Sink.faults l.out;
   sound : g.S.Sink.sound l.fn.out → g.S.Sink.sound l.out;
-  spent : (after : Counts) → CommandsSpend l.options l.store (drop l.command-index l.command-items) l.work after → CommandsSpend l.options [] l.command-items l.fn.work after;
+  spent : (after : Counts) → CommandsSpend l.options l.store (drop l.i l.commands) l.work after → CommandsSpend l.options [] l.commands l.fn.work after;
 }
