@@ -1,0 +1,6 @@
+mod Askables
+mod Beginning
+mod Grown
+mod Loading
+mod Planted
+mod Requests

@@ -1,0 +1,4 @@
+pub mod Askable
+pub mod Fitting
+pub mod Growing
+pub mod Loads
