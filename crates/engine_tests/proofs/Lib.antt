@@ -2,3 +2,4 @@ mod Askables
 mod Beginning
 mod Loading
 mod Moving
+mod Untold

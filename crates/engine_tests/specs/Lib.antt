@@ -1,3 +1,4 @@
 pub mod Askable
 pub mod Going
 pub mod Loading
+pub mod Untold

@@ -6,6 +6,10 @@ mod asks;
 #[cfg(test)]
 mod exchanges;
 #[cfg(test)]
+mod faults;
+#[cfg(test)]
+mod faulty;
+#[cfg(test)]
 mod gathers;
 #[cfg(test)]
 mod lent;
