@@ -7,6 +7,7 @@ use std::alloc::AllocError;
 
 /// Whether a label's value passes a rule; for a label that is missing the value is the empty text. The patterns of the
 /// rule must be of `Patterns::whole`, from these patterns. It answers no error.
+#[inline(always)]
 pub fn passes(rule: &Rule, patterns: &mut Patterns, value: &str) -> Result<bool, AllocError>
     requires { HasItsPattern patterns.old rule.now.kind }
     ensures answer { IfOk result (λ b. b ≡ kind_passes patterns.old rule.now.kind value.now) }
@@ -23,6 +24,7 @@ pub fn passes(rule: &Rule, patterns: &mut Patterns, value: &str) -> Result<bool,
 
 /// Whether labels pass each of some rules; a missing label is the empty text. The patterns of the rules must be of
 /// `Patterns::whole`, from these patterns. It answers no error.
+#[inline]
 pub fn labels_pass(
     rules: &[Rule],
     patterns: &mut Patterns,
