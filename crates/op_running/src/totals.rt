@@ -92,6 +92,10 @@ fn merged(mut sum: SumAcc, behind: &SumAcc) -> Option<SumAcc>
     requires { sum.count + behind.now.count < 2 ^ 96 }
     ensures { (xs ys : List XFrac) → IsSumOf (Some sum) xs → IsSumOf (Some behind.now) ys → IsSumOf result (xs ++ ys) }
 {
+    // Most counters are never reset, so that there is nothing to add.
+    if behind.count() == 0 {
+        return Some(sum);
+    }
     match sum.merge(behind) {
         Ok(()) => Some(sum),
         Err(_) => None,
