@@ -55,13 +55,13 @@ fn build_text(alloc: Global, text: &str) -> Result<Built, PatternRefusal>
 /// empty.
 pub(crate) fn matcher_in<'r>(
     alloc: Global,
-    place: &'r OnceCell<Built>,
+    place: &'r OnceCell<Box<Built>>,
     built: Built,
 ) -> Result<Matcher<'r>, AllocError>
     ensures { IfOk result (λ m. FindsAs (matcher_pattern m) (matcher_names m) built.source) }
 {
     let source = built.source.copy()?;
-    if place.set(built).is_err() {
+    if place.set(Box::new(alloc, built)?).is_err() {
         return Err(AllocError);
     }
     match place.get() {

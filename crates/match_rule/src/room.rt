@@ -9,10 +9,10 @@ use std::marker::Model;
 pub(crate) const MOST_PATTERNS: usize = 32;
 
 /// Where the regular expressions of 32 patterns lie, so that what searches for them can borrow them. It serves one
-/// `Patterns` at a time and outlives it.
+/// `Patterns` at a time and outlives it. A place takes little room before a regular expression is there.
 #[derive(Drop)]
 pub struct PatternRoom {
-    places: Vec<OnceCell<Built>>,
+    places: Vec<OnceCell<Box<Built>>>,
 }
 
 /// Contracts see how many places there are.
@@ -46,7 +46,7 @@ impl PatternRoom {
     }
 
     /// A place that is empty.
-    pub(crate) fn free(&self) -> Option<&OnceCell<Built>> {
+    pub(crate) fn free(&self) -> Option<&OnceCell<Box<Built>>> {
         self.places.iter().find(|place| place.get().is_none())
     }
 }
