@@ -90,6 +90,22 @@ impl StepBuffer {
         Ok(place)
     }
 
+    /// The place of labels that are given, as `place` says: where equal ones stand already, these are dropped; else they go last
+    /// as they are, and none is copied. The only error is want of memory; then nothing is changed.
+    pub fn place_own(&mut self, labels: Labels) -> Result<usize, AllocError>
+        ensures labels { OnOk result (self.new.labels ≡ insert_key labels_eq self.old.labels labels) }
+        ensures place { IfOk result (λ i. slice_get self.new.labels i ≡ Some labels) }
+        ensures within { IfOk result (λ i. i < length self.new.labels) }
+        ensures more { length self.old.labels ≤ length self.new.labels }
+        ensures kept { (j : _) (names : _) → slice_get self.old.labels j ≡ Some names → slice_get self.new.labels j ≡ Some names }
+        ensures steps { self.new.steps ≡ self.old.steps }
+        ensures stages { OnOk result (stages self.new ≡ stages self.old) }
+        ensures err { OnErr result (self.new ≡ self.old) }
+    {
+        let place = place_own_in(&mut self.labels, labels)?;
+        Ok(place)
+    }
+
     /// Whether an instant is later than the last step's, as `begin` asks. It takes no memory.
     pub fn is_later(&self, at: Ms) -> bool
         ensures { IsTrue result ↔ IsLater self.now at }
@@ -179,5 +195,16 @@ pub(crate) fn place_in(set: &mut IndexSet<Labels>, labels: &Labels) -> Result<us
         return Ok(i);
     }
     let (place, _) = set.insert_full(labels.copy()?)?;
+    Ok(place)
+}
+
+/// The place of labels that are given among others; new ones go last as they are.
+fn place_own_in(set: &mut IndexSet<Labels>, labels: Labels) -> Result<usize, AllocError>
+    ensures keys { OnOk result (set.new.keys ≡ insert_key labels_eq set.old.keys labels) }
+    ensures place { IfOk result (λ i. slice_get set.new.keys i ≡ Some labels) }
+    ensures err { OnErr result (set.new.keys ≡ set.old.keys) }
+    ensures distinct { IsDistinct labels_eq set.new.keys }
+{
+    let (place, _) = set.insert_full(labels)?;
     Ok(place)
 }
