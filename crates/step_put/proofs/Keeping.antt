@@ -3,7 +3,8 @@ use Rattle.std.proofs.Common.{◌≡◌, ◌∙◌, ◌+◌, ◌<◌, ◌≤◌,
 use Rattle.std.proofs.Math.ListN.{set}
 use Rattle.step_table.specs.Groups.{Names}
 use Rattle.step_put.specs.Puts.{AreAt}
-use Rattle.step_put.proofs.Putting.{at_kept}
+use Rattle.std.proofs.lemmas.List.{map-append}
+use Rattle.step_put.proofs.Putting.{at_kept, at_more, take_more}
 
 -- the first so many
 pub at_take : (f : Names → Names) (labels fed : List Names) (places : List ℕ) (n : ℕ) → AreAt labels (map f fed) places → AreAt labels (map f (take n fed)) (take n places)
@@ -105,3 +106,10 @@ push_here [] zero x e = refl
 push_here [] (suc i) x e = absurd (omega arith)
 push_here (y ∷ xs) zero x e = absurd (omega arith)
 push_here {A} (y ∷ xs) (suc i) x e = let n : suc i + 1 ≡ suc (i + 1) = omega arith in rw n (ap (λ (r : List A). y ∷ r) (push_here xs i x (omega arith)))
+
+-- the place of what is left of one more
+pub at_one_more : (f : Names → Names) (labels now fed : List Names) (places : List ℕ) (i p : ℕ) (one : Names) → i < length fed → one ≡ get_or fed i one → ((j : ℕ) (n : Names) → slice_get labels j ≡ Some n → slice_get now j ≡ Some n)
+    → AreAt labels (map f (take i fed)) places → slice_get now p ≡ Some (f one) → AreAt now (map f (take (i + 1) fed)) (places ++ p ∷ [])
+at_one_more f labels now fed places i p one l o k a h =
+    let e : map f (take (i + 1) fed) ≡ map f (take i fed) ++ f one ∷ [] = ap (map f) (take_more fed i one l ∙ ap (λ (z : Names). take i fed ++ z ∷ []) (sym o)) ∙ map-append f (take i fed) (one ∷ []) in
+    subst (λ (z : List Names). AreAt now z (places ++ p ∷ [])) (sym e) (at_more now (map f (take i fed)) places p (f one) (at_kept labels now (map f (take i fed)) places k a) h)

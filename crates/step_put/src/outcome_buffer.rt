@@ -76,6 +76,20 @@ impl OutcomeBuffer {
         Ok(())
     }
 
+    /// Does what `begin_feed` does with labels that are given, which are kept as they are: none is copied. It serves a first feed;
+    /// where most labels are fed again, `begin_feed` keeps their places, and this makes them anew.
+    pub fn begin_feed_own(&mut self, labels: Vec<Labels>) -> Result<(), AllocError>
+        ensures left { self.new.left ≡ self.old.left }
+        ensures fed { OnOk result (self.new.fed ≡ labels.items) }
+        ensures steps { self.new.lent.steps ≡ [] }
+    {
+        self.placing.renew_own(&mut self.buffer, labels)?;
+        self.rises = false;
+        let count = self.buffer.lend().labels().len();
+        self.rises = look_over(&mut self.owners, count, self.placing.places())?;
+        Ok(())
+    }
+
     /// Takes all steps out for a feed of the labels that were fed last. It looks at no labels, and takes no memory.
     pub fn begin_same_feed(&mut self)
         ensures left { self.new.left ≡ self.old.left }

@@ -131,6 +131,33 @@ impl Placing {
         self.take_telling(buffer, labels)
     }
 
+    /// Does what `renew` does with labels that are given, which are kept as they are: none is copied. What is left of each is made
+    /// anew, whatever was fed before.
+    pub(crate) fn renew_own(
+        &mut self,
+        buffer: &mut StepBuffer,
+        labels: Vec<Labels>,
+    ) -> Result<(), AllocError>
+        ensures named { IsPlaced buffer.new self.new }
+        ensures left { self.new.left ≡ self.old.left }
+        ensures fed { OnOk result (self.new.fed ≡ labels.items) }
+        ensures steps { buffer.new.steps ≡ [] }
+        ensures err { OnErr result (self.new.places ≡ []) }
+    {
+        self.forget();
+        if buffer.lend().labels().len() / 2 > labels.len() {
+            buffer.clear();
+        } else {
+            buffer.renew();
+        }
+        let places = places_of(self.alloc, &self.left, buffer, labels.as_slice())?;
+        self.kept = Kept {
+            fed: labels,
+            places,
+        };
+        Ok(())
+    }
+
     /// Beside each of the labels that were fed the place of what is left of them. It takes no memory.
     pub fn places(&self) -> &[usize]
         ensures { result.now ≡ self.now.places }
@@ -201,6 +228,24 @@ fn has(kept: &Kept, i: usize, labels: &Labels) -> bool
     i < fed.len() && fed[i].is_same(labels)
 }
 
+/// Beside each of the labels the place of what is left of them.
+fn places_of(
+    alloc: Global,
+    left: &Left,
+    buffer: &mut StepBuffer,
+    labels: &[Labels],
+) -> Result<Vec<usize>, AllocError>
+    ensures named { IfOk result (λ places. AreAt buffer.new.labels (map (left_of left.now) labels.now) places.items) }
+    ensures steps { buffer.new.steps ≡ buffer.old.steps }
+{
+    let mut places = Vec::with_capacity(alloc, labels.len())?;
+    for i in 0..labels.len() {
+        let place = place_of(alloc, left, buffer, &labels[i])?;
+        places.push(place)?;
+    }
+    Ok(places)
+}
+
 /// The place of what is left of labels.
 fn place_of(
     alloc: Global,
@@ -212,8 +257,7 @@ fn place_of(
     ensures kept { (j : _) (names : _) → slice_get buffer.old.labels j ≡ Some names → slice_get buffer.new.labels j ≡ Some names }
     ensures steps { buffer.new.steps ≡ buffer.old.steps }
 {
-    let names = left.of(alloc, labels)?;
-    buffer.place(&names)
+    buffer.place_own(left.of(alloc, labels)?)
 }
 
 /// Keeps labels at a place of the feed, in the place of those that are kept there.
