@@ -104,7 +104,7 @@ fn name_rows(
         }
         None => {
             let labels = labels_of(alloc, store, series)?;
-            rows.begin_feed(labels.as_slice())
+            rows.begin_feed_own(labels.into_vec())
         }
     }
 }
