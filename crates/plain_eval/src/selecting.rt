@@ -100,7 +100,7 @@ fn newest<W: Ledger>(
 {
     let cursor = store.seek(s, m, work);
     match cursor.previous(work) {
-        Some((time, held)) => fresh_behind(before_range(m, LOOKBACK, closed), time, held),
+        Some((time, held)) => fresh_behind(before_range(m, LOOKBACK, closed), time, &held),
         None => None,
     }
 }
@@ -205,7 +205,7 @@ fn fresh_until<W: Ledger>(
         if time.0 > m.0 {
             return Ok(read);
         }
-        add_sample(&mut read, time, held)?;
+        add_sample(&mut read, time, &held)?;
     }
     Ok(read)
 }

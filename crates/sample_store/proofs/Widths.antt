@@ -1,6 +1,5 @@
 -- A list that is mapped, and what is put in, left out or kept of it.
-use Rattle.std.proofs.Common.{◌≡◌, ℕ, zero, suc, ◌+◌, ◌≤◌, ◌<◌, List, [], ◌∷◌, ◌++◌, length, map, drop, take, insert, Option, Some, slice_get, get_or, refl, sym, ap, ◌∙◌, append_assoc, arith, drop-cons, add-one, ℤ, rules}
-use Rattle.xfrac.specs.declared.value.Held.{Held}
+use Rattle.std.proofs.Common.{◌≡◌, ℕ, zero, suc, List, [], ◌∷◌, length, map, drop, take, insert, refl, ap, ℤ}
 use Rattle.sample_store.specs.Values.{whole_held}
 
 pub map_inserted : (ns : List ℤ) (i : ℕ) (n : ℤ) → map whole_held (insert ns i n) ≡ insert (map whole_held ns) i (whole_held n)
@@ -22,4 +21,3 @@ map_taken (x ∷ ns) (suc i) = ap (λ z. whole_held x ∷ z) (map_taken ns i)
 pub length_mapped : (ns : List ℤ) → length (map whole_held ns) ≡ length ns
 length_mapped [] = refl
 length_mapped (x ∷ ns) = ap suc (length_mapped ns)
-

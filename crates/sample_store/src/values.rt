@@ -87,7 +87,7 @@ impl Values {
         }
     }
 
-    /// The values from place `n` on, kept the same way. The only error is want of memory.
+    /// The values from place `n` on, as whole numbers where each is one. The only error is want of memory.
     #[tactic(auto, using(crate::proofs::Widths::map_dropped, crate::proofs::Widths::length_mapped))]
     pub fn rest(&self, n: usize) -> Result<Values, AllocError>
         requires { n ≤ length self.now }
@@ -97,9 +97,7 @@ impl Values {
             Kept::Wholes(numbers) => Ok(Values {
                 kept: Kept::Wholes(numbers.rest(n)?),
             }),
-            Kept::Mixed(values) => Ok(Values {
-                kept: Kept::Mixed(values.rest(n)?),
-            }),
+            Kept::Mixed(values) => rest_of(values, n),
         }
     }
 
@@ -143,4 +141,35 @@ fn widened(wholes: &Column<i64>) -> Result<Column<Held>, AllocError>
         values.push(Held::Value(whole(*n)))?;
     }
     Ok(values)
+}
+
+/// Values from place `n` on, as whole numbers where each is one. The only error is want of memory.
+fn rest_of(values: &Column<Held>, n: usize) -> Result<Values, AllocError>
+    requires { n ≤ length values.now }
+    ensures { IfOk result (λ v. v ≡ drop n values.now) }
+{
+    let later = values.as_slice().split_at(n).1;
+    match narrowed(values.allocator(), later)? {
+        Some(numbers) => Ok(Values {
+            kept: Kept::Wholes(numbers),
+        }),
+        None => Ok(Values {
+            kept: Kept::Mixed(values.rest(n)?),
+        }),
+    }
+}
+
+/// The whole numbers of 64 bits that are held, where each value is one. The only error is want of memory.
+fn narrowed(alloc: Global, values: &[Held]) -> Result<Option<Column<i64>>, AllocError>
+    ensures { IfOk result (λ o. IfSome o (λ c. map whole_held c ≡ values.now)) }
+{
+    let mut numbers: Column<i64> = Column::new(alloc);
+    numbers.make_room(values.len())?;
+    for held in values {
+        match whole_of(held) {
+            Some(n) => numbers.push(n)?,
+            None => return Ok(None),
+        }
+    }
+    Ok(Some(numbers))
 }

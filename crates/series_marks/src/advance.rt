@@ -61,7 +61,7 @@ fn read_on<W: Ledger>(
                 };
             }
             Some((time, held)) => {
-                let sample = (time, *held);
+                let sample = (time, held);
                 if time.0 > m.0 {
                     let place = rest.place();
                     return Mark {

@@ -39,10 +39,7 @@ fn newest_behind<W: Ledger>(cursor: &Cursor<'_>, edge: Ms, work: &mut Work<W>) -
     ensures probed { work.new.probed ≤ work.old.probed + 1 }
     ensures tested { work.new.tested ≡ work.old.tested }
 {
-    match cursor.previous_after(edge, work) {
-        Some((time, held)) => Some((time, *held)),
-        None => None,
-    }
+    cursor.previous_after(edge, work)
 }
 
 /// The next sample, but where one stands at the moment.
@@ -61,10 +58,7 @@ fn next_unless<W: Ledger>(
     if stands {
         return None;
     }
-    match cursor.next(work) {
-        Some((time, held)) => Some((time, *held)),
-        None => None,
-    }
+    cursor.next(work)
 }
 
 /// A series' first mark: the moment is sought once, and one sample is stepped back from there, so that none but the newest one and

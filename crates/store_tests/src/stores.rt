@@ -187,7 +187,7 @@ fn load_words(alloc: Global, store: &mut Store, words: &str) -> Result<&'static 
 fn add_time(
     alloc: Global,
     text: &mut String,
-    sample: Option<(Ms, &Held)>,
+    sample: Option<(Ms, Held)>,
 ) -> Result<(), AllocError> {
     match sample {
         Some((at, _)) => {
@@ -251,7 +251,7 @@ fn times<W: Ledger>(
     for _ in 0..8 {
         if let Some((at, held)) = cursor.next(work) {
             let milliseconds = at.0;
-            let mark = if *held == Held::Stale { "s" } else { "" };
+            let mark = if held == Held::Stale { "s" } else { "" };
             text.push_str(format!(in alloc; " {milliseconds}{mark}")?.as_str())?;
         }
     }

@@ -8,8 +8,8 @@ pub loop-time-preserved : goal.loop-time-preserved
 loop-time-preserved g c =
     let within : int_lt c.args.m.0 c.in-Some.time.0 ≡ false = grind (arith, ints) in
     record {
-      times = read_more (λ s. s.0) c.args.m.0 (c.in-Some.time, c.in-Some.held.now) c.loop-time.ahead.rest c.next.new.self.rest _ _ _ c.in-Some.ensures.sample within c.in_ok-add_sample.ensures.times c.loop-time.invariant.times;
-      values = read_more (λ s. s.1) c.args.m.0 (c.in-Some.time, c.in-Some.held.now) c.loop-time.ahead.rest c.next.new.self.rest _ _ _ c.in-Some.ensures.sample within c.in_ok-add_sample.ensures.values c.loop-time.invariant.values;
+      times = read_more (λ s. s.0) c.args.m.0 (c.in-Some.time, c.in-Some.held) c.loop-time.ahead.rest c.next.new.self.rest _ _ _ c.in-Some.ensures.sample within c.in_ok-add_sample.ensures.times c.loop-time.invariant.times;
+      values = read_more (λ s. s.1) c.args.m.0 (c.in-Some.time, c.in-Some.held) c.loop-time.ahead.rest c.next.new.self.rest _ _ _ c.in-Some.ensures.sample within c.in_ok-add_sample.ensures.values c.loop-time.invariant.values;
     }
 
 pub returns-then-time-m : goal.returns-then-time-m

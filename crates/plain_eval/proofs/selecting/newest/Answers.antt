@@ -12,7 +12,7 @@ pub returns-in-Some-clause-newest : goal.returns-in-Some-clause-newest
 returns-in-Some-clause-newest g c = λ one is.
     let S = samples_at c.args.store.now c.args.s in
     let same : S ≡ one.1 = ap (λ o. unwrap_or (option_map (λ (s : Names × Samples). s.1) o) []) is in
-    let x : Ms × Held = (c.in-Some.time, c.in-Some.held.now) in
+    let x : Ms × Held = (c.in-Some.time, c.in-Some.held) in
     c.fresh_behind.ensures
     ∙ ap (λ (edge : Ms). option_and_then fresh_sample (if int_lt edge.0 c.in-Some.time.0 then Some x else None)) c.before_range.ensures
     ∙ sym (latest_one c.args.closed c.args.m S _ _ c.seek-cursor.ensures.sorted c.seek-cursor.ensures.stands c.seek-cursor.ensures.ahead x c.in-Some.ensures.sample)

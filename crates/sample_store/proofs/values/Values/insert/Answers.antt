@@ -1,7 +1,7 @@
 use Rattle.std.proofs.Common.{◌≡◌, List, OnOk, rules, ap, sym, ◌∙◌, map, insert}
 use Rattle.std.proofs.lemmas.Result.{on_ok_weaker}
 use Rattle.xfrac.specs.declared.value.Held.{Held}
-use Rattle.sample_store.specs.Values.{kept_values, whole_held}
+use Rattle.sample_store.specs.Values.{whole_held}
 use Rattle.sample_store.proofs.Widths.{map_inserted}
 use Rattle.sample_store.proofs.values.Values.insert.Goals as goal
 
