@@ -77,7 +77,7 @@ fn signed(signatures: &mut StepBuffer, p: &Pairing, labels: &Labels) -> Result<F
     ensures kept { Stays signatures.old.labels signatures.new.labels }
 {
     let signature = labels.signature(p.on, &p.names)?;
-    let number = signatures.place(&signature)?;
+    let number = signatures.place_own(signature)?;
     Ok(Fed {
         labels: labels.copy()?,
         number,
