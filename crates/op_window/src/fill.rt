@@ -64,7 +64,7 @@ fn fill_on<W: Ledger>(
                 });
             }
             Some((time, held)) => {
-                let sample = (time, *held);
+                let sample = (time, held);
                 if time.0 > m.0 {
                     let place = rest.place();
                     return Ok(Mark {
@@ -73,7 +73,7 @@ fn fill_on<W: Ledger>(
                         ahead: Some(sample),
                     });
                 }
-                put_fresh(slices, time, *held)?;
+                put_fresh(slices, time, held)?;
                 last = Some(sample);
             }
         }

@@ -13,7 +13,7 @@ returns-in-None-clause-filled g c = filled_end c.loop-m.slices c.args.slices.now
 pub returns-then-time-m-clause-filled : goal.returns-then-time-m-clause-filled
 returns-then-time-m-clause-filled g c =
     let late : c.args.m.0 <ℤ c.in-Some.time.0 = search rules in
-    let x : Sample = (c.in-Some.time, c.in-Some.held.now) in
+    let x : Sample = (c.in-Some.time, c.in-Some.held) in
     filled_end c.loop-m.slices c.args.slices.now (until c.args.m.0 c.loop-m.rest.rest) (until c.args.m.0 (drop c.args.place (samples_at c.args.store.now c.args.s))) (until_past c.args.m.0 x c.next.new.self.rest c.loop-m.rest.rest c.in-Some.ensures.sample late) c.loop-m.invariant.filled
 
 pub returns-clause-filled : goal.returns-clause-filled
@@ -27,7 +27,7 @@ returns-then-time-m-clause-coming g c =
     let i = c.loop-m.invariant in
     let next = c.in-Some.ensures.sample in
     let late : c.args.m.0 <ℤ c.in-Some.time.0 = search rules in
-    let x : Sample = (c.in-Some.time, c.in-Some.held.now) in
+    let x : Sample = (c.in-Some.time, c.in-Some.held) in
     let place : c.place-place-then-time-m.result ≡ length c.loop-m.rest.before + 1 = c.place-place-then-time-m.ensures ∙ one_more c.loop-m.rest.before c.next.new.self.before x c.in-Some.ensures.before in
     ap (λ (xs : Samples). x ∷ xs) (sym (drop_next S (length c.loop-m.rest.before) c.place-place-then-time-m.result x c.next.new.self.rest place (sym i.stands ∙ next)))
     ∙ sym next ∙ sym (after_past c.args.m.0 x c.next.new.self.rest c.loop-m.rest.rest next late) ∙ i.coming
@@ -37,7 +37,7 @@ loop-m-preserved g c =
     let S = samples_at c.args.store.now c.args.s in
     let i = c.loop-m.invariant in
     let next = c.in-Some.ensures.sample in
-    let x : Sample = (c.in-Some.time, c.in-Some.held.now) in
+    let x : Sample = (c.in-Some.time, c.in-Some.held) in
     let xs = c.next.new.self.rest in
     let soon : c.in-Some.time.0 ≤ℤ c.args.m.0 = search rules in
     let at = sym i.stands ∙ next in
