@@ -73,7 +73,7 @@ fn fill_on<W: Ledger>(
                         ahead: Some(sample),
                     });
                 }
-                put_fresh(slices, time, held)?;
+                put_fresh(slices, time, sample.1)?;
                 last = Some(sample);
             }
         }
