@@ -1,6 +1,5 @@
 pub mod LabelLemmas
 pub mod Texts
-pub mod Values
 pub mod Sameness
 pub mod Marks
 pub mod SpanLemmas

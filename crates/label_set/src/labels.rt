@@ -112,17 +112,14 @@ impl Labels {
     }
 
     /// The value under a name. One that is missing reads as the empty text.
+    #[inline(always)]
     pub fn get(&self, name: &str) -> &str
         ensures { result.now ≡ value_of self.now name.now }
     {
-        // Labels are few: to compare each name is faster than to halve them.
-        for place in 0..self.pairs.len() {
-            let (each, value) = self.pairs.pair(place);
-            if each == name {
-                return value;
-            }
+        match find(&self.pairs, name) {
+            Ok(place) => self.pairs.pair(place).1,
+            Err(_) => "",
         }
-        ""
     }
 
     /// Adds a pair; an empty value adds nothing. It refuses, in this order, with EmptyName an empty name, with TooLong
@@ -310,6 +307,7 @@ pub fn is_metric(name: &str) -> bool
 }
 
 /// The place of a name among the pairs, or the place where it would stand.
+#[inline(always)]
 fn find(pairs: &Pairs, name: &str) -> Result<usize, usize>
     requires { IsLabelSet pairs.now }
     ensures { MatchResult result
