@@ -1,5 +1,5 @@
 -- Spans stay in a text that grows and cut out of it what they cut before; and where a new pair goes.
-use Rattle.std.proofs.Common.{◌≡◌, ◌≤◌, ◌+◌, ◌-◌, ℕ, List, [], ◌∷◌, ◌++◌, length, map, take, drop, get_or, refl, sym, subst, ap, ◌∙◌, inl, inr, eq-or-lt_of_le, arith, length-append, length-drop}
+use Rattle.std.proofs.Common.{◌≡◌, ◌≤◌, ◌-◌, ℕ, List, [], ◌∷◌, ◌++◌, length, map, take, drop, get_or, refl, sym, subst, ap, ◌∙◌, inl, inr, eq-or-lt_of_le, arith, length-append, length-drop}
 use Rattle.std.specs.Prelude.{IsUtf8, IsCharBoundary, slice_range, insert, Result, Err, is_ok, if◌then◌else◌}
 use Rattle.std.specs.List.{All}
 use Rattle.std.proofs.lemmas.List.{get_or_append_left, take-append-le, drop-append-le, drop_at, take_all, take-map, drop-map, map-append}

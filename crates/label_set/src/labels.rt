@@ -182,10 +182,10 @@ impl Labels {
     {
         if value.is_empty() {
             let rest = self.pairs.without(place)?;
-            self.pairs = rest;
+            self.pairs.give_way_to(rest);
         } else {
             let changed = self.pairs.with_value(place, value)?;
-            self.pairs = changed;
+            self.pairs.give_way_to(changed);
         }
         Ok(())
     }

@@ -7,6 +7,7 @@ mod label_text;
 mod labels;
 mod pairs;
 mod rules;
+mod spans;
 
 pub use holders::{Boxed, Items, Memory, Text};
 pub use label_text::append_quoted;

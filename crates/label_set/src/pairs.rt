@@ -3,26 +3,26 @@ ghost use Rattle.label_set.specs.Labels.{labels_cmp};
 ghost use Rattle.std.specs.List.{fold};
 ghost use Rattle.std.specs.Prelude.{◌≡◌, ◌<◌, ◌≤◌, ◌++◌, ℕ, List, [], ◌∷◌, Some, insert, length, remove, slice_get, slice_range, slice_set, IfOk, OnOk, OnErr};
 
-use holders::Items;
+use crate::spans::Spans;
 use std::alloc::{AllocError, Global};
 use std::cmp::Ordering;
 use std::hash::{Hash, Hasher};
 use std::marker::Model;
 
 /// Where a pair stands in a text, in bytes: its name begins at `start`, its value at `middle`, and both end at `end`.
-#[derive(Clone, Copy, Debug)]
-struct Span {
-    start: usize,
-    middle: usize,
-    end: usize,
+#[derive(Clone, Copy, Debug, Default)]
+pub struct Span {
+    pub start: usize,
+    pub middle: usize,
+    pub end: usize,
 }
 
-/// Pairs of a name and a value in two blocks of memory: one text, and where each pair stands in it. Contracts see the
-/// list of the pairs. They keep the allocator that they were made with.
+/// Pairs of a name and a value: one text, and where each pair stands in it, which takes memory of its own only where the
+/// pairs are more than a few. Contracts see the list of the pairs. They keep the allocator that they were made with.
 #[derive(Debug, Drop)]
 pub struct Pairs {
     text: String,
-    spans: Items<Span>,
+    spans: Spans,
 }
 
 impl Model for Pairs {
@@ -45,7 +45,7 @@ impl Pairs {
     {
         Pairs {
             text: String::new(alloc),
-            spans: Items::new(alloc),
+            spans: Spans::new(alloc),
         }
     }
 
@@ -54,7 +54,7 @@ impl Pairs {
         ensures { IfOk result (λ ps. ps ≡ []) }
     {
         let text = String::with_capacity(self.allocator(), self.text.as_str().len())?;
-        let spans = Items::with_capacity(self.allocator(), self.len())?;
+        let spans = Spans::with_capacity(self.allocator(), self.len())?;
         Ok(Pairs { text, spans })
     }
 
@@ -145,6 +145,13 @@ impl Pairs {
         pairs.push(self.pair(i).0, value)?;
         pairs.extend(self, i + 1, end)?;
         Ok(pairs)
+    }
+
+    /// Lets these pairs go, and has others in their place.
+    pub fn give_way_to(&mut self, others: Pairs)
+        ensures { self.new ≡ others }
+    {
+        *self = others;
     }
 
     /// Equal pairs, on the allocator of these. The only error is want of memory.

@@ -1,4 +1,4 @@
-use Rattle.std.proofs.Common.{◌+◌, false, true, ◌&&◌, ap, sym, ◌∙◌, drop}
+use Rattle.std.proofs.Common.{◌+◌, ◌&&◌, ap, sym, ◌∙◌, drop}
 use Rattle.label_set.specs.LabelEquality.{labels_eq}
 use Rattle.label_set.proofs.PairSteps.{eq_step}
 use Rattle.label_set.proofs.pairs.Pairs.is_equal.Goals as goal
