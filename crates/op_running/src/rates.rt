@@ -2,12 +2,14 @@
 ghost use Rattle.op_running.specs.Kept.{IsLossOf, layout_in, layout_of_lie};
 ghost use Rattle.promql_meaning.specs.Ranges.{window_value};
 ghost use Rattle.std.specs.List.{All};
-ghost use Rattle.std.specs.Prelude.{◌≡◌, ◌<◌, ◌≤◌, ◌-ℤ◌, length, true, Result, IfOk};
+ghost use Rattle.std.specs.Prelude.{◌≡◌, ◌<◌, ◌≤◌, ◌-ℤ◌, length, true, Ok, Result, IfOk, if◌then◌else◌};
+ghost use Rattle.xfrac.specs.Order.{compares};
 ghost use Rattle.ticks.specs.Walks.{IsTime};
 ghost use Rattle.func_table.specs.declared.table.Window.TheVariants as window;
 ghost use Rattle.window_fn.specs.Increases.{at_most as limited, carried as carried_on, change, covered as all_covered, eleven_tenths as tenths, extrapolated as carried_over, increase as increase_of, layout_of as layout, mean_gap as gap_of, rate as rate_of, start_way as way_to_start, way_back as way_backward, way_to_edge as to_edge, way_to_zero as to_zero};
 ghost use Rattle.window_fn.specs.Points.{in_seconds as seconds_of, milliseconds, time_at as time_of};
 ghost use Rattle.window_fn.specs.Windows.{IsFrame, IsInFrame};
+ghost use Rattle.xfrac.specs.Arithmetic.{arithmetic, whole_number};
 ghost use Rattle.xfrac.specs.declared.value.XFrac.{XFrac};
 
 use crate::losses::Loss;
@@ -188,30 +190,54 @@ fn lie_of(times: &[Ms], frame: &WindowFrame) -> Result<Lie, NumFault>
 fn carried(lie: &Lie, first: &XFrac, change: &XFrac) -> Result<XFrac, NumFault>
     ensures { result ≡ carried_on true (layout_in lie.now) first.now change.now }
 {
-    let to_start = start_way(lie, first, change)?;
-    let to_end = way_to_edge(&lie.to_end, &lie.gap)?;
+    let far = far_for(&lie.gap);
+    let to_start = start_way(lie, &far, first, change)?;
+    let to_end = way_to_edge(&lie.to_end, &lie.gap, &far)?;
     extrapolated(change, &lie.sampled, &to_start, &to_end)
+}
+
+/// From where on a way counts as far: 1.1 mean gaps.
+fn far_for(gap: &XFrac) -> Result<XFrac, NumFault>
+    ensures { result ≡ arithmetic ArithOp.Mul gap.now tenths }
+{
+    arith(ArithOp::Mul, gap, &eleven_tenths())
 }
 
 /// The way to the window's start that the change is carried back over.
 #[tactic(auto, unfolding(window_fn::specs::Increases::start_way))]
-fn start_way(lie: &Lie, first: &XFrac, change: &XFrac) -> Result<XFrac, NumFault>
+fn start_way(
+    lie: &Lie,
+    far: &Result<XFrac, NumFault>,
+    first: &XFrac,
+    change: &XFrac,
+) -> Result<XFrac, NumFault>
+    requires { far.now ≡ arithmetic ArithOp.Mul lie.now.gap tenths }
     ensures { result ≡ way_to_start true (layout_in lie.now) first.now change.now }
 {
-    let way = way_to_edge(&lie.to_start, &lie.gap)?;
+    let way = way_to_edge(&lie.to_start, &lie.gap, far)?;
     way_back(&way, &lie.sampled, first, change)
 }
 
-/// A way at or above 1.1 mean gaps becomes half a gap.
-#[tactic(auto, unfolding(window_fn::specs::Increases::way_to_edge))]
-fn way_to_edge(way: &XFrac, gap: &XFrac) -> Result<XFrac, NumFault>
-    ensures { result ≡ to_edge way.now gap.now }
+/// A way at or above the least that counts as far becomes half a gap.
+fn edge_way(way: &XFrac, gap: &XFrac, least: &XFrac) -> Result<XFrac, NumFault>
+    ensures { result ≡ (if compares CompareOp.Ge way.now least.now then arithmetic ArithOp.Div gap.now (whole_number 2) else Ok way.now) }
 {
-    let far = arith(ArithOp::Mul, gap, &eleven_tenths())?;
-    if compare(CompareOp::Ge, way, &far) {
+    if compare(CompareOp::Ge, way, least) {
         arith(ArithOp::Div, gap, &whole(2))
     } else {
         Ok(*way)
+    }
+}
+
+/// How far a series is carried on to an edge, where it is known from where on a way counts as far.
+#[tactic(auto, unfolding(window_fn::specs::Increases::way_to_edge))]
+fn way_to_edge(way: &XFrac, gap: &XFrac, far: &Result<XFrac, NumFault>) -> Result<XFrac, NumFault>
+    requires { far.now ≡ arithmetic ArithOp.Mul gap.now tenths }
+    ensures { result ≡ to_edge way.now gap.now }
+{
+    match far {
+        Ok(least) => edge_way(way, gap, least),
+        Err(fault) => Err(*fault),
     }
 }
 

@@ -1,11 +1,12 @@
 //! rate, increase and delta: the change over a window, carried on to the window's edges.
-ghost use Rattle.std.specs.Prelude.{◌≡◌, ◌<◌, ◌≤◌, ◌-ℤ◌, ◌++◌, ◌∷◌, [], List, length, true, if◌then◌else◌};
+ghost use Rattle.std.specs.Prelude.{◌≡◌, ◌<◌, ◌≤◌, ◌-ℤ◌, ◌++◌, ◌∷◌, [], List, Ok, length, true, if◌then◌else◌};
 ghost use Rattle.std.specs.List.{All};
 ghost use Rattle.ticks.specs.Walks.{IsTime};
 ghost use Rattle.window_fn.specs.Aggregates.{total};
 ghost use Rattle.window_fn.specs.Increases.{at_most, carried, change, covered, eleven_tenths, extrapolated, increase, layout_of, mean_gap, parts_of_change, rate, start_way, way_back, way_to_edge, way_to_zero};
 ghost use Rattle.window_fn.specs.Totals.{HasRoom, IsSumOf};
 ghost use Rattle.window_fn.specs.Windows.{IsFrame, IsInFrame};
+ghost use Rattle.xfrac.specs.Arithmetic.{arithmetic, whole_number};
 ghost use Rattle.xfrac.specs.Order.{compares};
 ghost use Rattle.xfrac.specs.declared.value.XFrac.{XFrac};
 ghost use Rattle.xfrac.specs.declared.value.XFrac.TheVariants.{Fin};
@@ -132,9 +133,17 @@ fn carried(
 ) -> Result<XFrac, NumFault>
     ensures { result ≡ carried is_counter layout.now first.now change.now }
 {
-    let to_start = start_way(is_counter, layout, first, change)?;
-    let to_end = way_to_edge(&layout.to_end, &layout.gap)?;
+    let far = far_for(&layout.gap);
+    let to_start = start_way(is_counter, layout, &far, first, change)?;
+    let to_end = way_to_edge(&layout.to_end, &layout.gap, &far)?;
     extrapolated(change, &layout.sampled, &to_start, &to_end)
+}
+
+/// From where on a way counts as far: 1.1 mean gaps.
+fn far_for(gap: &XFrac) -> Result<XFrac, NumFault>
+    ensures { result ≡ arithmetic ArithOp.Mul gap.now eleven_tenths }
+{
+    arith(ArithOp::Mul, gap, &eleven_tenths())
 }
 
 /// The way to the window's start that the change is carried back over.
@@ -142,25 +151,37 @@ fn carried(
 fn start_way(
     is_counter: bool,
     layout: &Layout,
+    far: &Result<XFrac, NumFault>,
     first: &XFrac,
     change: &XFrac,
 ) -> Result<XFrac, NumFault>
+    requires { far.now ≡ arithmetic ArithOp.Mul layout.now.gap eleven_tenths }
     ensures { result ≡ start_way is_counter layout.now first.now change.now }
 {
-    let way = way_to_edge(&layout.to_start, &layout.gap)?;
+    let way = way_to_edge(&layout.to_start, &layout.gap, far)?;
     way_back(is_counter, &way, &layout.sampled, first, change)
 }
 
-/// A way at or above 1.1 mean gaps becomes half a gap.
-#[tactic(auto, unfolding(crate::specs::Increases::way_to_edge))]
-fn way_to_edge(way: &XFrac, gap: &XFrac) -> Result<XFrac, NumFault>
-    ensures { result ≡ way_to_edge way.now gap.now }
+/// A way at or above the least that counts as far becomes half a gap.
+fn edge_way(way: &XFrac, gap: &XFrac, least: &XFrac) -> Result<XFrac, NumFault>
+    ensures { result ≡ (if compares CompareOp.Ge way.now least.now then arithmetic ArithOp.Div gap.now (whole_number 2) else Ok way.now) }
 {
-    let far = arith(ArithOp::Mul, gap, &eleven_tenths())?;
-    if compare(CompareOp::Ge, way, &far) {
+    if compare(CompareOp::Ge, way, least) {
         arith(ArithOp::Div, gap, &whole(2))
     } else {
         Ok(*way)
+    }
+}
+
+/// How far a series is carried on to an edge, where it is known from where on a way counts as far.
+#[tactic(auto, unfolding(crate::specs::Increases::way_to_edge))]
+fn way_to_edge(way: &XFrac, gap: &XFrac, far: &Result<XFrac, NumFault>) -> Result<XFrac, NumFault>
+    requires { far.now ≡ arithmetic ArithOp.Mul gap.now eleven_tenths }
+    ensures { result ≡ way_to_edge way.now gap.now }
+{
+    match far {
+        Ok(least) => edge_way(way, gap, least),
+        Err(fault) => Err(*fault),
     }
 }
 
