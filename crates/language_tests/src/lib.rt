@@ -1,4 +1,4 @@
-//! Rows of the language of queries: tokens, trees and types. The answers are worked out elsewhere.
+//! Rows of the languages of queries and of scripts: tokens, trees, types, statements and verdicts. The answers are worked out elsewhere.
 #![tactic(auto)]
 
 #[cfg(test)]
@@ -8,6 +8,10 @@ mod lexing;
 #[cfg(test)]
 mod rows;
 #[cfg(test)]
+mod scripts;
+#[cfg(test)]
 mod trees;
 #[cfg(test)]
 mod types;
+#[cfg(test)]
+mod verdicts;

@@ -1,4 +1,4 @@
-//! Aggregations of groups of rows, over steps that are lent. Its rows of tests stand in `vector_tests`.
+//! Aggregations of groups of rows, over steps that are lent. Its rows of tests stand in `kernel_tests`.
 #![tactic(auto)]
 
 mod groups;

@@ -1,5 +1,5 @@
 //! Operators between two vectors, over steps that are lent: rows with equal signatures are paired.
-//! Its rows of tests stand in `vector_tests`.
+//! Its rows of tests stand in `kernel_tests`.
 #![tactic(auto)]
 
 mod index;

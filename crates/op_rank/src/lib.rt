@@ -1,5 +1,5 @@
 //! The aggregations that read a parameter or a label, topk, bottomk, quantile and count_values, over steps that are lent.
-//! Its rows of tests stand in `vector_tests`.
+//! Its rows of tests stand in `kernel_tests`.
 #![tactic(auto)]
 
 mod best;

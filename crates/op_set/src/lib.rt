@@ -1,5 +1,5 @@
 //! Set operators between two vectors, over steps that are lent.
-//! Its rows of tests stand in `vector_tests`.
+//! Its rows of tests stand in `kernel_tests`.
 #![tactic(auto)]
 
 mod choose;

@@ -1,5 +1,5 @@
 //! The result of a query over a grid, collected from steps that are lent in batches.
-//! Its rows of tests stand in `result_tests`.
+//! Its rows of tests stand in `kernel_tests`.
 #![tactic(auto)]
 
 mod collected;

@@ -1,5 +1,5 @@
 //! Whether the outcome of an evaluation is what a script expects of it, and the texts of outcomes and notes.
-//! Its rows of tests stand in `script_tests`.
+//! Its rows of tests stand in `language_tests`.
 #![tactic(auto)]
 
 mod beside;

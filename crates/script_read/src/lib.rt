@@ -1,5 +1,5 @@
 //! Scripts of the promqltest format, read from the bytes of a file.
-//! Its rows of tests stand in `script_tests`.
+//! Its rows of tests stand in `language_tests`.
 #![tactic(auto)]
 
 mod command;

@@ -1,5 +1,5 @@
 //! Steps and windows that are lent, and the buffers that lend them.
-//! Its rows of tests stand in `batch_tests`.
+//! Its rows of tests stand in `kernel_tests`.
 #![tactic(auto)]
 
 mod batch;

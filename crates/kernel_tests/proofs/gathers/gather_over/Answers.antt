@@ -1,5 +1,5 @@
-use Rattle.gather_tests.proofs.Times.{has_times}
-use Rattle.gather_tests.proofs.gathers.gather_over.Goals as goal
+use Rattle.kernel_tests.proofs.Times.{has_times}
+use Rattle.kernel_tests.proofs.gathers.gather_over.Goals as goal
 
 pub new-requires : goal.new-requires
 new-requires c =

@@ -1,5 +1,5 @@
 //! Gathers over the instants 10, 20 and so on up to 50, and what they lend.
-ghost use Rattle.gather_tests.specs.Rooms.{TakesFrame};
+ghost use Rattle.kernel_tests.specs.Rooms.{TakesFrame};
 ghost use Rattle.std.specs.Prelude.{IsTrue};
 
 use op_gather::Gather;

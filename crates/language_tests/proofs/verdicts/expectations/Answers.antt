@@ -3,7 +3,7 @@ use Rattle.std.specs.Prelude.{Result, IfOk}
 use Rattle.script_check.specs.Verdicts.{KeepsPatterns}
 use Rattle.script_read.specs.declared.fault.ReadFault.{ReadFault}
 use Rattle.script_read.specs.declared.script.Script.{Script}
-use Rattle.script_tests.proofs.verdicts.expectations.Goals as goal
+use Rattle.language_tests.proofs.verdicts.expectations.Goals as goal
 
 pub returns-in-Ok : goal.returns-in-Ok
 returns-in-Ok c =
