@@ -17,11 +17,11 @@ still_there F G [] i h = absurd (omega arith)
 still_there F G (x ∷ xs) zero h = refl
 still_there F G (x ∷ xs) (suc i) h = still_there F G xs i (omega arith)
 
-pub changed_twice : {A : Type 0} (F G : ℕ → A) (xs : List ℕ) (i : ℕ) (blank : A) → i < length xs
-    → slice_set (slice_set (map F (take i xs) ++ map G (drop i xs)) i blank) i (F (get_or xs i 0)) ≡ map F (take (i + 1) xs) ++ map G (drop (i + 1) xs)
-changed_twice F G [] i blank h = absurd (omega arith)
-changed_twice F G (x ∷ xs) zero blank h = refl
-changed_twice F G (x ∷ xs) (suc i) blank h = let e : suc i + 1 ≡ suc (i + 1) = omega arith in rw e (ap (λ r. F x ∷ r) (changed_twice F G xs i blank (omega arith)))
+pub changed_there : {A : Type 0} (F G : ℕ → A) (xs : List ℕ) (i : ℕ) → i < length xs
+    → slice_set (map F (take i xs) ++ map G (drop i xs)) i (F (get_or xs i 0)) ≡ map F (take (i + 1) xs) ++ map G (drop (i + 1) xs)
+changed_there F G [] i h = absurd (omega arith)
+changed_there F G (x ∷ xs) zero h = refl
+changed_there F G (x ∷ xs) (suc i) h = let e : suc i + 1 ≡ suc (i + 1) = omega arith in rw e (ap (λ r. F x ∷ r) (changed_there F G xs i (omega arith)))
 
 -- ---- what is made of a list item by item
 

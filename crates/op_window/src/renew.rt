@@ -140,29 +140,37 @@ fn renew<W: Ledger>(
     }
 }
 
-/// The window of a series at a span, from that at an earlier one, or from none by one search. Each sample is fetched once, and a
-/// window is moved, not copied. The only error is want of memory.
+/// Goes on with the window of a series to a span, from an earlier one, or from none by one search. Each sample is fetched once, and
+/// no window is moved. The only error is want of memory.
 pub(crate) fn renewed<W: Ledger>(
     store: &Store,
     s: u32,
-    was: SeriesWindow,
+    window: &mut SeriesWindow,
     reached: Option<(Ms, Ms)>,
     span: Span,
     work: &mut Work<W>,
-) -> Result<SeriesWindow, AllocError>
+) -> Result<(), AllocError>
     requires there { s < length store.now }
     requires rises { Rises None (samples_at store.now s) }
-    requires was { was ≡ walked_at span.closed span.range.0 reached (samples_at store.now s) }
+    requires was { window.old ≡ walked_at span.closed span.range.0 reached (samples_at store.now s) }
     requires begun { IsReached span.closed span.range.0 reached }
     requires later { IsNoEarlier reached span.moment }
     requires span { IsSpan span }
-    ensures now { IfOk result (λ now. now ≡ walked_at span.closed span.range.0 (Some (edge_of reached span.edge, span.moment)) (samples_at store.now s)) }
+    ensures now { OnOk result (window.new ≡ walked_at span.closed span.range.0 (Some (edge_of reached span.edge, span.moment)) (samples_at store.now s)) }
     ensures read { work.new.fetched + read_of reached (samples_at store.now s) ≤ work.old.fetched + read_of (Some (edge_of reached span.edge, span.moment)) (samples_at store.now s) }
     ensures counted { OnOk result (work.new.fetched + read_of reached (samples_at store.now s) ≡ work.old.fetched + read_of (Some (edge_of reached span.edge, span.moment)) (samples_at store.now s)) }
     ensures probed { work.new.probed + probes_of reached ≤ work.old.probed + 64 }
     ensures tested { work.new.tested ≡ work.old.tested }
 {
-    let SeriesWindow { mark, mut samples } = was;
-    let mark = renew(store, s, mark, reached, span, &mut samples, work)?;
-    Ok(SeriesWindow { mark, samples })
+    let mark = renew(
+        store,
+        s,
+        window.mark,
+        reached,
+        span,
+        &mut window.samples,
+        work,
+    )?;
+    window.mark = mark;
+    Ok(())
 }

@@ -37,7 +37,7 @@ pub struct WindowRows {
     f: Window,
     moment: WalkMoment,
     range: Ms,
-    walked: Items<SeriesWindow>,
+    walked: Vec<SeriesWindow>,
     reached: Option<(Ms, Ms)>,
     placed: Vec<PlacedOutcome>,
     rows: OutcomeBuffer,
@@ -51,7 +51,7 @@ impl Model for WindowRows {
 
     ghost Value = { Kernel };
 
-    ghost view = { λ k. record { series = k.series; f = k.f; moment = k.moment; range = k.range; walked = record { windows = k.walked; named = named_once k.reached k.rows.fed }; reached = k.reached; named = k.rows.fed; buffer = k.rows.lent } };
+    ghost view = { λ k. record { series = k.series; f = k.f; moment = k.moment; range = k.range; walked = record { windows = k.walked.items; named = named_once k.reached k.rows.fed }; reached = k.reached; named = k.rows.fed; buffer = k.rows.lent } };
 
     ghost invariant = { λ k. k.rows.left ≡ left_for k.f };
 }
@@ -206,8 +206,6 @@ impl WindowRows {
         let frame = frame_of(&self.moment, self.range, t);
         let reached = self.reached;
         renew_all(
-            self.alloc,
-            self.f,
             &mut self.walked,
             store,
             self.series.as_slice(),

@@ -6,7 +6,6 @@ ghost use Rattle.std.specs.Prelude.{◌≡◌, ◌+◌, ◌≤◌, None, Some, I
 
 use crate::renew::{SeriesWindow, Span, blank_window, renewed};
 use func_table::Window;
-use holders::Items;
 use sample_store::Store;
 use std::alloc::{AllocError, Global};
 use std::sync::ledger::Ledger;
@@ -17,10 +16,10 @@ pub(crate) fn blank_windows(
     alloc: Global,
     f: Window,
     series: &[u32],
-) -> Result<Items<SeriesWindow>, AllocError>
-    ensures { IfOk result (λ walked. (closed : _) (range : _) (store : _) → walked ≡ all_walked closed range None store series.now) }
+) -> Result<Vec<SeriesWindow>, AllocError>
+    ensures { IfOk result (λ walked. (closed : _) (range : _) (store : _) → walked.items ≡ all_walked closed range None store series.now) }
 {
-    let mut walked = Items::with_capacity(alloc, series.len())?;
+    let mut walked = Vec::with_capacity(alloc, series.len())?;
     for _s in series {
         walked.push(blank_window(alloc, f))?;
     }
@@ -30,9 +29,7 @@ pub(crate) fn blank_windows(
 /// The windows of series at a span, from those at an earlier one. The only error is want of memory; then the series may be at
 /// different instants.
 pub(crate) fn renew_all<W: Ledger>(
-    alloc: Global,
-    f: Window,
-    walked: &mut Items<SeriesWindow>,
+    walked: &mut Vec<SeriesWindow>,
     store: &Store,
     series: &[u32],
     reached: Option<(Ms, Ms)>,
@@ -41,20 +38,18 @@ pub(crate) fn renew_all<W: Ledger>(
 ) -> Result<(), AllocError>
     requires there { AreThere store.now series.now }
     requires rises { AreRising store.now }
-    requires was { walked.old ≡ all_walked span.closed span.range.0 reached store.now series.now }
+    requires was { walked.old.items ≡ all_walked span.closed span.range.0 reached store.now series.now }
     requires begun { IsReached span.closed span.range.0 reached }
     requires later { IsNoEarlier reached span.moment }
     requires span { IsSpan span }
-    ensures now { OnOk result (walked.new ≡ all_walked span.closed span.range.0 (Some (edge_of reached span.edge, span.moment)) store.now series.now) }
+    ensures now { OnOk result (walked.new.items ≡ all_walked span.closed span.range.0 (Some (edge_of reached span.edge, span.moment)) store.now series.now) }
     ensures fetched { work.new.fetched + reads_of reached store.now series.now ≤ work.old.fetched + reads_of (Some (edge_of reached span.edge, span.moment)) store.now series.now }
     ensures counted { OnOk result (work.new.fetched + reads_of reached store.now series.now ≡ work.old.fetched + reads_of (Some (edge_of reached span.edge, span.moment)) store.now series.now) }
     ensures probed { work.new.probed + searches_of reached series.now ≤ work.old.probed + searches_of (Some (edge_of reached span.edge, span.moment)) series.now }
     ensures tested { work.new.tested ≡ work.old.tested }
 {
     for i in 0..series.len() {
-        let was = walked.replace(i, blank_window(alloc, f));
-        let now = renewed(store, series[i], was, reached, span, work)?;
-        walked.replace(i, now);
+        renewed(store, series[i], &mut walked[i], reached, span, work)?;
     }
     Ok(())
 }

@@ -1,6 +1,7 @@
-use Rattle.std.proofs.Common.{◌≡◌, ◌∙◌, ◌+◌, ◌++◌, ◌<◌, ℕ, Some, get_or, length, slice_set, take, drop, map, refl, ap, subst, arith}
+use Rattle.std.proofs.Common.{◌≡◌, ◌∙◌, ◌+◌, ◌++◌, ◌<◌, ℕ, Some, get_or, length, slice_set, take, drop, map, refl, ap, subst, arith, rules}
 use Rattle.std.specs.Prelude.{List, slice_get}
 use Rattle.std.proofs.lemmas.List.{take_all}
+use Rattle.std.proofs.lemmas.Option.{slice_get_read}
 use Rattle.sample_store.specs.Samples.{samples_at}
 use Rattle.series_marks.specs.Counted.{sums_more}
 use Rattle.series_marks.specs.Reaches.{reads_of}
@@ -8,7 +9,7 @@ use Rattle.series_marks.specs.Reads.{edge_of, probes_of, read_of}
 use Rattle.series_marks.specs.Spent.{probes_few, probes_left, probes_more, reads_more, reads_so_far}
 use Rattle.op_window.specs.Sliding.{walked_at}
 use Rattle.op_window.specs.declared.renew.SeriesWindow.{SeriesWindow}
-use Rattle.op_window.proofs.Lists.{changed_length, changed_twice, some_same, still_there}
+use Rattle.op_window.proofs.Lists.{changed_length, changed_there, some_same, still_there}
 use Rattle.op_window.proofs.walked.renew_all.Goals as goal
 
 pub loop-i-init : goal.loop-i-init
@@ -20,14 +21,14 @@ loop-i-init g c = record {
   tested = refl;
 }
 
-pub replace-was-requires : goal.replace-was-requires
-replace-was-requires g c =
+pub index_mut-requires : goal.index_mut-requires
+index_mut-requires g c =
     let xs = c.args.series.now in
     let store = c.args.store.now in
     let span = c.args.span in
     let F : ℕ → SeriesWindow = λ s. walked_at span.closed span.range.0 (Some (edge_of c.args.reached span.edge, span.moment)) (samples_at store s) in
     let G : ℕ → SeriesWindow = λ s. walked_at span.closed span.range.0 c.args.reached (samples_at store s) in
-    let e : length c.loop-i.walked ≡ length xs = ap length c.loop-i.invariant.walked ∙ changed_length F G xs c.loop-i.i in
+    let e : length c.loop-i.walked.items ≡ length xs = ap length c.loop-i.invariant.walked ∙ changed_length F G xs c.loop-i.i in
     let l : c.loop-i.i < length xs = c.loop-i-test.true in
     omega arith
 
@@ -39,8 +40,12 @@ renewed-requires-clause-was g c =
     let i = c.loop-i.i in
     let F : ℕ → SeriesWindow = λ s. walked_at span.closed span.range.0 (Some (edge_of c.args.reached span.edge, span.moment)) (samples_at store s) in
     let G : ℕ → SeriesWindow = λ s. walked_at span.closed span.range.0 c.args.reached (samples_at store s) in
-    some_same (slice_get c.loop-i.walked i) c.replace-was.result (G (get_or xs i 0)) c.replace-was.ensures.was
-    (ap (λ (ws : List SeriesWindow). slice_get ws i) c.loop-i.invariant.walked ∙ still_there F G xs i c.loop-i-test.true)
+    let ws = c.loop-i.walked.items in
+    let e : length ws ≡ length xs = ap length c.loop-i.invariant.walked ∙ changed_length F G xs i in
+    let l : i < length xs = c.loop-i-test.true in
+    let within : i < length ws = omega arith in
+    some_same (slice_get ws i) c.index_mut.result.now (G (get_or xs i 0)) (slice_get_read ws (length ws) i c.index_mut.result.now refl within (search rules))
+    (ap (λ (zs : List SeriesWindow). slice_get zs i) c.loop-i.invariant.walked ∙ still_there F G xs i l)
 
 pub loop-i-preserved : goal.loop-i-preserved
 loop-i-preserved g c =
@@ -50,22 +55,20 @@ loop-i-preserved g c =
     let i = c.loop-i.i in
     let F : ℕ → SeriesWindow = λ s. walked_at span.closed span.range.0 (Some (edge_of c.args.reached span.edge, span.moment)) (samples_at store s) in
     let G : ℕ → SeriesWindow = λ s. walked_at span.closed span.range.0 c.args.reached (samples_at store s) in
-    let now = c.in_ok-now.now in
-    let blank = c.blank_window.result in
-    let is : now ≡ F (get_or xs i 0) = c.in_ok-now.ensures.now in
+    let now = c.renewed.new.window in
+    let is : now ≡ F (get_or xs i 0) = c.in_ok-renewed.ensures.now in
     let was = map F (take i xs) ++ map G (drop i xs) in
     record {
-      walked = c.replace.ensures.now ∙ ap (λ (ws : List SeriesWindow). slice_set ws i now) (c.replace-was.ensures.now ∙ ap (λ (ws : List SeriesWindow). slice_set ws i blank) c.loop-i.invariant.walked)
-          ∙ ap (λ (w : SeriesWindow). slice_set (slice_set was i blank) i w) is ∙ changed_twice F G xs i blank c.loop-i-test.true;
+      walked = ap (λ (ws : List SeriesWindow). slice_set ws i now) c.loop-i.invariant.walked ∙ ap (λ (w : SeriesWindow). slice_set was i w) is ∙ changed_there F G xs i c.loop-i-test.true;
       fetched = reads_more store c.args.reached span.edge span.moment xs i c.renewed.new.work.fetched c.loop-i.work.fetched c.args.work.now.fetched c.loop-i-test.true c.loop-i.invariant.fetched c.renewed.ensures.read;
       counted = sums_more (λ (s : ℕ). read_of c.args.reached (samples_at store s)) (λ (s : ℕ). read_of (Some (edge_of c.args.reached span.edge, span.moment)) (samples_at store s)) xs i c.renewed.new.work.fetched c.loop-i.work.fetched
-          c.args.work.now.fetched c.loop-i-test.true c.loop-i.invariant.counted c.in_ok-now.ensures.counted;
+          c.args.work.now.fetched c.loop-i-test.true c.loop-i.invariant.counted c.in_ok-renewed.ensures.counted;
       probed = probes_more (probes_of c.args.reached) 64 c.renewed.new.work.probed c.loop-i.work.probed c.args.work.now.probed i (length xs) c.loop-i-test.true (probes_few c.args.reached) c.loop-i.invariant.probed c.renewed.ensures.probed;
       tested = c.renewed.ensures.tested ∙ c.loop-i.invariant.tested;
     }
 
-pub returns-in_err-now-clause-fetched : goal.returns-in_err-now-clause-fetched
-returns-in_err-now-clause-fetched g c =
+pub returns-in_err-renewed-clause-fetched : goal.returns-in_err-renewed-clause-fetched
+returns-in_err-renewed-clause-fetched g c =
     let xs = c.args.series.now in
     let store = c.args.store.now in
     let span = c.args.span in
@@ -73,8 +76,8 @@ returns-in_err-now-clause-fetched g c =
     reads_so_far store c.args.reached span.edge span.moment xs (i + 1) c.renewed.new.work.fetched c.args.work.now.fetched c.requires.later
     (reads_more store c.args.reached span.edge span.moment xs i c.renewed.new.work.fetched c.loop-i.work.fetched c.args.work.now.fetched c.loop-i-test.true c.loop-i.invariant.fetched c.renewed.ensures.read)
 
-pub returns-in_err-now-clause-probed : goal.returns-in_err-now-clause-probed
-returns-in_err-now-clause-probed g c =
+pub returns-in_err-renewed-clause-probed : goal.returns-in_err-renewed-clause-probed
+returns-in_err-renewed-clause-probed g c =
     probes_left c.args.reached c.renewed.new.work.probed c.args.work.now.probed (c.loop-i.i + 1) (length c.args.series.now) (let h : c.loop-i.i < length c.args.series.now = c.loop-i-test.true in omega arith)
     (probes_more (probes_of c.args.reached) 64 c.renewed.new.work.probed c.loop-i.work.probed c.args.work.now.probed c.loop-i.i (length c.args.series.now) c.loop-i-test.true (probes_few c.args.reached) c.loop-i.invariant.probed c.renewed.ensures.probed)
 
