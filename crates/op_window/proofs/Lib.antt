@@ -3,6 +3,7 @@ pub mod Counts
 pub mod Fills
 pub mod Instants
 pub mod Lists
+pub mod NotesTold
 pub mod PlacesMade
 pub mod Scalars
 pub mod Stages

@@ -24,8 +24,10 @@ use Rattle.step_table.specs.declared.windows.WindowRow.{WindowRow}
 use Rattle.window_fn.specs.declared.frame.WindowFrame.{WindowFrame}
 use Rattle.xfrac.specs.declared.value.NumFault.{NumFault}
 use Rattle.xfrac.specs.declared.value.XFrac.{XFrac}
+use Rattle.op_window.specs.NoteSets.{AreOneSet}
 use Rattle.op_window.specs.Rules.{left_for, names_in, names_of, note_in, notes_given, outcome_in, outcomes_given, windows_in}
 use Rattle.op_window.proofs.Lists.{filter_both, map_both}
+use Rattle.op_window.proofs.NotesTold.{given_same}
 use Rattle.op_window.proofs.WindowRowsMade.{step_made}
 
 -- ---- places
@@ -138,9 +140,11 @@ note_is f frame arg w value names told a b e =
 
 -- the step of what comes of windows is the meaning's
 pub put_made : (f : Window) (frame : WindowFrame) (arg : XFrac) (rows : List WindowRow) (marks : Marks) (left : Left) (fed names : List Names) (placed : List PlacedOutcome) (notes : List Note) → left ≡ left_for f → fed ≡ names → PlacesRise 0 (length names) placed
-    → outcomes_given f names placed ≡ map (outcome_in f frame arg) rows → notes ≡ filter_map (note_in f frame arg) rows → made_step left fed (with_notes marks (notes_given f arg placed notes)) placed ≡ windowed f frame.eval.0 arg (windows_in frame rows marks)
+    → outcomes_given f names placed ≡ map (outcome_in f frame arg) rows → AreOneSet notes (filter_map (note_in f frame arg) rows) → made_step left fed (with_notes marks (notes_given f arg placed notes)) placed ≡ windowed f frame.eval.0 arg (windows_in frame rows marks)
 put_made f frame arg rows marks left fed names placed notes d e r o n =
+    let told = filter_map (note_in f frame arg) rows in
     ap (λ (b : Left). made_step b fed (with_notes marks (notes_given f arg placed notes)) placed) d
     ∙ ap (λ (ns : List Names). made_step (left_for f) ns (with_notes marks (notes_given f arg placed notes)) placed) e
     ∙ ap (λ (all : List Note). made_step (left_for f) names (with_notes marks all) placed) (notes_same f arg (left_for f) names placed notes r)
-    ∙ step_made f frame arg rows marks (outcomes_given f names placed) notes o n
+    ∙ ap (λ (m : Marks). made_step (left_for f) names m placed) (given_same f arg (outcomes_given f names placed) marks notes told n)
+    ∙ step_made f frame arg rows marks (outcomes_given f names placed) told o refl

@@ -15,7 +15,9 @@ use Rattle.promql_meaning.specs.declared.given.Windows.{Windows}
 use Rattle.sample_store.specs.Samples.{AllSeries, Names, Samples, labels_at, samples_at}
 use Rattle.series_marks.specs.Reaches.{numbered}
 use Rattle.step_batch.specs.LentWindows.{window_with}
+use Rattle.step_table.specs.Orders.{note_cmp}
 use Rattle.step_table.specs.Outcomes.{settled, taken}
+use Rattle.step_table.specs.Unions.{set_of}
 use Rattle.step_table.specs.declared.marks.Marks.{Marks}
 use Rattle.step_table.specs.declared.marks.Note.{Note}
 use Rattle.step_table.specs.declared.outcomes.Outcome.{Outcome}
@@ -30,7 +32,9 @@ use Rattle.xfrac.specs.declared.value.XFrac.{XFrac}
 use Rattle.step_batch.specs.Columns.{Columns, has_some}
 use Rattle.op_window.specs.declared.renew.SeriesWindow.{SeriesWindow}
 use Rattle.op_window.specs.Sliding.{Fresh, columns_of}
+use Rattle.op_window.specs.NoteSets.{AreOneSet}
 use Rattle.op_window.proofs.Lists.{filter_both, filter_one, filtered_more}
+use Rattle.op_window.proofs.NotesTold.{with_more}
 use Rattle.op_window.specs.Rules.{note_in, notes_given, outcome_in, rows_of_series, windows_in}
 
 -- ---- the windows of series
@@ -152,11 +156,12 @@ columns_some c [] e h = absurd (no_false (sym (ap has_some e) ∙ h))
 columns_some c (x ∷ K) e h = let n : length c.values ≡ suc (length (sample_values K)) = ap (λ (z : Columns). length z.values) e in omega arith
 
 -- one window more
-pub notes_next : (f : Window) (frame : WindowFrame) (arg : XFrac) (rows more : List WindowRow) (w : WindowRow) (was now : List Note) → was ≡ filter_map (note_in f frame arg) rows → now ≡ was ++ option_to_list (note_in f frame arg w) → rows ++ w ∷ [] ≡ more
-    → now ≡ filter_map (note_in f frame arg) more
-notes_next f frame arg rows more w was now h e r =
-    e ∙ ap (λ (ns : List Note). ns ++ option_to_list (note_in f frame arg w)) h ∙ ap (λ (ns : List Note). filter_map (note_in f frame arg) rows ++ ns) (sym (filter_one (note_in f frame arg) w))
-    ∙ sym (filter_both (note_in f frame arg) rows (w ∷ [])) ∙ ap (filter_map (note_in f frame arg)) r
+pub notes_next : (f : Window) (frame : WindowFrame) (arg : XFrac) (rows more : List WindowRow) (w : WindowRow) (was now : List Note) (o : Option Note) → AreOneSet was (filter_map (note_in f frame arg) rows) → AreOneSet now (was ++ option_to_list o) → o ≡ note_in f frame arg w → rows ++ w ∷ [] ≡ more
+    → AreOneSet now (filter_map (note_in f frame arg) more)
+notes_next f frame arg rows more w was now o h e n r =
+    let N = note_in f frame arg in
+    e ∙ with_more was (filter_map N rows) (option_to_list o) h
+    ∙ ap (set_of note_cmp) (ap (λ (p : Option Note). filter_map N rows ++ option_to_list p) n ∙ ap (λ (ns : List Note). filter_map N rows ++ ns) (sym (filter_one N w)) ∙ sym (filter_both N rows (w ∷ [])) ∙ ap (filter_map N) r)
 
 -- ---- a series at its place
 

@@ -1,4 +1,5 @@
 pub mod Feeds
 pub mod Kernels
+pub mod NoteSets
 pub mod Rules
 pub mod Sliding

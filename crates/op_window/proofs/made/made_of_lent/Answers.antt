@@ -1,6 +1,7 @@
-use Rattle.std.proofs.Common.{◌≡◌, ◌∙◌, ◌+◌, ◌++◌, ◌∷◌, [], Some, take, ap, refl}
-use Rattle.std.specs.Prelude.{Option, slice_get}
-use Rattle.std.specs.Option.{option_to_list}
+use Rattle.std.proofs.Common.{◌≡◌, ◌+◌, ◌++◌, ◌∷◌, [], Some, take, refl, rules}
+use Rattle.std.specs.Prelude.{◌&&◌, None, if◌then◌else◌, Option, slice_get}
+use Rattle.label_set.specs.Labels.{metric_name, value_of}
+use Rattle.promql_meaning.specs.Ranges.{asks_counters, has_value, name_note}
 use Rattle.step_batch.specs.LentWindows.{window_with}
 use Rattle.step_put.specs.declared.placed.PlacedOutcome.{PlacedOutcome}
 use Rattle.step_table.specs.declared.marks.Note.{Note}
@@ -21,10 +22,14 @@ loop-i-preserved c =
     let p : PlacedOutcome = record { place = i; value = c.in_ok-value.value } in
     let was = c.loop-i.placed.items in
     let now = c.push.new.self.items in
-    let note = note_is c.args.f frame c.args.arg.now w c.in_ok-value.value c.labels-labels.result.now c.in_ok-note.note c.in_ok-value.ensures refl c.in_ok-note.ensures in
+    let names = c.labels-labels.result.now in
+    let value = c.in_ok-value.value in
+    let o : Option Note = if asks_counters c.args.f && has_value value then name_note (value_of names metric_name) else None in
+    let note = note_is c.args.f frame c.args.arg.now w value names o c.in_ok-value.ensures refl refl in
     record {
       rising = rise_next was now p i refl c.in_ok-push.ensures.items c.loop-i.invariant.rising;
       outcomes = given_next c.args.f frame c.args.arg.now (names_in rows) (take i rows) (take (i + 1) rows) w was now p (window_named rows i w there) c.in_ok-value.ensures c.loop-i.invariant.outcomes c.in_ok-push.ensures.items more;
-      notes = notes_next c.args.f frame c.args.arg.now (take i rows) (take (i + 1) rows) w c.loop-i.notes c.add_note.new.notes c.loop-i.invariant.notes
-          (c.in_ok-add_note.ensures ∙ ap (λ (n : Option Note). c.loop-i.notes ++ option_to_list n) note) more;
+      text = search rules;
+      told = c.in_ok-told.ensures.told;
+      notes = notes_next c.args.f frame c.args.arg.now (take i rows) (take (i + 1) rows) w c.loop-i.notes c.tell.new.notes o c.loop-i.invariant.notes c.in_ok-told.ensures.notes note more;
     }

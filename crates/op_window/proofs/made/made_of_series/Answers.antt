@@ -1,12 +1,15 @@
-use Rattle.std.proofs.Common.{◌≡◌, ◌∙◌, ◌+◌, ◌++◌, ◌∷◌, [], ℕ, Some, true, false, get_or, length, map, take, refl, sym, ap, arith}
-use Rattle.std.specs.Prelude.{List, Option, slice_index_or}
+use Rattle.std.proofs.Common.{◌≡◌, ◌∙◌, ◌+◌, ◌++◌, ◌∷◌, [], ℕ, Some, true, false, get_or, length, map, take, refl, sym, ap, arith, rules}
+use Rattle.std.specs.Prelude.{◌&&◌, None, if◌then◌else◌, List, Option, slice_index_or}
 use Rattle.std.specs.List.{filter_map}
-use Rattle.std.specs.Option.{option_to_list}
 use Rattle.promql_meaning.specs.Selecting.{sample_times, sample_values, window}
 use Rattle.sample_store.specs.Samples.{labels_at, samples_at}
+use Rattle.label_set.specs.Labels.{metric_name, value_of}
+use Rattle.promql_meaning.specs.Ranges.{asks_counters, has_value, name_note}
 use Rattle.step_batch.specs.Columns.{Columns, has_some}
 use Rattle.step_batch.specs.LentWindows.{window_with}
 use Rattle.step_put.specs.declared.placed.PlacedOutcome.{PlacedOutcome}
+use Rattle.step_table.specs.Orders.{note_cmp}
+use Rattle.step_table.specs.Unions.{set_of}
 use Rattle.step_table.specs.declared.marks.Note.{Note}
 use Rattle.step_table.specs.declared.windows.WindowRow.{WindowRow}
 use Rattle.op_window.specs.Rules.{names_of, note_in, outcome_in}
@@ -37,7 +40,9 @@ loop-i-preserved-then-not-has_some c =
     record {
       rising = rise_wider 0 i (i + 1) c.loop-i.placed.items c.loop-i.invariant.rising (omega arith);
       outcomes = c.loop-i.invariant.outcomes ∙ ap (map (outcome_in c.args.f frame c.args.arg.now)) r;
-      notes = c.loop-i.invariant.notes ∙ ap (filter_map (note_in c.args.f frame c.args.arg.now)) r;
+      text = c.loop-i.invariant.text;
+      told = c.loop-i.invariant.told;
+      notes = c.loop-i.invariant.notes ∙ ap (λ (rows : List WindowRow). set_of note_cmp (filter_map (note_in c.args.f frame c.args.arg.now) rows)) r;
     }
 
 pub over-requires-clause-same : goal.over-requires-clause-same
@@ -112,12 +117,16 @@ loop-i-preserved c =
     let placed = c.loop-i.placed.items in
     let now = c.push.new.self.items in
     let p : PlacedOutcome = record { place = i; value = c.in_ok-value.value } in
-    let note = note_is c.args.f frame c.args.arg.now one c.in_ok-value.value c.labels.result.now c.in_ok-note.note c.in_ok-value.ensures c.labels.ensures.named c.in_ok-note.ensures in
+    let names = c.labels.result.now in
+    let value = c.in_ok-value.value in
+    let o : Option Note = if asks_counters c.args.f && has_value value then name_note (value_of names metric_name) else None in
+    let note = note_is c.args.f frame c.args.arg.now one value names o c.in_ok-value.ensures c.labels.ensures.named refl in
     record {
       rising = rise_next placed now p i refl c.in_ok-push.ensures.items c.loop-i.invariant.rising;
       outcomes = given_next c.args.f frame c.args.arg.now (names_of store xs) was (filter_map R (take (i + 1) xs)) one placed now p (series_named store xs i c.loop-i-test.true) c.in_ok-value.ensures c.loop-i.invariant.outcomes c.in_ok-push.ensures.items more;
-      notes = notes_next c.args.f frame c.args.arg.now was (filter_map R (take (i + 1) xs)) one c.loop-i.notes c.add_note.new.notes c.loop-i.invariant.notes
-          (c.in_ok-add_note.ensures ∙ ap (λ (n : Option Note). c.loop-i.notes ++ option_to_list n) note) more;
+      text = search rules;
+      told = c.in_ok-told.ensures.told;
+      notes = notes_next c.args.f frame c.args.arg.now was (filter_map R (take (i + 1) xs)) one c.loop-i.notes c.tell.new.notes o c.loop-i.invariant.notes c.in_ok-told.ensures.notes note more;
     }
 
 pub returns-clause-rising : goal.returns-clause-rising
@@ -138,5 +147,6 @@ returns-clause-notes c =
     let frame = c.args.frame.now in
     let store = c.args.store.now in
     let xs = c.args.series.now in
-    c.loop-i.invariant.notes ∙ ap (λ (zs : List ℕ). filter_map (note_in c.args.f frame c.args.arg.now) (filter_map (row_at c.args.closed frame store) zs)) (take_all xs c.loop-i.i c.loop-i-test.false)
-    ∙ ap (filter_map (note_in c.args.f frame c.args.arg.now)) (rows_are c.args.closed frame store xs)
+    c.loop-i.invariant.notes
+    ∙ ap (λ (zs : List ℕ). set_of note_cmp (filter_map (note_in c.args.f frame c.args.arg.now) (filter_map (row_at c.args.closed frame store) zs))) (take_all xs c.loop-i.i c.loop-i-test.false)
+    ∙ ap (λ (rows : List WindowRow). set_of note_cmp (filter_map (note_in c.args.f frame c.args.arg.now) rows)) (rows_are c.args.closed frame store xs)
