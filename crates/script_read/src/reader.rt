@@ -2,9 +2,9 @@
 ghost use Rattle.label_set.specs.Labels.{labels_cmp};
 ghost use Rattle.match_rule.specs.Gains.{Gains};
 ghost use Rattle.script_read.specs.Expects.{Gathers, GrowsBy, RefusesOnLine, RefusesPattern, mode_wants, search_on};
-ghost use Rattle.script_read.specs.Lines.{has_no_text, lines_of};
+ghost use Rattle.script_read.specs.Lines.{has_no_text, lines_of, words_behind};
 ghost use Rattle.script_read.specs.Outcomes.{Gives, GivesWith, Makes, MakesWith, Says, then_give};
-ghost use Rattle.script_read.specs.Reading.{body_line, command_of, commands_in, commands_of, eval_of, expected_after, is_clear, items_spelled, load_of, reading, series_lines, series_worded, text_read};
+ghost use Rattle.script_read.specs.Reading.{body_line, command_of, commands_in, commands_of, eval_of, expected_after, is_clear, items_spelled, line_with, load_of, reading, series_lines, series_worded, text_read};
 ghost use Rattle.script_read.specs.Refusals.{at_line};
 ghost use Rattle.script_read.specs.Results.{AreSeen, result_added, rows_in, rows_with, scalar_added};
 ghost use Rattle.script_read.specs.Views.{AddsCommands, block_of, deed_of, instruction, moments_asked, numbered, script_seen};
@@ -23,7 +23,7 @@ use crate::rows::{begins_series, instant_points, number_alone, range_points};
 use crate::script::{
     Command, Expectations, Expected, Script, ScriptRefusal, SeriesItem, SeriesLine, What,
 };
-use crate::series::read_series;
+use crate::series::{SeriesRead, read_series};
 use label_set::{Items, Labels, Text};
 use match_rule::Patterns;
 use promql_meaning::ResultSeries;
@@ -71,15 +71,34 @@ fn series_in(alloc: Global, line: u32, text: &[u8]) -> Result<SeriesLine, LineFa
     if has_histogram(text) {
         return Err(LineFault::NativeHistogram);
     }
-    let series = read_series(alloc, text)?;
-    if series.labels.len() == 0 {
+    let SeriesRead { labels, behind } = read_series(alloc, text)?;
+    line_with(alloc, line, labels, behind)
+}
+
+/// The items behind a series, one or more.
+fn items_behind(alloc: Global, behind: &[u8]) -> Result<Items<SeriesItem>, LineFault>
+    ensures { Says result (items_spelled (words_behind behind.now)) }
+{
+    let words = words_behind(alloc, behind)?;
+    read_items(alloc, &words)
+}
+
+/// The line of a series that has a label, with the items behind it.
+fn line_with(
+    alloc: Global,
+    line: u32,
+    labels: Labels,
+    behind: &[u8],
+) -> Result<SeriesLine, LineFault>
+    ensures { Says result (line_with line labels behind.now) }
+{
+    if labels.len() == 0 {
         return Err(LineFault::Malformed);
     }
-    let words = words_behind(alloc, series.behind)?;
-    let items = read_items(alloc, &words)?;
+    let items = items_behind(alloc, behind)?;
     Ok(SeriesLine {
         line,
-        labels: series.labels,
+        labels,
         items,
     })
 }

@@ -1,7 +1,7 @@
 //! The series at the front of a line: a metric's name, labels in braces, or both.
 ghost use Rattle.script_read.specs.Lines.{from_blank};
 ghost use Rattle.script_read.specs.Outcomes.{Says, then_give};
-ghost use Rattle.script_read.specs.Series.{is_comma, is_sign, label_at, labels_inside, labels_named, labels_put, labels_with, opened, part_put, pair_put, series_at, series_bare, series_open, spelling, value_at, without_empty_end};
+ghost use Rattle.script_read.specs.Series.{if_last, is_comma, is_sign, label_at, labels_inside, labels_named, labels_put, labels_with, opened, part_put, pair_put, series_at, series_bare, series_open, spelling, value_at, without_empty_end};
 ghost use Rattle.script_read.specs.Views.{series_read};
 ghost use Rattle.std.specs.List.{list_all, slice_split};
 ghost use Rattle.std.specs.Prelude.{◌≡◌, ◌<◌, ◌≤◌, ◌^◌, ◌==◌, ◌&&◌, [], ◌∷◌, true, not, length, is_none, option_map, position, IfSome, MatchOption};
@@ -86,6 +86,17 @@ fn value_in(token: &Token) -> Result<&str, LineFault>
     }
 }
 
+/// The labels, where nothing stands behind what said them.
+fn if_last(rest: &[Token], labels: Labels) -> Result<Labels, LineFault>
+    ensures { result ≡ if_last rest.now labels }
+{
+    if rest.is_empty() {
+        Ok(labels)
+    } else {
+        Err(LineFault::Malformed)
+    }
+}
+
 /// The labels with the pair of a label, `=` and a value, and nothing behind them.
 fn put_pair(labels: Labels, text: &[u8], part: &[Token]) -> Result<Labels, LineFault>
     ensures { Says result (pair_put text.now labels part.now) }
@@ -98,11 +109,7 @@ fn put_pair(labels: Labels, text: &[u8], part: &[Token]) -> Result<Labels, LineF
         return Err(LineFault::Malformed);
     }
     let more = put(labels, name, value_in(value)?)?;
-    if rest.is_empty() {
-        Ok(more)
-    } else {
-        Err(LineFault::Malformed)
-    }
+    if_last(rest, more)
 }
 
 /// The labels with what a part of the braces says; the first one may be the metric's name in quotes.
