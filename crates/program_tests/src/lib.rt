@@ -2,6 +2,8 @@
 #![tactic(auto)]
 
 #[cfg(test)]
+mod engines;
+#[cfg(test)]
 mod reports;
 #[cfg(test)]
 mod rows;

@@ -1,6 +1,7 @@
 pub mod Asking
 pub mod Built
 pub mod Counts
+pub mod Declaring
 pub mod Final
 pub mod Names
 pub mod Once

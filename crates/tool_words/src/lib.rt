@@ -4,6 +4,7 @@
 
 mod asked;
 mod build;
+mod engines;
 mod instants;
 mod laws;
 mod matches;
@@ -12,6 +13,7 @@ mod opts;
 mod read;
 
 pub use asked::{Asked, Choices, Optimisers};
+pub use engines::engines_by;
 pub use laws::{
     batches_are_asked_for, commands_are_simple, edges_are_asked_for, words_say_what_they_spell,
 };
