@@ -1,5 +1,5 @@
 -- What a query comes to, and its report.
-use Rattle.std.proofs.Common.{◌≡◌, ℕ, Bool, List, [], ◌∷◌, Option, Some, Result, Ok, Err, IfOk, OnErr, refl, sym, subst}
+use Rattle.std.proofs.Common.{◌≡◌, ℕ, Bool, List, [], ◌∷◌, Option, Some, Result, Ok, Err, IfOk, OnErr, refl, sym, subst, ap, arith, ◌∙◌}
 use Rattle.std.proofs.lemmas.Result.{IfOk-weaker}
 use Rattle.edge_io.specs.Written.{appended, WroteFront}
 use Rattle.edge_io.specs.declared.sink.SinkFail.{SinkFail}
@@ -87,3 +87,22 @@ module _ (path : List ℕ) (before now : Option (List ℕ)) where
       → OnErr r (WroteFront before now (stop_report path stop).text) → Ends (ReportsAnswered path (end.Stopped stop)) (IsCutReport (ReportsAnswered path (end.Stopped stop)) before now) before now r
   stop_printed stop (Ok status) ok err = (stop_report path stop, refl, record { status_is = ok.0; text_is = ok.1 })
   stop_printed stop (Err cause) ok err = Partly (stop_report path stop) refl err
+
+-- ---- which files are gone
+
+-- the report of an outcome isn't that of a file that is gone
+outcome_told : (got : Outcome) (notes : List (List ℕ)) (P : Type 0) → (outcome_report got notes).status ≡ 3 → P
+outcome_told (outcome.Answer answer) notes P h = absurd (omega (arith, h))
+outcome_told (outcome.Refused refusal) notes P h = absurd (omega (arith, h))
+outcome_told (outcome.Failed at mark) notes P h = absurd (omega (arith, h))
+outcome_told (outcome.TooManyRows at) notes P h = absurd (omega (arith, h))
+
+-- status 3 is that of a file that is gone
+pub gone_alone : (path : List ℕ) (got : Answered) (Cut P : Type 0) (before now : Option (List ℕ)) (r : Result Status SinkFail) → (got ≡ end.Stopped stop.Gone → P) → Ends (ReportsAnswered path got) Cut before now r
+    → IfOk r (λ status. status.0 ≡ 3 → P)
+gone_alone path got Cut P before now (Err cause) h e = tt
+gone_alone path (end.Outcome got) Cut P before now (Ok status) h e = λ three. outcome_told got e.1.0 P (sym (ap (λ (r : Report). r.status) e.1.2) ∙ sym e.2.status_is ∙ three)
+gone_alone path (end.Stopped stop.Gone) Cut P before now (Ok status) h e = λ three. h refl
+gone_alone path (end.Stopped (stop.Refused why)) Cut P before now (Ok status) h e = λ three.
+    let six : status.0 ≡ 6 = e.2.status_is ∙ ap (λ (r : Report). r.status) e.1 in
+    absurd (omega (arith, six, three))
