@@ -3,7 +3,7 @@ ghost use Rattle.label_set.specs.Labels.{labels_cmp};
 ghost use Rattle.std.specs.List.{fold};
 ghost use Rattle.std.specs.Prelude.{◌≡◌, ◌<◌, ◌≤◌, ◌++◌, ℕ, List, [], ◌∷◌, Some, insert, length, remove, slice_get, slice_range, slice_set, IfOk, OnOk, OnErr};
 
-use crate::spans::Spans;
+use crate::spans::PairSpans;
 use std::alloc::{AllocError, Global};
 use std::cmp::Ordering;
 use std::hash::{Hash, Hasher};
@@ -22,7 +22,7 @@ pub struct Span {
 #[derive(Debug, Drop)]
 pub struct Pairs {
     text: String,
-    spans: Spans,
+    spans: PairSpans,
 }
 
 impl Model for Pairs {
@@ -45,7 +45,7 @@ impl Pairs {
     {
         Pairs {
             text: String::new(alloc),
-            spans: Spans::new(alloc),
+            spans: PairSpans::new(alloc),
         }
     }
 
@@ -54,7 +54,7 @@ impl Pairs {
         ensures { IfOk result (λ ps. ps ≡ []) }
     {
         let text = String::with_capacity(self.allocator(), self.text.as_str().len())?;
-        let spans = Spans::with_capacity(self.allocator(), self.len())?;
+        let spans = PairSpans::with_capacity(self.allocator(), self.len())?;
         Ok(Pairs { text, spans })
     }
 

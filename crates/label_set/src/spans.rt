@@ -10,11 +10,11 @@ const FEW: usize = 4;
 
 /// Where pairs stand in a text, in order. Contracts see the list. It keeps the allocator that it was made with.
 #[derive(Debug, Drop)]
-pub struct Spans {
+pub struct PairSpans {
     spans: SmallVec<Span, FEW>,
 }
 
-impl Model for Spans {
+impl Model for PairSpans {
     ghost use Rattle.label_set.specs.declared.pairs.Span.{Span};
     ghost use Rattle.std.specs.Prelude.{List};
 
@@ -23,21 +23,21 @@ impl Model for Spans {
     ghost view = { λ s. s.spans.items };
 }
 
-impl Spans {
+impl PairSpans {
     /// No spans. It takes no memory.
-    pub fn new(alloc: Global) -> Spans
+    pub fn new(alloc: Global) -> PairSpans
         ensures { result ≡ [] }
     {
-        Spans {
+        PairSpans {
             spans: SmallVec::new(alloc),
         }
     }
 
     /// No spans, with room for so many. The only error is want of memory.
-    pub fn with_capacity(alloc: Global, most: usize) -> Result<Spans, AllocError>
+    pub fn with_capacity(alloc: Global, most: usize) -> Result<PairSpans, AllocError>
         ensures { IfOk result (λ s. s ≡ []) }
     {
-        Ok(Spans {
+        Ok(PairSpans {
             spans: SmallVec::with_capacity(alloc, most)?,
         })
     }
@@ -66,10 +66,10 @@ impl Spans {
     }
 
     /// Equal spans, on the allocator of these. The only error is want of memory.
-    pub fn copy(&self) -> Result<Spans, AllocError>
+    pub fn copy(&self) -> Result<PairSpans, AllocError>
         ensures { IfOk result (λ s. s ≡ self.now) }
     {
-        Ok(Spans {
+        Ok(PairSpans {
             spans: SmallVec::from_slice(self.allocator(), self.as_slice())?,
         })
     }

@@ -3,4 +3,3 @@ pub mod LostSums
 pub mod Picks
 pub mod Sums
 pub mod Tails
-pub mod Tenths

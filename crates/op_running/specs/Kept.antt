@@ -1,20 +1,17 @@
 -- What is kept of values that come behind and go in front. (This project's own.)
-use Rattle.std.specs.Prelude.{◌≡◌, ◌+◌, ◌≤◌, ◌<◌, ◌^◌, ℕ, suc, List, [], ◌∷◌, length, take, drop, slice_get, Option, None, Some, Result, Ok, Err, if◌then◌else◌, ⊤}
+use Rattle.std.specs.Prelude.{◌≡◌, ◌+◌, ◌≤◌, ◌<◌, ◌^◌, ℕ, suc, List, [], ◌∷◌, length, take, drop, slice_get, Option, None, Some, if◌then◌else◌, ⊤}
 use Rattle.std.specs.List.{All}
 use Rattle.window_fn.specs.Aggregates.{greatest, least}
 use Rattle.window_fn.specs.Increases.{lost}
 use Rattle.window_fn.specs.Totals.{IsSumOf}
-use Rattle.window_fn.specs.declared.increases.Layout.{Layout}
 use Rattle.xfrac.specs.Laws.{IsNumber}
 use Rattle.xfrac.specs.Order.{compares}
 use Rattle.xfrac.specs.Sums.{Totals}
 use Rattle.xfrac.specs.declared.value.CompareOp.TheVariants.{Lt}
-use Rattle.xfrac.specs.declared.value.NumFault.{NumFault}
 use Rattle.xfrac.specs.declared.value.XFrac.{XFrac}
 use Rattle.op_running.specs.declared.extremes.Greatest.{Greatest}
 use Rattle.op_running.specs.declared.extremes.Least.{Least}
 use Rattle.op_running.specs.declared.losses.Loss.{Loss}
-use Rattle.op_running.specs.declared.rates.Lie.{Lie}
 use Rattle.op_running.specs.declared.running.Running.{Running}
 use Rattle.op_running.specs.declared.totals.Total.{Total}
 use Rattle.op_running.specs.declared.window.Kept.{Kept}
@@ -68,13 +65,6 @@ pub record IsLossOf (kept : Loss) (values : List XFrac) : Type 0 where
   pub numbers : All IsNumber values
   pub is_ends : kept.ends ≡ ends_of values
   pub is_lost : IsSumOf kept.lost (lost values)
-
-abbrev pub layout_in : Lie → Layout
-layout_in l = record { sampled = l.sampled; gap = l.gap; to_start = l.to_start; to_end = l.to_end }
-
-abbrev pub layout_of_lie : Result Lie NumFault → Result Layout NumFault
-layout_of_lie (Ok l) = Ok (layout_in l)
-layout_of_lie (Err fault) = Err fault
 
 -- ---- what is kept of a window
 

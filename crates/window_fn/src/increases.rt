@@ -96,9 +96,9 @@ fn with_loss(sum: Sum, before: &XFrac, value: &XFrac) -> Sum
     }
 }
 
-/// How the samples lie in the window.
+/// How the samples of a window lie in it, in milliseconds. `Overflow` comes exactly where an operation of it overflows.
 #[tactic(auto, unfolding(crate::specs::Increases::layout_of))]
-fn layout_of(times: &[Ms], frame: &WindowFrame) -> Result<Layout, NumFault>
+pub fn layout_of(times: &[Ms], frame: &WindowFrame) -> Result<Layout, NumFault>
     requires two { 2 ≤ length times.now }
     requires frame { IsFrame frame.now }
     requires times { All (IsInFrame frame.now) times.now }
@@ -123,9 +123,10 @@ fn mean_gap(times: &[Ms], sampled: &XFrac) -> Result<XFrac, NumFault>
     arith(ArithOp::Div, sampled, &whole((times.len() - 1) as i64))
 }
 
-/// The change carried on over the ways to both edges.
+/// The change from the first sample of a window to its last, carried on over the ways to both edges; a counter that rises
+/// is carried back no further than to where it was 0. `Overflow` comes exactly where an operation of it overflows.
 #[tactic(auto, unfolding(crate::specs::Increases::carried))]
-fn carried(
+pub fn carried(
     is_counter: bool,
     layout: &Layout,
     first: &XFrac,

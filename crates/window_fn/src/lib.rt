@@ -14,6 +14,8 @@ mod sums;
 mod windows;
 
 pub use frame::{WindowFault, WindowFrame};
+pub use increases::{Layout, carried, layout_of};
+pub use points::in_seconds;
 pub use quantiles::quantile;
 pub use slopes::is_finite;
 pub use windows::over;
