@@ -48,18 +48,11 @@ impl<'e, 'p, 'r> Rewrite for GatherSelectors<'e, 'p, 'r> {
     }
 }
 
-/// The expression of a node at a place.
-fn expression(
-    alloc: Global,
-    patterns: &Patterns<'_>,
-    at: u32,
-    node: PlanNode,
-) -> Result<Expr, AllocError>
-    ensures { IfOk result (λ e. e ≡ expression_of patterns.now (planned at node)) }
+/// The expression of a plan, which goes.
+fn expression(alloc: Global, patterns: &Patterns<'_>, p: Plan) -> Result<Expr, AllocError>
+    ensures { IfOk result (λ e. e ≡ expression_of patterns.now p) }
 {
-    let p = Plan { at, node };
-    let e = part_expr(alloc, &p, patterns)?;
-    Ok(e)
+    part_expr(alloc, &p, patterns)
 }
 
 /// A node at a place as a part that these engines are asked for.
@@ -72,7 +65,7 @@ fn gather(
 ) -> Result<PlanNode, AllocError>
     ensures { IfOk result (λ n. n ≡ gather asking.now.engines.now asking.now.patterns.now kind at node) }
 {
-    let expr = expression(alloc, asking.patterns, at, node)?;
+    let expr = expression(alloc, asking.patterns, Plan { at, node })?;
     let asked = asking.engines.copy()?;
     Ok(PlanNode::Gather { expr, kind, asked })
 }
