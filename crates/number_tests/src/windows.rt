@@ -1,5 +1,5 @@
 //! Rows whose answers were worked out by exact arithmetic elsewhere.
-ghost use Rattle.std.specs.Prelude.{◌≡◌, IsTrue};
+ghost use Rattle.std.specs.Prelude.{◌≡◌, ◌≤◌, IsTrue, length};
 ghost use Rattle.std.specs.List.{All};
 ghost use Rattle.ticks.specs.Walks.{IsTime};
 ghost use Rattle.window_fn.specs.Windows.{IsFrame, IsInFrame};
@@ -9,8 +9,8 @@ use func_table::{Found, Func, Window, find};
 use std::alloc::Global;
 use std::test::Fail;
 use ticks::Ms;
-use window_fn::{WindowFault, WindowFrame, over, quantile};
-use xfrac::XFrac;
+use window_fn::{WindowFault, WindowFrame, carried, in_seconds, layout_of, over, quantile};
+use xfrac::{ArithOp, NumFault, XFrac, arith, whole};
 
 /// A call a line: the function; the range, the moment and the instant in milliseconds; the parameter; each sample as
 /// its time and value; behind the arrow the answer.
@@ -286,7 +286,28 @@ fn milliseconds(word: &str) -> Result<Ms, Fail> {
     Ok(Ms(n))
 }
 
-/// The answer of a call whose conditions hold; of a quantile, that of both calls.
+/// The change from the first value to the last, carried on to the edges of the window as one of no counter.
+fn change_carried(times: &[Ms], values: &[XFrac], frame: &WindowFrame) -> Result<XFrac, NumFault>
+    requires same { length times.now ≡ length values.now }
+    requires two { 2 ≤ length values.now }
+    requires frame { IsFrame frame.now }
+    requires times { All (IsInFrame frame.now) times.now }
+{
+    let change = arith(ArithOp::Sub, &values[values.len() - 1], &values[0])?;
+    let layout = layout_of(times, frame)?;
+    carried(false, &layout, &values[0], &change)
+}
+
+/// Whether both are one value, or both overflow.
+fn is_same(found: &Result<Option<XFrac>, WindowFault>, carried: &Result<XFrac, NumFault>) -> bool {
+    match (found, carried) {
+        (Ok(Some(value)), Ok(other)) => value == other,
+        (Err(_), Err(_)) => true,
+        _ => false,
+    }
+}
+
+/// The answer of a call whose conditions hold; of a quantile and of a change of no counter, that of both ways to it.
 fn answered(
     alloc: Global,
     f: Window,
@@ -304,6 +325,11 @@ fn answered(
     let found = over(alloc, f, times, values, frame, arg);
     if f == Window::QuantileOver && found != quantile(alloc, arg, values).map(|v| Some(v)) {
         return Err("two answers")?;
+    }
+    if f == Window::Delta && values.len() >= 2 {
+        if !is_same(&found, &change_carried(times, values, frame)) {
+            return Err("two answers")?;
+        }
     }
     Ok(found)
 }
@@ -352,4 +378,12 @@ fn call_holds(alloc: Global, row: &str) -> Result<bool, Fail> {
 fn windows(rt: HostRuntime) -> Result<(), Fail> {
     let alloc = rt.alloc();
     rows_hold(CALLS, 216, |row| call_holds(alloc, row))
+}
+
+#[test]
+fn seconds(_rt: HostRuntime) -> Result<(), Fail> {
+    if in_seconds(&whole(90_000)) != Ok(whole(90)) {
+        return Err("90,000 milliseconds")?;
+    }
+    Ok(())
 }
