@@ -1,10 +1,15 @@
--- A selection that looks at the series with some numbers.
+-- A selection that looks at the series of a posting list.
 use Rattle.std.proofs.Common.{◌≡◌, ◌∙◌, Bool, true, false, ℕ, zero, suc, ◌+◌, ◌<◌, ◌≤◌, List, [], ◌∷◌, ◌++◌, length, map, drop, Option, Some, None, slice_get, ap, sym, refl, subst, arith, if◌then◌else◌, Bor}
 use Rattle.std.specs.Prelude.{MatchOption}
 use Rattle.std.specs.List.{AllByRecursion}
+use Rattle.std.specs.Option.{option_map}
+use Rattle.std.proofs.lemmas.Option.{slice_get_within}
+use Rattle.label_set.specs.Labels.{value_of}
 use Rattle.label_set.specs.declared.rules.Rule.{Rule}
-use Rattle.match_rule.specs.Patterns.{labels_pass}
-use Rattle.sample_store.specs.Samples.{AllSeries, IsListed, IsShortest, Names, Pair, has_pair, labels_at, looked_at, numbers_with, passing_at}
+use Rattle.label_set.specs.declared.rules.RuleKind.TheVariants.{Eq}
+use Rattle.match_rule.specs.Patterns.{kind_passes, labels_pass}
+use Rattle.sample_store.specs.declared.shortest.PostingList.{PostingList}
+use Rattle.sample_store.specs.Samples.{AllSeries, IsListed, IsShortest, Names, Pair, PassRule, has_pair, labels_at, looked_at, numbers_with, passing_at}
 use Rattle.sample_store.proofs.Selects.{named}
 
 -- the numbers of a pair are those of series that are there
@@ -20,20 +25,50 @@ within pair most n (s ∷ series) h = by (has_pair pair s.0) (within pair most (
 pub all_below : (pair : Pair) (series : AllSeries) → AllByRecursion (λ (k : ℕ). k < length series) (numbers_with pair 0 series)
 all_below pair series = within pair (length series) 0 series (omega arith)
 
-pub listed_below : (rules : List Rule) (series : AllSeries) (numbers : List ℕ) → IsListed rules series numbers → AllByRecursion (λ (k : ℕ). k < length series) numbers
-listed_below rules series numbers l = subst (AllByRecursion (λ (k : ℕ). k < length series)) (sym l.exact) (all_below (l.label, l.text) series)
+-- and these have the pair
+having : (pair : Pair) (all : AllSeries) (n : ℕ) (series : AllSeries) → ((k : ℕ) → labels_at all (n + k) ≡ labels_at series k)
+    → AllByRecursion (λ (k : ℕ). has_pair pair (labels_at all k) ≡ true) (numbers_with pair n series)
+having pair all n [] at = tt
+having pair all n (s ∷ series) at =
+    by (has_pair pair s.0) refl (having pair all (n + 1) series (λ k. let e : n + 1 + k ≡ n + suc k = omega arith in ap (labels_at all) e ∙ at (suc k)))
+  where
+    here : labels_at all n ≡ s.0
+    here = let e : n ≡ n + 0 = omega arith in ap (labels_at all) e ∙ at 0
 
-pub shortest_below : (rules : List Rule) (series : AllSeries) (found : Option (Bor (List ℕ))) (numbers : Bor (List ℕ)) → found ≡ Some numbers
-    → MatchOption found (looked_at rules series ≡ length series) (λ list. IsShortest rules series list.now) → AllByRecursion (λ (k : ℕ). k < length series) numbers.now
-shortest_below rules series None numbers e m = absurd (cc)
-shortest_below rules series (Some list) numbers e m =
-    let same : list ≡ numbers = cc in
-    subst (λ (z : Bor (List ℕ)). AllByRecursion (λ (k : ℕ). k < length series) z.now) same (listed_below rules series list.now m.0)
+    by : (b : Bool) → has_pair pair s.0 ≡ b → AllByRecursion (λ (k : ℕ). has_pair pair (labels_at all k) ≡ true) (numbers_with pair (n + 1) series)
+        → AllByRecursion (λ (k : ℕ). has_pair pair (labels_at all k) ≡ true) (if b then n ∷ numbers_with pair (n + 1) series else numbers_with pair (n + 1) series)
+    by true e rest = (ap (has_pair pair) here ∙ e, rest)
+    by false e rest = rest
 
-pub all_at : (most : ℕ) (numbers : List ℕ) (i n : ℕ) → AllByRecursion (λ (k : ℕ). k < most) numbers → slice_get numbers i ≡ Some n → n < most
-all_at most [] i n a h = absurd (cc)
-all_at most (x ∷ xs) zero n a h = let e : x ≡ n = cc in subst (λ z. z < most) e a.0
-all_at most (x ∷ xs) (suc i) n a h = all_at most xs i n a.1 h
+all_have : (pair : Pair) (series : AllSeries) → AllByRecursion (λ (k : ℕ). has_pair pair (labels_at series k) ≡ true) (numbers_with pair 0 series)
+all_have pair series = having pair series 0 series (λ k. let e : 0 + k ≡ k = omega arith in ap (labels_at series) e)
+
+all_at : (P : ℕ → Type 0) (numbers : List ℕ) (i n : ℕ) → AllByRecursion P numbers → slice_get numbers i ≡ Some n → P n
+all_at P [] i n a h = absurd (cc)
+all_at P (x ∷ xs) zero n a h = let e : x ≡ n = cc in subst P e a.0
+all_at P (x ∷ xs) (suc i) n a h = all_at P xs i n a.1 h
+
+-- so a listed number is that of a series that is there and passes the rule whose list it is
+module _ (rules : List Rule) (series : AllSeries) (place : ℕ) (numbers : List ℕ) (l : IsListed rules series place numbers) where
+  pub rule_there : place < length rules
+  rule_there = slice_get_within rules place (record { label = l.label; kind = Eq l.text }) l.asks
+
+  pub listed_there : (i n : ℕ) → slice_get numbers i ≡ Some n → n < length series
+  listed_there i n h = all_at (λ k. k < length series) numbers i n (subst (AllByRecursion (λ (k : ℕ). k < length series)) (sym l.exact) (all_below (l.label, l.text) series)) h
+
+  pub listed_passes : (kept : List (Bool × List ℕ)) (i n : ℕ) → slice_get numbers i ≡ Some n → PassRule kept rules place (labels_at series n)
+  listed_passes kept i n h =
+      let pair : Pair = (l.label, l.text) in
+      let names : Names = labels_at series n in
+      let has : has_pair pair names ≡ true = all_at (λ k. has_pair pair (labels_at series k) ≡ true) numbers i n (subst (AllByRecursion (λ (k : ℕ). has_pair pair (labels_at series k) ≡ true)) (sym l.exact) (all_have pair series)) h in
+      ap (option_map (λ (rule : Rule). kind_passes kept rule.kind (value_of names rule.label))) l.asks ∙ ap Some has
+
+pub shortest_listed : (rules : List Rule) (series : AllSeries) (found : Option PostingList) (list : PostingList) → found ≡ Some list
+    → MatchOption found (looked_at rules series ≡ length series) (λ one. IsShortest rules series one.rule one.numbers.now) → IsListed rules series list.rule list.numbers.now
+shortest_listed rules series None list e m = absurd (cc)
+shortest_listed rules series (Some one) list e m =
+    let same : one ≡ list = cc in
+    subst (λ (z : PostingList). IsListed rules series z.rule z.numbers.now) same m.0
 
 append-none : (xs : List (Names × ℕ)) → xs ++ [] ≡ xs
 append-none [] = refl

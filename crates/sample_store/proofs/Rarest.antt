@@ -1,11 +1,10 @@
 -- The shortest of the lists that some rules ask for.
-use Rattle.std.proofs.Common.{◌≡◌, ◌≢◌, ◌∙◌, Bool, true, false, ℕ, zero, suc, ◌+◌, ◌<◌, ◌≤◌, List, [], ◌∷◌, length, drop, Option, Some, None, slice_get, Contains, ap, sym, refl, subst, arith, true≢false, Bor}
+use Rattle.std.proofs.Common.{◌≡◌, ◌≢◌, ◌∙◌, Bool, true, false, ℕ, zero, suc, ◌+◌, ◌<◌, ◌≤◌, List, [], ◌∷◌, length, drop, Option, Some, None, slice_get, ap, sym, refl, subst, arith, true≢false, Bor}
 use Rattle.std.specs.Prelude.{◌==◌, MatchOption, min, if◌then◌else◌}
-use Rattle.std.proofs.lemmas.List.Elements.{Contains-get_or}
-use Rattle.std.proofs.lemmas.Option.{get_or_from_slice_get, slice_get_within}
 use Rattle.label_set.specs.declared.rules.Rule.{Rule}
 use Rattle.label_set.specs.declared.rules.RuleKind.{RuleKind}
 use Rattle.label_set.specs.declared.rules.RuleKind.TheVariants.{Eq, Ne, Re as Matching, Nre}
+use Rattle.sample_store.specs.declared.shortest.PostingList.{PostingList}
 use Rattle.sample_store.specs.Samples.{AllSeries, ArePostings, IsListed, IsShortest, Pair, Postings, asked, asked_under, fewer, fewest, looked_at, numbers_with, posted}
 
 abbrev pub counted : AllSeries → Pair → ℕ
@@ -27,17 +26,18 @@ asks label (Nre id) pair h = absurd (cc)
 
 -- the list of a pair that a rule among the rules asks for
 pub rule_listed : (series : AllSeries) (lists : Postings) (rules : List Rule) (i : ℕ) (rule : Rule) (pair : Pair) (numbers : List ℕ) → ArePostings series lists
-    → slice_get rules i ≡ Some rule → asked rule ≡ Some pair → numbers ≡ posted lists pair → IsListed rules series numbers
+    → slice_get rules i ≡ Some rule → asked rule ≡ Some pair → numbers ≡ posted lists pair → IsListed rules series i numbers
 rule_listed series lists rules i rule pair numbers are there h e =
     let a = asks rule.label rule.kind pair h in
     let same : rule ≡ record { label = pair.0; kind = Eq pair.1 } = λ j. record { label = a.0 j; kind = a.1 j } in
-    let at : slice_get rules i ≡ Some (record { label = pair.0; kind = Eq pair.1 }) = there ∙ ap Some same in
-    record {
-      label = pair.0;
-      text = pair.1;
-      among = subst (Contains rules) (get_or_from_slice_get rules i (record { label = pair.0; kind = Eq pair.1 }) rule at) (Contains-get_or rules i rule (slice_get_within rules i (record { label = pair.0; kind = Eq pair.1 }) at));
-      exact = e ∙ are.exact pair a.2;
-    }
+    record { label = pair.0; text = pair.1; asks = there ∙ ap Some same; exact = e ∙ are.exact pair a.2 }
+
+pub pair_found : (lists : Postings) (rule : Rule) (found : Option (Bor (List ℕ))) (numbers : Bor (List ℕ)) → found ≡ Some numbers
+    → MatchOption found (asked rule ≡ None) (λ list. (pair : Pair) × (asked rule ≡ Some pair) × (list.now ≡ posted lists pair)) → (pair : Pair) × (asked rule ≡ Some pair) × (numbers.now ≡ posted lists pair)
+pair_found lists rule None numbers e m = absurd (cc)
+pair_found lists rule (Some list) numbers e m =
+    let same : list ≡ numbers = cc in
+    subst (λ (z : Bor (List ℕ)). (pair : Pair) × (asked rule ≡ Some pair) × (z.now ≡ posted lists pair)) same m
 
 pub posted_count : (series : AllSeries) (lists : Postings) (rule : Rule) (pair : Pair) (numbers : List ℕ) → ArePostings series lists → asked rule ≡ Some pair → numbers ≡ posted lists pair
     → length numbers ≡ counted series pair
@@ -58,21 +58,21 @@ no_rule_left count most (suc i) [] h = refl
 no_rule_left count most zero (x ∷ xs) h = absurd (omega (arith, h))
 no_rule_left count most (suc i) (x ∷ xs) h = no_rule_left count most i xs (omega (arith, h))
 
--- a rule whose list isn't shorter changes nothing, and a shorter list is the shortest so far
-min-most : (n most : ℕ) → most ≤ n → min n most ≡ most
+-- a rule whose list is longer changes nothing, and a list that is no longer is the shortest so far
+min-most : (n most : ℕ) → most < n → min n most ≡ most
 min-most n most h = omega (arith, h)
 
-min-less : (n most : ℕ) → n < most → min n most ≡ n
+min-less : (n most : ℕ) → n ≤ most → min n most ≡ n
 min-less n most h = omega (arith, h)
 
 pub not_fewer : (series : AllSeries) (lists : Postings) (rule : Rule) (pair : Pair) (numbers : List ℕ) (most : ℕ) → ArePostings series lists → asked rule ≡ Some pair → numbers ≡ posted lists pair
-    → most ≤ length numbers → fewer (counted series) most (asked rule) ≡ most
+    → most < length numbers → fewer (counted series) most (asked rule) ≡ most
 not_fewer series lists rule pair numbers most are h e l =
     let n = posted_count series lists rule pair numbers are h e in
     ap (fewer (counted series) most) h ∙ ap (λ z. min z most) (sym n) ∙ min-most (length numbers) most l
 
 pub now_fewer : (series : AllSeries) (lists : Postings) (rule : Rule) (pair : Pair) (numbers : List ℕ) (most : ℕ) → ArePostings series lists → asked rule ≡ Some pair → numbers ≡ posted lists pair
-    → length numbers < most → fewer (counted series) most (asked rule) ≡ length numbers
+    → length numbers ≤ most → fewer (counted series) most (asked rule) ≡ length numbers
 now_fewer series lists rule pair numbers most are h e l =
     let n = posted_count series lists rule pair numbers are h e in
     ap (fewer (counted series) most) h ∙ ap (λ z. min z most) (sym n) ∙ min-less (length numbers) most l
@@ -86,8 +86,8 @@ turned series rules i most new all rule there e so =
     ap (λ m. fewest (counted series) m (drop (i + 1) rules)) (sym e) ∙ sym (next_rule (counted series) most i rules rule there) ∙ so
 
 -- the shortest of all that were looked at is the shortest
-pub best_is : (series : AllSeries) (rules : List Rule) (i most : ℕ) (best : Option (Bor (List ℕ))) → length rules ≤ i → fewest (counted series) most (drop i rules) ≡ looked_at rules series
-    → MatchOption best (most ≡ length series) (λ list. IsListed rules series list.now × (length list.now ≡ most))
-    → MatchOption best (looked_at rules series ≡ length series) (λ list. IsShortest rules series list.now)
+pub best_is : (series : AllSeries) (rules : List Rule) (i most : ℕ) (best : Option PostingList) → length rules ≤ i → fewest (counted series) most (drop i rules) ≡ looked_at rules series
+    → MatchOption best (most ≡ length series) (λ list. IsListed rules series list.rule list.numbers.now × (length list.numbers.now ≡ most))
+    → MatchOption best (looked_at rules series ≡ length series) (λ list. IsShortest rules series list.rule list.numbers.now)
 best_is series rules i most None l so m = sym so ∙ no_rule_left (counted series) most i rules l ∙ m
 best_is series rules i most (Some list) l so m = (m.0, m.1 ∙ sym (no_rule_left (counted series) most i rules l) ∙ so)

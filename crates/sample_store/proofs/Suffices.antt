@@ -1,6 +1,6 @@
 -- The series that pass are those of one list that pass.
-use Rattle.std.proofs.Common.{◌≡◌, ◌∙◌, ℕ, zero, suc, ◌+◌, ◌<◌, List, [], ◌∷◌, length, ap, ap₂, sym, refl, subst, arith, Bool, true, false}
-use Rattle.std.specs.Prelude.{slice_index_or, Contains, if◌then◌else◌}
+use Rattle.std.proofs.Common.{◌≡◌, ◌∙◌, ℕ, zero, suc, ◌+◌, List, [], ◌∷◌, Some, slice_get, ap, ap₂, sym, refl, subst, arith, Bool, true, false}
+use Rattle.std.specs.Prelude.{if◌then◌else◌}
 use Rattle.std.specs.List.{list_all}
 use Rattle.label_set.specs.Labels.{value_of}
 use Rattle.label_set.specs.declared.rules.Rule.{Rule}
@@ -9,19 +9,18 @@ use Rattle.match_rule.specs.Patterns.{kind_passes, labels_pass}
 use Rattle.sample_store.proofs.Places.{left_true, right_true}
 use Rattle.sample_store.specs.Samples.{AllSeries, IsListed, Names, Pair, has_pair, labels_at, numbers_with, passing, passing_at}
 
-all_at : {X : Type 0} (p : X → Bool) (xs : List X) (k : ℕ) (d : X) → k < length xs → list_all p xs ≡ true → p (slice_index_or xs k d) ≡ true
-all_at p [] k d h e = absurd (omega (arith, h))
-all_at p (x ∷ xs) zero d h e = left_true (p x) (list_all p xs) e
-all_at p (x ∷ xs) (suc k) d h e = all_at p xs k d (omega (arith, h)) (right_true (p x) (list_all p xs) e)
+all_at : (p : Rule → Bool) (rules : List Rule) (i : ℕ) (rule : Rule) → slice_get rules i ≡ Some rule → list_all p rules ≡ true → p rule ≡ true
+all_at p [] i rule h e = absurd (cc)
+all_at p (x ∷ xs) zero rule h e = let f : x ≡ rule = cc in subst (λ z. p z ≡ true) f (left_true (p x) (list_all p xs) e)
+all_at p (x ∷ xs) (suc i) rule h e = all_at p xs i rule h (right_true (p x) (list_all p xs) e)
 
-module _ (kept : List (Bool × List ℕ)) (rules : List Rule) (label text : List ℕ) (there : Contains rules (record { label = label; kind = Eq text })) where
+module _ (kept : List (Bool × List ℕ)) (rules : List Rule) (label text : List ℕ) (place : ℕ) (asks : slice_get rules place ≡ Some (record { label = label; kind = Eq text })) where
   abbrev pair : Pair
   pair = (label, text)
 
   must_have : (names : Names) → labels_pass kept rules names ≡ true → has_pair pair names ≡ true
   must_have names passes =
-      subst (λ (rule : Rule). kind_passes kept rule.kind (value_of names rule.label) ≡ true) there.2
-      (all_at (λ (rule : Rule). kind_passes kept rule.kind (value_of names rule.label)) rules there.0 (record { label = label; kind = Eq text }) there.1 passes)
+      all_at (λ (rule : Rule). kind_passes kept rule.kind (value_of names rule.label)) rules place (record { label = label; kind = Eq text }) asks passes
 
   abbrev kept_if : ℕ → Names → List (Names × ℕ) → List (Names × ℕ)
   kept_if n names more = if labels_pass kept rules names then (names, n) ∷ more else more
@@ -44,8 +43,8 @@ module _ (kept : List (Bool × List ℕ)) (rules : List Rule) (label text : List
       by false true has passes rest = let t = must_have s.0 passes in absurd (cc)
 
 -- the series that pass are those of a pair that pass, where the rules ask for it
-pub suffices : (kept : List (Bool × List ℕ)) (rules : List Rule) (series : AllSeries) (numbers : List ℕ) → IsListed rules series numbers
+pub suffices : (kept : List (Bool × List ℕ)) (rules : List Rule) (series : AllSeries) (place : ℕ) (numbers : List ℕ) → IsListed rules series place numbers
     → passing kept rules 0 series ≡ passing_at kept rules series numbers
-suffices kept rules series numbers l =
-    from kept rules l.label l.text l.among series 0 series (λ k. let e : 0 + k ≡ k = omega arith in ap (labels_at series) e)
+suffices kept rules series place numbers l =
+    from kept rules l.label l.text place l.asks series 0 series (λ k. let e : 0 + k ≡ k = omega arith in ap (labels_at series) e)
     ∙ ap (passing_at kept rules series) (sym l.exact)

@@ -16,7 +16,7 @@ use Rattle.label_set.specs.LabelOrder.{by_labels}
 use Rattle.label_set.specs.declared.rules.Rule.{Rule}
 use Rattle.label_set.specs.declared.rules.RuleKind.{RuleKind}
 use Rattle.label_set.specs.declared.rules.RuleKind.TheVariants.{Eq}
-use Rattle.match_rule.specs.Patterns.{labels_pass}
+use Rattle.match_rule.specs.Patterns.{kind_passes, labels_pass}
 use Rattle.sample_store.specs.declared.refusal.StoreRefusal.{StoreRefusal}
 use Rattle.sample_store.specs.declared.refusal.StoreRefusal.TheVariants.{Conflict, TooManySamples, TooManySeries, Memory}
 use Rattle.ticks.specs.declared.moment.Ms.{Ms}
@@ -239,16 +239,20 @@ fewest count most (rule ∷ rules) = fewest count (fewer count most (asked rule)
 abbrev pub looked_at : List Rule → AllSeries → ℕ
 looked_at rules series = fewest (λ pair. length (numbers_with pair 0 series)) (length series) rules
 
--- some numbers are those of a pair that the rules ask for
-pub record IsListed (rules : List Rule) (series : AllSeries) (numbers : List ℕ) : Type 0 where
+-- the rule at a place is an `=`, and some numbers are those of its pair
+pub record IsListed (rules : List Rule) (series : AllSeries) (place : ℕ) (numbers : List ℕ) : Type 0 where
   pub label : List ℕ
   pub text : List ℕ
-  pub among : Contains rules (record { label = label; kind = Eq text })
+  pub asks : slice_get rules place ≡ Some (record { label = label; kind = Eq text })
   pub exact : numbers ≡ numbers_with (label, text) 0 series
 
--- they are those of the rarest such pair
-abbrev pub IsShortest : List Rule → AllSeries → List ℕ → Type 0
-IsShortest rules series numbers = IsListed rules series numbers × (length numbers ≡ looked_at rules series)
+-- they are those of the rarest pair that the rules ask for
+abbrev pub IsShortest : List Rule → AllSeries → ℕ → List ℕ → Type 0
+IsShortest rules series place numbers = IsListed rules series place numbers × (length numbers ≡ looked_at rules series)
+
+-- labels pass the rule at a place
+abbrev pub PassRule : List (Bool × List ℕ) → List Rule → ℕ → Names → Type 0
+PassRule kept rules place names = option_map (λ rule. kind_passes kept rule.kind (value_of names rule.label)) (slice_get rules place) ≡ Some true
 
 -- some pairs in the order of their labels
 pub record IsInOrder (pairs : List (Names × ℕ)) (places : List ℕ) : Type 0 where

@@ -1,13 +1,13 @@
-ghost use Rattle.match_rule.specs.Patterns.{HaveTheirPatterns};
-ghost use Rattle.sample_store.specs.Samples.{ArePostings, IsInOrder, IsSelected, Names, looked_at, passing, passing_at};
+ghost use Rattle.match_rule.specs.Patterns.{HaveTheirPatterns, labels_pass};
+ghost use Rattle.sample_store.specs.Samples.{ArePostings, IsInOrder, IsListed, IsSelected, Names, PassRule, looked_at, passing, passing_at};
 ghost use Rattle.label_set.specs.LabelEquality.{labels_eq};
-ghost use Rattle.std.specs.List.{AllByRecursion, IsDistinct};
+ghost use Rattle.std.specs.List.{IsDistinct};
 ghost use Rattle.std.specs.Map.{keys_of};
-ghost use Rattle.std.specs.Prelude.{◌≡◌, ◌<◌, ◌≤◌, ◌+◌, ℕ, Some, length, map, slice_get, IfOk};
+ghost use Rattle.std.specs.Prelude.{◌≡◌, ◌<◌, ◌≤◌, ◌+◌, ℕ, Some, length, map, slice_get, IfOk, IsOk};
 ghost use Rattle.std.specs.Borrow.{Bor};
 
 use crate::postings::Postings;
-use crate::shortest::shortest;
+use crate::shortest::{PostingList, shortest};
 use crate::store::key_at;
 use crate::timeline::Timeline;
 use holders::Items;
@@ -56,41 +56,61 @@ fn number_at(numbers: &[u32], i: usize) -> u32
     numbers[i]
 }
 
-/// Of the series with some numbers those that pass, by labels and number, in the order of the numbers.
-#[tactic(auto, using(crate::proofs::Listed::missed_at, crate::proofs::Listed::passed_at, crate::proofs::Listed::all_at, crate::proofs::Stores::total_labels))]
+/// Whether labels that pass the rule at a place pass each of the rules; that rule isn't asked.
+fn pass_others(
+    rules: &[Rule],
+    place: usize,
+    patterns: &mut Patterns,
+    labels: &Labels,
+) -> Result<bool, AllocError>
+    requires rules { HaveTheirPatterns patterns.old rules.now }
+    requires within { place < length rules.now }
+    requires passed { PassRule patterns.old rules.now place labels.now }
+    ensures answer { IfOk result (λ b. b ≡ labels_pass patterns.old rules.now labels.now) }
+    ensures always { IsOk result }
+    ensures same { patterns.new ≡ patterns.old }
+{
+    if !labels_pass(&rules[..place], patterns, labels)? {
+        return Ok(false);
+    }
+    labels_pass(&rules[place + 1..], patterns, labels)
+}
+
+/// Of the series of a posting list those that pass, by labels and number, in the order of the numbers. All of them pass the
+/// rule that asks for the list, so that it isn't asked again.
+#[tactic(auto, using(crate::proofs::Listed::missed_at, crate::proofs::Listed::passed_at, crate::proofs::Stores::total_labels))]
 fn passing_in<'a, W: Ledger>(
     alloc: Global,
     series: &'a IndexMap<Labels, Timeline>,
-    numbers: &[u32],
+    list: PostingList<'_>,
     rules: &[Rule],
     patterns: &mut Patterns,
     work: &mut Work<W>,
 ) -> Result<Vec<(&'a Labels, u32)>, AllocError>
     requires rules { HaveTheirPatterns patterns.old rules.now }
-    requires there { AllByRecursion (λ (n : ℕ). n < length series.now.entries) numbers.now }
-    ensures found { IfOk result (λ v. map (λ (p : Bor Names × ℕ). (p.0.now, p.1)) v.items ≡ passing_at patterns.old rules.now series.now.entries numbers.now) }
-    ensures tested { IfOk result (λ _. work.new.tested ≡ work.old.tested + length numbers.now) }
+    requires listed { IsListed rules.now series.now.entries list.rule list.numbers.now }
+    ensures found { IfOk result (λ v. map (λ (p : Bor Names × ℕ). (p.0.now, p.1)) v.items ≡ passing_at patterns.old rules.now series.now.entries list.entry.numbers.now) }
+    ensures tested { IfOk result (λ _. work.new.tested ≡ work.old.tested + length list.entry.numbers.now) }
     ensures tested_more { work.old.tested ≤ work.new.tested }
-    ensures tested_most { work.new.tested ≤ work.old.tested + length numbers.now }
+    ensures tested_most { work.new.tested ≤ work.old.tested + length list.entry.numbers.now }
     ensures fetched { work.new.fetched ≡ work.old.fetched }
     ensures probed { work.new.probed ≡ work.old.probed }
     ensures same { patterns.new ≡ patterns.old }
 {
     let mut found = Vec::new(alloc);
-    for i in 0..numbers.len() {
+    for i in 0..list.numbers.len() {
         work.test();
-        let place = number_at(numbers, i);
-        let names = key_at(series, place as usize);
-        if !labels_pass(rules, patterns, names)? {
+        let number = number_at(list.numbers, i);
+        let names = key_at(series, number as usize);
+        if !pass_others(rules, list.rule, patterns, names)? {
             continue;
         }
-        found.push((names, place))?;
+        found.push((names, number))?;
     }
     Ok(found)
 }
 
 /// The series that pass, looked for where the fewest may.
-#[tactic(auto, using(crate::proofs::Listed::listed_below, crate::proofs::Suffices::suffices))]
 fn found_by<'a, W: Ledger>(
     alloc: Global,
     series: &'a IndexMap<Labels, Timeline>,
@@ -110,7 +130,7 @@ fn found_by<'a, W: Ledger>(
     ensures same { patterns.new ≡ patterns.old }
 {
     match shortest(alloc, series, lists, rules)? {
-        Some(numbers) => passing_in(alloc, series, numbers, rules, patterns, work),
+        Some(list) => passing_in(alloc, series, list, rules, patterns, work),
         None => passing_of(alloc, series, rules, patterns, work),
     }
 }

@@ -8,6 +8,13 @@ use indexmap::IndexMap;
 use label_set::{Labels, Rule, RuleKind};
 use std::alloc::{AllocError, Global};
 
+/// The series with a label's value, by their numbers, and the place of the rule that asks for this pair.
+#[derive(Clone, Copy)]
+pub struct PostingList<'a> {
+    pub rule: usize,
+    pub numbers: &'a [u32],
+}
+
 /// The pair that a rule asks for, if it asks for one.
 fn asked_key(alloc: Global, rule: &Rule) -> Result<Option<(Text, Text)>, AllocError>
     ensures { IfOk result (λ key. key ≡ asked rule.now) }
@@ -48,28 +55,31 @@ fn list_for<'a>(
     }
 }
 
-/// The shortest list among those of the pairs that the rules ask for; none where all series are as few.
-#[tactic(auto, using(crate::proofs::Rarest::turned, crate::proofs::Rarest::best_is, crate::proofs::Rarest::rule_listed, crate::proofs::Rarest::not_fewer, crate::proofs::Rarest::now_fewer, crate::proofs::Rarest::none_asked))]
+/// The shortest list among those of the pairs that the rules ask for, of several the last; none where they ask for no pair.
+#[tactic(auto, using(crate::proofs::Rarest::turned, crate::proofs::Rarest::best_is, crate::proofs::Rarest::not_fewer, crate::proofs::Rarest::none_asked))]
 pub fn shortest<'a>(
     alloc: Global,
     series: &IndexMap<Labels, Timeline>,
     lists: &'a Postings,
     rules: &[Rule],
-) -> Result<Option<&'a [u32]>, AllocError>
+) -> Result<Option<PostingList<'a>>, AllocError>
     requires { ArePostings series.now.entries lists.now.entries }
-    ensures { IfOk result (λ r. MatchOption r (looked_at rules.now series.now.entries ≡ length series.now.entries) (λ list. IsShortest rules.now series.now.entries list.now)) }
+    ensures { IfOk result (λ r. MatchOption r (looked_at rules.now series.now.entries ≡ length series.now.entries) (λ list. IsShortest rules.now series.now.entries list.rule list.numbers.now)) }
 {
     let mut most = series.len();
     let mut best = None;
-    for rule in rules {
-        let Some(list) = list_for(alloc, lists, rule)? else {
+    for (place, rule) in rules.iter().enumerate() {
+        let Some(numbers) = list_for(alloc, lists, rule)? else {
             continue;
         };
-        if list.len() >= most {
+        if numbers.len() > most {
             continue;
         }
-        most = list.len();
-        best = Some(list);
+        most = numbers.len();
+        best = Some(PostingList {
+            rule: place,
+            numbers,
+        });
     }
     Ok(best)
 }

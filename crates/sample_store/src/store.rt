@@ -153,7 +153,7 @@ impl Store {
         ensures { IfOk result (λ n. n ≡ looked_at rules.now self.now) }
     {
         match shortest(self.alloc, &self.series, &self.postings, rules)? {
-            Some(list) => Ok(list.len()),
+            Some(list) => Ok(list.numbers.len()),
             None => Ok(self.series.len()),
         }
     }
