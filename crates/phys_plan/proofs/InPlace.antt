@@ -23,7 +23,7 @@ use Rattle.plan_bases.specs.Bases.{HoldsPlan, Lists}
 use Rattle.plan_bases.specs.LeafLaws.{ReadingHolds, children_hold}
 use Rattle.plan_bases.specs.Leaves.{Reading, node_reading, reading}
 use Rattle.plan_parts.specs.Parts.{IsChild}
-use Rattle.plan_serving.specs.Serving.{IsServed, Serving, all_patterns, all_rules, are_served, node_serving, own_patterns, own_rules, own_served, serving}
+use Rattle.plan_serving.specs.Serving.{Asks, IsServedBy, Serving, all_patterns, all_rules, are_served, asks_selectors, node_serving_by, own_patterns, own_rules, own_served, serving_by}
 use Rattle.phys_plan.specs.Growth.{IsInPlace}
 use Rattle.phys_plan.proofs.Layers.{child_in, in_all, layer}
 
@@ -150,8 +150,8 @@ module _ (kept : Kept) where
   abbrev measure_layer : Plan → PlanNode-F (ℕ → Measure) Measure
   measure_layer p = layer node_measure (λ q. q.node q.at) p.node
 
-  abbrev serving_layer : Plan → PlanNode-F Serving Serving
-  serving_layer p = layer node_serving (λ q. q.node) p.node
+  abbrev serving_layer : Asks → Plan → PlanNode-F Serving Serving
+  serving_layer asks p = layer (node_serving_by asks) (λ q. q.node) p.node
 
   abbrev reading_layer : Plan → PlanNode-F Reading Reading
   reading_layer p = layer node_reading (λ q. q.node) p.node
@@ -159,18 +159,18 @@ module _ (kept : Kept) where
   measure_is : (p : Plan) → measured p ≡ node_measure (measure_layer p) p.at
   measure_is p = by_node node_measure (λ q. q.node q.at) p
 
-  serving_is : (p : Plan) → serving p ≡ node_serving (serving_layer p)
-  serving_is p = by_node node_serving (λ q. q.node) p
+  serving_is : (asks : Asks) (p : Plan) → serving_by asks p ≡ node_serving_by asks (serving_layer asks p)
+  serving_is asks p = by_node (node_serving_by asks) (λ q. q.node) p
 
-  served_below : {c p : Plan} → IsChild c p → IsServed kept p → IsServed kept c
-  served_below {c = c} {p = p} child s =
-      let ss = children (serving_layer p) in
-      let there = child_in node_serving (λ q. q.node) child in
-      let is = subst (λ (t : Serving). HasKernels t × KeepsRules t × KeepsIds t) (serving_is p) (s.windows, s.rules, s.patterns) in
+  pub served_below : (asks : Asks) {c p : Plan} → IsChild c p → IsServedBy asks kept p → IsServedBy asks kept c
+  served_below asks {c = c} {p = p} child s =
+      let ss = children (serving_layer asks p) in
+      let there = child_in (node_serving_by asks) (λ q. q.node) child in
+      let is = subst (λ (t : Serving). HasKernels t × KeepsRules t × KeepsIds t) (serving_is asks p) (s.windows, s.rules, s.patterns) in
       record {
-        windows = in_all HasKernels ss (serving c) (all_served ss (right_true (own_served (serving_layer p)) (are_served ss) is.0)) there;
-        rules = in_all KeepsRules ss (serving c) (rules_all ss (back_of IsKept (own_rules (serving_layer p)) (all_rules ss) is.1)) there;
-        patterns = in_all KeepsIds ss (serving c) (ids_all ss (back_of IsKeptId (own_patterns (serving_layer p)) (all_patterns ss) is.2)) there;
+        windows = in_all HasKernels ss (serving_by asks c) (all_served ss (right_true (own_served asks (serving_layer asks p)) (are_served ss) is.0)) there;
+        rules = in_all KeepsRules ss (serving_by asks c) (rules_all ss (back_of IsKept (own_rules (serving_layer asks p)) (all_rules ss) is.1)) there;
+        patterns = in_all KeepsIds ss (serving_by asks c) (ids_all ss (back_of IsKeptId (own_patterns (serving_layer asks p)) (all_patterns ss) is.2)) there;
       }
 
   pub typed_below : {c p : Plan} → IsChild c p → (typing p).typed ≡ true → (typing c).typed ≡ true
@@ -196,6 +196,6 @@ module _ (kept : Kept) where
   in_place_below n {c = c} {p = p} child i = record {
     typed = typed_below child i.typed;
     within = within_below child i.within;
-    served = served_below child i.served;
+    served = served_below asks_selectors child i.served;
     room = (let deep = shallow_below child in let room = i.room in omega arith);
   }

@@ -1,3 +1,4 @@
+mod Engines
 mod Numbers
 mod Placing
 mod Trees

@@ -23,7 +23,6 @@ use Rattle.promql_type.specs.declared.kind.Kind.TheVariants.{Scalar, Vector, Win
 use Rattle.promql_type.specs.declared.replace.Placed.{Placed}
 use Rattle.logical_plan.specs.declared.nodes.Plan.{Plan}
 use Rattle.logical_plan.specs.declared.nodes.PlanNode.{PlanNode}
-use Rattle.logical_plan.specs.declared.nodes.PlanNode.TheVariants as node
 use Rattle.logical_plan.specs.declared.nodes.PlanNode.TheOpen.{PlanNode-F}
 use Rattle.logical_plan.specs.declared.nodes.PlanNode.TheViews.{out-PlanNode}
 use Rattle.logical_plan.specs.declared.nodes.PlanNode.TheFolds.{fold-Plan, fold-PlanNode, map-PlanNode}

@@ -1,3 +1,4 @@
+pub mod Asking
 pub mod Filters
 pub mod Serving
 pub mod ServingLaws

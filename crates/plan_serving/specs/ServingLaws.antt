@@ -12,7 +12,7 @@ use Rattle.logical_plan.specs.Onces.{with_onces}
 use Rattle.logical_plan.specs.PlanTypes.{typing}
 use Rattle.logical_plan.specs.declared.nodes.Plan.{Plan}
 use Rattle.plan_serving.specs.Filters.{IsUnfiltered}
-use Rattle.plan_serving.specs.Serving.{IsServed}
+use Rattle.plan_serving.specs.Serving.{IsServed, IsServedOver}
 
 -- kernels serve a plan, and no filter stands in it
 pub record IsServedPlain (kept : Kept) (p : Plan) : Type 0 where
@@ -32,3 +32,7 @@ OncesKeepServing = (kept : Kept) (p : Plan) → IsServedPlain kept p → IsServe
 -- the plan of a tree that gives a scalar or a vector gives one, with its Once nodes
 abbrev pub LoweredPlansGiveNumbers : Type 0
 LoweredPlansGiveNumbers = (placed : List Placed) (e : Expr) → is_number (judged e).operand.gives ≡ true → is_number (typing (with_onces (lowered placed e))).kind ≡ true
+
+-- what kernels serve without engines they serve over engines too
+abbrev pub ServedPlansAreServedOver : Type 0
+ServedPlansAreServedOver = (kept : Kept) (p : Plan) → IsServed kept p → IsServedOver kept p

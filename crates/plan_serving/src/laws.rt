@@ -1,5 +1,5 @@
 //! The functions do nothing: each stands for what its contract says.
-ghost use Rattle.plan_serving.specs.ServingLaws.{LoweredPlansAreServed, LoweredPlansGiveNumbers, OncesKeepServing};
+ghost use Rattle.plan_serving.specs.ServingLaws.{LoweredPlansAreServed, LoweredPlansGiveNumbers, OncesKeepServing, ServedPlansAreServedOver};
 
 use promql_type::typed_trees_fit;
 
@@ -18,4 +18,9 @@ pub fn onces_keep_serving()
 /// The plan of a tree that gives a scalar or a vector gives one, with its Once nodes.
 pub fn lowered_plans_give_numbers()
     ensures { LoweredPlansGiveNumbers }
+{}
+
+/// What kernels serve without engines they serve over engines too.
+pub fn served_plans_are_served_over()
+    ensures { ServedPlansAreServedOver }
 {}
