@@ -10,7 +10,7 @@ use Rattle.ticks.specs.declared.moment.Ms.{Ms}
 use Rattle.ticks.specs.declared.walk.Walk.TheVariants.{Fixed}
 use Rattle.plan_work.specs.PlanBounds.{arguments_bound, first_alone, inner_times, plan_bound, selector_bound}
 use Rattle.plan_work.specs.PlanLaws.{InnerTimesAreListed, IsOver}
-use Rattle.plan_work.specs.TreeBounds.{BesidesStay, NumbersStay, OnceTreesStay, OversNumbersStay, OversStay, SamesStay, SelectorsStay, SpendingStays, SubqueriesStay, ThreesStay, WindowsStay}
+use Rattle.plan_work.specs.TreeBounds.{BesidesStay, GathersStay, NumbersStay, OnceTreesStay, OversNumbersStay, OversStay, SamesStay, SelectorsStay, SpendingStays, SubqueriesStay, ThreesStay, WindowsStay}
 use Rattle.plan_work.proofs.Idle.{idle}
 use Rattle.plan_work.proofs.Leaves.{leaves_cost}
 use Rattle.plan_work.proofs.Nodes.{beside_either, once, over, selector, subqueries, three, windows}
@@ -18,6 +18,9 @@ use Rattle.plan_work.proofs.Sums.{at_bound, both_least, both_turned, none_least,
 
 pub numbers_stay : NumbersStay
 numbers_stay asked walk p one at listed = record { cost = nothing; of = refl; within = none_least (plan_bound asked p at) }
+
+pub gathers_stay : GathersStay
+gathers_stay asked walk p place at listed = record { cost = nothing; of = refl; within = none_least (plan_bound asked p at) }
 
 pub selectors_stay : WalkMomentIsMoment → SelectorsStay
 selectors_stay law asked walk p rules moment stamped series own e there chosen of closed at listed =

@@ -7,7 +7,7 @@ use Rattle.logical_plan.specs.declared.nodes.Plan.{Plan}
 use Rattle.logical_plan.specs.declared.nodes.PlanNode.TheVariants as node
 use Rattle.op_element.specs.declared.formula.ElementRule.{ElementRule}
 use Rattle.op_small.specs.declared.rule.SmallRule.{SmallRule}
-use Rattle.plan_tree.specs.Shapes.{BinaryOf, ClampOf, InstantsOf, OnceOf, PointsOf, SelectOf, SeriesOf, Shape, UnaryOf}
+use Rattle.plan_tree.specs.Shapes.{BinaryOf, ClampOf, GatherOf, InstantsOf, OnceOf, PointsOf, SelectOf, SeriesOf, Shape, UnaryOf}
 use Rattle.plan_tree.specs.Spending.{Cost, IsAtMost, IsBound, IsWithinBound, RisesBy}
 use Rattle.promql_ast.specs.declared.tree.Moment.{Moment}
 use Rattle.promql_meaning.specs.Selecting.{Asked, passing}
@@ -40,6 +40,10 @@ StaysWithinAll asked walk arguments shape = (at : List Ms) → IsListed walk at 
 -- a number and the time cost nothing
 abbrev pub NumbersStay : Type 0
 NumbersStay = (asked : Asked) (walk : Walk) (p : Plan) (one : SmallRule) → StaysWithin asked walk p (InstantsOf one)
+
+-- a gather costs nothing of the store
+abbrev pub GathersStay : Type 0
+GathersStay = (asked : Asked) (walk : Walk) (p : Plan) (place : ℕ) → StaysWithin asked walk p (GatherOf place)
 
 -- a selector's tree is over the series that its rules choose, at its own moment
 abbrev pub SelectorsStay : Type 0

@@ -1,8 +1,11 @@
-use Rattle.plan_work.proofs.Stays.{besides_stay, numbers_stay, onces_stay, overs_numbers_stay, overs_stay, sames_stay, selectors_stay, subqueries_stay, threes_stay, windows_stay}
+use Rattle.plan_work.proofs.Stays.{besides_stay, gathers_stay, numbers_stay, onces_stay, overs_numbers_stay, overs_stay, sames_stay, selectors_stay, subqueries_stay, threes_stay, windows_stay}
 use Rattle.plan_work.proofs.laws.trees_stay_within.Goals as goal
 
 pub returns-clause-number : goal.returns-clause-number
 returns-clause-number c = numbers_stay
+
+pub returns-clause-gather : goal.returns-clause-gather
+returns-clause-gather c = gathers_stay
 
 pub returns-clause-selector : goal.returns-clause-selector
 returns-clause-selector c = selectors_stay c.walk_moments_are_moments.ensures
