@@ -10,7 +10,7 @@ ghost use Rattle.exchange.specs.declared.place.Place.{Place};
 ghost use Rattle.op_gather.specs.Histories.{is_ready, steps_at};
 ghost use Rattle.remote_api.specs.Seen.{KeepsStrays};
 ghost use Rattle.remote_api.specs.Strays.{AsksInTimes};
-ghost use Rattle.std.specs.Prelude.{◌≡◌, ◌++◌, ◌<◌, ◌≤◌, ◌∷◌, ℕ, List, [], Some, IfOk, OnErr, OnOk, length, map, slice_get, slice_set, true};
+ghost use Rattle.std.specs.Prelude.{◌≡◌, ◌++◌, ◌<◌, ◌≤◌, ◌↔◌, ◌∷◌, ℕ, List, [], Some, IfOk, IsTrue, OnErr, OnOk, length, map, slice_get, slice_set, true};
 ghost use Rattle.step_table.specs.declared.cells.StepCells.{StepCells};
 ghost use Rattle.ticks.specs.declared.moment.Ms.{Ms};
 
@@ -94,6 +94,13 @@ impl Exchange {
             engines: asked,
         })?;
         Ok(place)
+    }
+
+    /// Whether nothing was added.
+    pub fn is_empty(&self) -> bool
+        ensures { IsTrue result ↔ (self.now.requests ≡ []) }
+    {
+        self.requests.as_slice().is_empty()
     }
 
     /// Makes all asks, in the order of the parts and for each part in the order of its engines. It is called once, after the last `add`.
