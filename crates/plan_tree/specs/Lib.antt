@@ -6,6 +6,7 @@ pub mod Feeds
 pub mod Gathering
 pub mod Laws
 pub mod Nodes
+pub mod RunLaws
 pub mod Runs
 pub mod Shapes
 pub mod Spending

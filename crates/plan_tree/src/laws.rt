@@ -1,5 +1,6 @@
 //! Laws of trees. The functions do nothing: each stands for what its contract says.
 ghost use Rattle.plan_tree.specs.Counting.{FreshTreesHaveFetchedNothing};
+ghost use Rattle.plan_tree.specs.RunLaws.{CallsFollow, NoCallHasGone};
 ghost use Rattle.plan_tree.specs.Laws.{EachTreeHasOneBound, FreshTreesBegin, MarksAreSets, PlainTreesBegin, ScalarsHaveOneRow, SpendingIsBounded, TurnsAreTheWalk};
 
 use step_kernels::laws::{marks_stay_sets, scalars_stay};
@@ -53,4 +54,11 @@ pub fn fresh_trees_have_fetched_nothing()
 /// A tree without gathers, which was fed nothing, may go on whatever engines there are.
 pub fn plain_trees_begin()
     ensures { PlainTreesBegin }
+{}
+
+/// Turns one after another make of engines what one turn does: none holds anything else, faults haven't fallen, and a fault is answered
+/// only of an engine that has failed or strayed since the first.
+pub fn turns_follow()
+    ensures none { NoCallHasGone }
+    ensures follow { CallsFollow }
 {}
