@@ -12,8 +12,9 @@ use Rattle.label_set.specs.declared.rules.Pairing.{Pairing}
 use Rattle.label_set.specs.declared.rules.Relabel.{Relabel}
 use Rattle.label_set.specs.declared.rules.Relabel.TheVariants.{Replace, Join, Filter}
 use Rattle.label_set.specs.declared.rules.Rule.{Rule}
+use Rattle.logical_plan.specs.Gathers.{gathered}
 use Rattle.logical_plan.specs.Lowering.{planned}
-use Rattle.logical_plan.specs.PlanFolds.{of-Number, of-Time, of-Element, of-Stamp, of-Absent, of-Buckets, of-Relabel, of-Sort, of-ScalarOf, of-VectorOf, of-Group, of-Pair, of-Set, of-Filter, of-Ratio, of-Once}
+use Rattle.logical_plan.specs.PlanFolds.{of-Number, of-Time, of-Element, of-Stamp, of-Absent, of-Buckets, of-Relabel, of-Sort, of-ScalarOf, of-VectorOf, of-Group, of-Pair, of-Set, of-Filter, of-Ratio, of-Once, of-Gather}
 use Rattle.logical_plan.specs.PlanMeaning.{Meant, element_given, givens_at, group_given, node_meant, plain, plan_meaning, plan_meant, relabel_given}
 use Rattle.logical_plan.specs.PlanRules.{absent_under, filtered, ratio, stamp, text_or_empty}
 use Rattle.logical_plan.specs.declared.nodes.Plan.{Plan}
@@ -25,6 +26,7 @@ use Rattle.op_element.specs.declared.formula.ElementRule.TheVariants as formula
 use Rattle.op_labels.specs.Rules.{relabelled_step}
 use Rattle.op_small.specs.Rules.{small}
 use Rattle.op_small.specs.declared.rule.SmallRule.TheVariants as rule
+use Rattle.promql_ast.specs.declared.tree.Expr.{Expr}
 use Rattle.promql_meaning.specs.Absences.{absence_under}
 use Rattle.promql_meaning.specs.Buckets.{bucket_quantiles}
 use Rattle.promql_meaning.specs.Elements.{operated_rows, time_step}
@@ -37,6 +39,7 @@ use Rattle.promql_meaning.specs.declared.given.Given.TheVariants as given
 use Rattle.step_table.specs.Groups.{Names}
 use Rattle.step_table.specs.Matching.{paired}
 use Rattle.step_table.specs.Sets.{combined}
+use Rattle.step_table.specs.declared.cells.PartKind.{PartKind}
 use Rattle.step_table.specs.declared.step.Step.{Step}
 use Rattle.xfrac.specs.Arithmetic.{whole_number}
 use Rattle.xfrac.specs.declared.value.PairOp.{PairOp}
@@ -70,6 +73,11 @@ module _ (asked : Asked) (On : ℤ → Type 0) where
 
   pub time_gives : (p : Plan) → p.node ≡ node.Time → Gives asked On p true false time_step
   time_gives p e = plainly p _ true time_step (there p node.Time e ∙ of-Time (node_meant asked) (λ q. q.node) p.at) (λ t w. refl)
+
+  -- ---- gathers
+
+  pub gather_step : (p : Plan) (expr : Expr) (kind : PartKind) (engines : List ℕ) (f : ℤ → Step) → p.node ≡ node.Gather expr kind engines → ((t : ℤ) → On t → gathered asked expr kind engines t ≡ given.Vector (f t)) → Gives asked On p false false f
+  gather_step p expr kind engines f e k = plainly p (gathered asked expr kind engines) false f (there p (node.Gather expr kind engines) e ∙ of-Gather (node_meant asked) (λ q. q.node) p.at expr kind engines) k
 
   -- ---- one child
 

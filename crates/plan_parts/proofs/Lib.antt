@@ -1,8 +1,14 @@
+pub mod Askable
 pub mod Beginning
 pub mod Chosen
 pub mod Giving
+pub mod Gathered
 pub mod Grown
 pub mod Handed
+pub mod Leaf
+pub mod Meant
+pub mod Rising
 pub mod SelectorRows
 pub mod Taking
+pub mod Unmarked
 pub mod Windows

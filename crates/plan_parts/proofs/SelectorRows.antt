@@ -18,7 +18,7 @@ use Rattle.logical_plan.specs.declared.nodes.PlanNode.TheVariants as node
 use Rattle.logical_plan.specs.declared.nodes.PlanNode.TheOpen.{PlanNode-F}
 use Rattle.match_rule.specs.Patterns.{HasItsPattern, HaveTheirPatterns}
 use Rattle.op_labels.specs.Rules.{Kept}
-use Rattle.plan_serving.specs.Serving.{Serving, node_serving, serving}
+use Rattle.plan_serving.specs.Serving.{Serving, node_serving_over as node_serving, serving_over as serving}
 use Rattle.plan_tree.specs.Shapes.{Shape}
 use Rattle.plan_tree.specs.Spending.{Cost, IsAtMost}
 use Rattle.plan_work.specs.Measures.{node_measure as cost_of_node}

@@ -1,5 +1,6 @@
 //! The trees of the kinds of nodes. Each takes what became of the children, and hands on why one of these wasn't built. It is
 //! `Invalid` where a node isn't typed or names a pattern that isn't kept; else the only error is want of memory.
+ghost use Rattle.exchange.specs.declared.request.Request.{Request};
 ghost use Rattle.logical_plan.specs.declared.nodes.Plan.{Plan};
 ghost use Rattle.logical_plan.specs.declared.nodes.PlanNode.TheVariants as node;
 ghost use Rattle.op_element.specs.Rules.{reads_first, reads_second};
@@ -9,7 +10,7 @@ ghost use Rattle.plan_parts.specs.Parts.{AreBuilt, IsBesideNumber, IsBuilt, IsPa
 ghost use Rattle.promql_meaning.specs.Selecting.{Asked};
 ghost use Rattle.promql_type.specs.Kinds.{both, is_scalar};
 ghost use Rattle.promql_type.specs.declared.kind.Kind.{Kind};
-ghost use Rattle.std.specs.Prelude.{◌≡◌, [], ◌∷◌, Bool, false, true, Ok, IfOk, IsTrue};
+ghost use Rattle.std.specs.Prelude.{◌≡◌, List, [], ◌∷◌, Bool, false, true, Ok, IfOk, IsTrue};
 ghost use Rattle.step_kernels.specs.Binaries.{is_binary};
 ghost use Rattle.ticks.specs.declared.walk.Walk.{Walk};
 
@@ -27,7 +28,7 @@ use xfrac::{PairOp, XFrac, whole};
 
 /// A number, as a scalar.
 pub fn number(alloc: Global, value: XFrac) -> Result<Part, Unbuilt>
-    ensures part { IfOk result (λ part. (asked : Asked) (walk : Walk) (p : Plan) → p.node ≡ node.Number value → IsPart asked walk p part) }
+    ensures part { IfOk result (λ part. (asked : Asked) (walk : Walk) (requests : List Request) (p : Plan) → p.node ≡ node.Number value → IsPart asked walk requests requests p part) }
     ensures total { IsBuilt true result }
 {
     instants(alloc, SmallRule::Number(value))
@@ -35,7 +36,7 @@ pub fn number(alloc: Global, value: XFrac) -> Result<Part, Unbuilt>
 
 /// The instant in seconds, as a scalar.
 pub fn time(alloc: Global) -> Result<Part, Unbuilt>
-    ensures part { IfOk result (λ part. (asked : Asked) (walk : Walk) (p : Plan) → p.node ≡ node.Time → IsPart asked walk p part) }
+    ensures part { IfOk result (λ part. (asked : Asked) (walk : Walk) (requests : List Request) (p : Plan) → p.node ≡ node.Time → IsPart asked walk requests requests p part) }
     ensures total { IsBuilt true result }
 {
     instants(alloc, SmallRule::Time)
@@ -49,7 +50,7 @@ pub fn stamped(
     rows: Result<Part, Unbuilt>,
     patterns: &Patterns<'_>,
 ) -> Result<Part, Unbuilt>
-    ensures part { (asked : Asked) (walk : Walk) (p inner : Plan) → patterns.now ≡ asked.kept → p.node ≡ node.Stamp inner → IsPartOf asked walk inner rows → IsPartOf asked walk p result }
+    ensures part { (asked : Asked) (walk : Walk) (before now : List Request) (p inner : Plan) → patterns.now ≡ asked.kept → p.node ≡ node.Stamp inner → IsPartOf asked walk before now inner rows → IsPartOf asked walk before now p result }
     ensures total { (scalar : Bool) → IsBuilt scalar rows → IsBuilt false result }
 {
     let rows = rows?;
@@ -70,7 +71,7 @@ pub fn absent(
     rows: Result<Part, Unbuilt>,
     patterns: &Patterns<'_>,
 ) -> Result<Part, Unbuilt>
-    ensures part { (asked : Asked) (walk : Walk) (p inner : Plan) → patterns.now ≡ asked.kept → p.node ≡ node.Absent labels inner → IsPartOf asked walk inner rows → IsPartOf asked walk p result }
+    ensures part { (asked : Asked) (walk : Walk) (before now : List Request) (p inner : Plan) → patterns.now ≡ asked.kept → p.node ≡ node.Absent labels inner → IsPartOf asked walk before now inner rows → IsPartOf asked walk before now p result }
     ensures total { (scalar : Bool) → IsBuilt scalar rows → IsBuilt false result }
 {
     let rows = rows?;
@@ -100,8 +101,8 @@ pub fn relabelled(
     rows: Result<Part, Unbuilt>,
     patterns: &Patterns<'_>,
 ) -> Result<Part, Unbuilt>
-    ensures relabel { (asked : Asked) (walk : Walk) (p inner : Plan) → patterns.now ≡ asked.kept → p.node ≡ node.Relabel rule inner → IsPartOf asked walk inner rows → IsPartOf asked walk p result }
-    ensures filter { (asked : Asked) (walk : Walk) (p inner : Plan) (rules : _) → patterns.now ≡ asked.kept → rule ≡ Relabel.Filter rules → p.node ≡ node.Filter inner rules → IsPartOf asked walk inner rows → IsPartOf asked walk p result }
+    ensures relabel { (asked : Asked) (walk : Walk) (before now : List Request) (p inner : Plan) → patterns.now ≡ asked.kept → p.node ≡ node.Relabel rule inner → IsPartOf asked walk before now inner rows → IsPartOf asked walk before now p result }
+    ensures filter { (asked : Asked) (walk : Walk) (before now : List Request) (p inner : Plan) (rules : _) → patterns.now ≡ asked.kept → rule ≡ Relabel.Filter rules → p.node ≡ node.Filter inner rules → IsPartOf asked walk before now inner rows → IsPartOf asked walk before now p result }
     ensures total { (scalar : Bool) → HasPatterns patterns.now rule → IsBuilt scalar rows → IsBuilt false result }
 {
     let rows = rows?;
@@ -114,7 +115,7 @@ pub fn as_scalar(
     rows: Result<Part, Unbuilt>,
     patterns: &Patterns<'_>,
 ) -> Result<Part, Unbuilt>
-    ensures part { (asked : Asked) (walk : Walk) (p inner : Plan) → patterns.now ≡ asked.kept → p.node ≡ node.ScalarOf inner → IsPartOf asked walk inner rows → IsPartOf asked walk p result }
+    ensures part { (asked : Asked) (walk : Walk) (before now : List Request) (p inner : Plan) → patterns.now ≡ asked.kept → p.node ≡ node.ScalarOf inner → IsPartOf asked walk before now inner rows → IsPartOf asked walk before now p result }
     ensures total { (scalar : Bool) → IsBuilt scalar rows → IsBuilt true result }
 {
     let rows = rows?;
@@ -129,8 +130,8 @@ pub fn as_scalar(
 
 /// The same rows, as a vector.
 pub fn as_vector(rows: Result<Part, Unbuilt>) -> Result<Part, Unbuilt>
-    ensures sort { (asked : Asked) (walk : Walk) (p inner : Plan) (down : _) → p.node ≡ node.Sort down inner → IsPartOf asked walk inner rows → IsPartOf asked walk p result }
-    ensures vector { (asked : Asked) (walk : Walk) (p inner : Plan) → p.node ≡ node.VectorOf inner → IsPartOf asked walk inner rows → IsPartOf asked walk p result }
+    ensures sort { (asked : Asked) (walk : Walk) (before now : List Request) (p inner : Plan) (down : _) → p.node ≡ node.Sort down inner → IsPartOf asked walk before now inner rows → IsPartOf asked walk before now p result }
+    ensures vector { (asked : Asked) (walk : Walk) (before now : List Request) (p inner : Plan) → p.node ≡ node.VectorOf inner → IsPartOf asked walk before now inner rows → IsPartOf asked walk before now p result }
     ensures total { (scalar : Bool) → IsBuilt scalar rows → IsBuilt false result }
 {
     trees_stay_within();
@@ -173,7 +174,7 @@ pub fn applied(
     rows: Result<Part, Unbuilt>,
     patterns: &Patterns<'_>,
 ) -> Result<Part, Unbuilt>
-    ensures part { (asked : Asked) (walk : Walk) (p inner : Plan) → patterns.now ≡ asked.kept → p.node ≡ node.Element f inner [] → IsPartOf asked walk inner rows → IsPartOf asked walk p result }
+    ensures part { (asked : Asked) (walk : Walk) (before now : List Request) (p inner : Plan) → patterns.now ≡ asked.kept → p.node ≡ node.Element f inner [] → IsPartOf asked walk before now inner rows → IsPartOf asked walk before now p result }
     ensures total { (kind : Kind) → is_element f kind [] ≡ true → IsBuilt (is_scalar kind) rows → IsBuilt (is_scalar (element_kind f kind)) result }
 {
     let rows = rows?;
@@ -194,7 +195,7 @@ pub fn applied(
 
 /// Rounding to 1.
 fn rounded(alloc: Global, rows: Part) -> Result<Part, Unbuilt>
-    ensures part { IfOk result (λ part. (asked : Asked) (walk : Walk) (p inner : Plan) → p.node ≡ node.Element Element.Round inner [] → IsPart asked walk inner rows → IsPart asked walk p part) }
+    ensures part { IfOk result (λ part. (asked : Asked) (walk : Walk) (before now : List Request) (p inner : Plan) → p.node ≡ node.Element Element.Round inner [] → IsPart asked walk before now inner rows → IsPart asked walk before now p part) }
     ensures total { IsBuilt false result }
 {
     let rule = BinaryRule::Apply(ElementRule::Apply(Element::Round));
@@ -208,7 +209,7 @@ pub fn applied_with(
     rows: Result<Part, Unbuilt>,
     beside: Result<Part, Unbuilt>,
 ) -> Result<Part, Unbuilt>
-    ensures part { (asked : Asked) (walk : Walk) (p inner a : Plan) → p.node ≡ node.Element f inner (a ∷ []) → IsPartOf asked walk inner rows → IsPartOf asked walk a beside → IsPartOf asked walk p result }
+    ensures part { (asked : Asked) (walk : Walk) (before between now : List Request) (p inner a : Plan) → p.node ≡ node.Element f inner (a ∷ []) → IsPartOf asked walk before between inner rows → IsPartOf asked walk between now a beside → IsPartOf asked walk before now p result }
     ensures total { (kind other : Kind) → is_element f kind (other ∷ []) ≡ true → IsBuilt (is_scalar kind) rows → IsBuilt (is_scalar other) beside → IsBuilt (is_scalar (element_kind f kind)) result }
 {
     let (rows, beside) = both(rows, beside)?;
@@ -241,7 +242,7 @@ pub fn clamped(
     low: Result<Part, Unbuilt>,
     high: Result<Part, Unbuilt>,
 ) -> Result<Part, Unbuilt>
-    ensures part { (asked : Asked) (walk : Walk) (p inner a b : Plan) → p.node ≡ node.Element f inner (a ∷ b ∷ []) → IsPartOf asked walk inner rows → IsPartOf asked walk a low → IsPartOf asked walk b high → IsPartOf asked walk p result }
+    ensures part { (asked : Asked) (walk : Walk) (before one two now : List Request) (p inner a b : Plan) → p.node ≡ node.Element f inner (a ∷ b ∷ []) → IsPartOf asked walk before one inner rows → IsPartOf asked walk one two a low → IsPartOf asked walk two now b high → IsPartOf asked walk before now p result }
     ensures total { (kind least most : Kind) → is_element f kind (least ∷ most ∷ []) ≡ true → IsBuilt (is_scalar kind) rows → IsBuilt (is_scalar least) low → IsBuilt (is_scalar most) high → IsBuilt (is_scalar (element_kind f kind)) result }
 {
     let rows = rows?;
@@ -271,7 +272,7 @@ pub fn quantiles(
     rows: Result<Part, Unbuilt>,
     beside: Result<Part, Unbuilt>,
 ) -> Result<Part, Unbuilt>
-    ensures part { (asked : Asked) (walk : Walk) (p inner a : Plan) → p.node ≡ node.Buckets a inner → IsPartOf asked walk inner rows → IsPartOf asked walk a beside → IsPartOf asked walk p result }
+    ensures part { (asked : Asked) (walk : Walk) (before between now : List Request) (p inner a : Plan) → p.node ≡ node.Buckets a inner → IsPartOf asked walk before between inner rows → IsPartOf asked walk between now a beside → IsPartOf asked walk before now p result }
     ensures total { (scalar : Bool) → IsBuilt scalar rows → IsBuilt true beside → IsBuilt false result }
 {
     let (rows, beside) = both(rows, beside)?;
@@ -284,7 +285,7 @@ pub fn divided(
     sum: Result<Part, Unbuilt>,
     count: Result<Part, Unbuilt>,
 ) -> Result<Part, Unbuilt>
-    ensures part { (asked : Asked) (walk : Walk) (p left right : Plan) → p.node ≡ node.Ratio left right → IsPartOf asked walk left sum → IsPartOf asked walk right count → IsPartOf asked walk p result }
+    ensures part { (asked : Asked) (walk : Walk) (before between now : List Request) (p left right : Plan) → p.node ≡ node.Ratio left right → IsPartOf asked walk before between left sum → IsPartOf asked walk between now right count → IsPartOf asked walk before now p result }
     ensures total { (scalar other : Bool) → IsBuilt scalar sum → IsBuilt other count → IsBuilt false result }
 {
     let (sum, count) = both(sum, count)?;
@@ -299,7 +300,7 @@ pub fn combined(
     rows: Result<Part, Unbuilt>,
     beside: Result<Part, Unbuilt>,
 ) -> Result<Part, Unbuilt>
-    ensures part { (asked : Asked) (walk : Walk) (p left right : Plan) → p.node ≡ node.Set op left right pairing → IsPartOf asked walk left rows → IsPartOf asked walk right beside → IsPartOf asked walk p result }
+    ensures part { (asked : Asked) (walk : Walk) (before between now : List Request) (p left right : Plan) → p.node ≡ node.Set op left right pairing → IsPartOf asked walk before between left rows → IsPartOf asked walk between now right beside → IsPartOf asked walk before now p result }
     ensures total { (scalar other : Bool) → IsBuilt scalar rows → IsBuilt other beside → IsBuilt false result }
 {
     let (rows, beside) = both(rows, beside)?;
@@ -314,7 +315,7 @@ pub fn paired(
     left: Result<Part, Unbuilt>,
     right: Result<Part, Unbuilt>,
 ) -> Result<Part, Unbuilt>
-    ensures part { (asked : Asked) (walk : Walk) (p l r : Plan) → p.node ≡ node.Pair op l r pairing → IsPartOf asked walk l left → IsPartOf asked walk r right → IsPartOf asked walk p result }
+    ensures part { (asked : Asked) (walk : Walk) (before between now : List Request) (p l r : Plan) → p.node ≡ node.Pair op l r pairing → IsPartOf asked walk before between l left → IsPartOf asked walk between now r right → IsPartOf asked walk before now p result }
     ensures total { (kind other : Kind) → IsBuilt (is_scalar kind) left → IsBuilt (is_scalar other) right → IsBuilt (is_scalar (both kind other)) result }
 {
     let (left, right) = both(left, right)?;
@@ -347,7 +348,7 @@ pub fn grouped(
     rows: Result<Part, Unbuilt>,
     patterns: &Patterns<'_>,
 ) -> Result<Part, Unbuilt>
-    ensures part { (asked : Asked) (walk : Walk) (p a : Plan) → patterns.now ≡ asked.kept → p.node ≡ node.Group f by (a ∷ []) label → IsPartOf asked walk a rows → IsPartOf asked walk p result }
+    ensures part { (asked : Asked) (walk : Walk) (before now : List Request) (p a : Plan) → patterns.now ≡ asked.kept → p.node ≡ node.Group f by (a ∷ []) label → IsPartOf asked walk before now a rows → IsPartOf asked walk before now p result }
     ensures total { (kind : Kind) → is_group f (kind ∷ []) label ≡ true → IsBuilt (is_scalar kind) rows → IsBuilt false result }
 {
     let rows = rows?;
@@ -378,7 +379,7 @@ pub fn ranked(
     rows: Result<Part, Unbuilt>,
     parameter: Result<Part, Unbuilt>,
 ) -> Result<Part, Unbuilt>
-    ensures part { (asked : Asked) (walk : Walk) (p k a : Plan) → p.node ≡ node.Group f by (k ∷ a ∷ []) label → IsPartOf asked walk a rows → IsPartOf asked walk k parameter → IsPartOf asked walk p result }
+    ensures part { (asked : Asked) (walk : Walk) (before between now : List Request) (p k a : Plan) → p.node ≡ node.Group f by (k ∷ a ∷ []) label → IsPartOf asked walk between now a rows → IsPartOf asked walk before between k parameter → IsPartOf asked walk before now p result }
     ensures total { (kind first : Kind) → is_group f (first ∷ kind ∷ []) label ≡ true → IsBuilt (is_scalar kind) rows → IsBuilt (is_scalar first) parameter → IsBuilt false result }
 {
     let (rows, parameter) = both(rows, parameter)?;

@@ -1,14 +1,16 @@
 //! The trees of the kinds of nodes, over those of their children.
+ghost use Rattle.exchange.specs.declared.request.Request.{Request};
 ghost use Rattle.logical_plan.specs.declared.nodes.Plan.{Plan};
 ghost use Rattle.logical_plan.specs.declared.nodes.PlanNode.TheVariants as node;
 ghost use Rattle.logical_plan.specs.Validity.{deepest};
 ghost use Rattle.plan_bases.specs.Bases.{AreRight, AreSeries, Kept, is_under};
 ghost use Rattle.plan_parts.specs.Courses.{IsCourseNear, IsMomentNear, IsMomentWithin};
 ghost use Rattle.plan_parts.specs.Parts.{IsBinary, IsBuilt, IsClamp, IsInstants, IsPart, IsPartOf, IsSelectorOf, IsUnary};
+ghost use Rattle.plan_parts.specs.Requested.{asked_with};
 ghost use Rattle.plan_work.specs.TreeBounds.{BeginsAt};
-ghost use Rattle.promql_meaning.specs.Selecting.{Asked, asked_over, lookback};
+ghost use Rattle.promql_meaning.specs.Selecting.{AllSeries, Asked, asked_over, lookback};
 ghost use Rattle.promql_meaning.specs.WalkMoments.{IsMomentOf};
-ghost use Rattle.std.specs.Prelude.{◌≡◌, ◌<◌, ℕ, ℤ, true, false, Bool, IfOk, IsOkUnless, IsTrue};
+ghost use Rattle.std.specs.Prelude.{◌≡◌, ◌<◌, ℕ, ℤ, true, false, Bool, List, IfOk, IsOkUnless, IsTrue};
 ghost use Rattle.step_kernels.specs.Binaries.{is_binary, takes_scalar};
 ghost use Rattle.step_kernels.specs.Unaries.{KeepsPatterns, is_unary};
 ghost use Rattle.ticks.specs.Walks.{HasTimes, IsInstant, moment_at};
@@ -146,7 +148,7 @@ pub(crate) fn clamp(
 /// What a part gives at one instant, the first of a walk, at each instant. It hands on why that wasn't built; else the only error is want
 /// of memory.
 pub fn repeated(alloc: Global, first: Ms, child: Result<Part, Unbuilt>) -> Result<Part, Unbuilt>
-    ensures part { (asked : Asked) (walk below : Walk) (p inner : Plan) → BeginsAt walk first → below ≡ Walk.Fixed first → p.node ≡ node.Once inner → IsPartOf asked below inner child → IsPartOf asked walk p result }
+    ensures part { (asked : Asked) (walk below : Walk) (before now : List Request) (p inner : Plan) → BeginsAt walk first → below ≡ Walk.Fixed first → p.node ≡ node.Once inner → IsPartOf asked below before now inner child → IsPartOf asked walk before now p result }
     ensures total { (scalar : Bool) → IsBuilt scalar child → IsBuilt scalar result }
 {
     trees_stay_within();
@@ -182,7 +184,7 @@ pub fn settled(moment: &Moment, span: &Grid) -> WalkMoment
 }
 
 /// Whether an evaluation looks back within the times at each instant.
-fn is_within(course: &Course, moment: &WalkMoment) -> bool
+pub(crate) fn is_within(course: &Course, moment: &WalkMoment) -> bool
     ensures times { IsTrue result → (t : ℤ) → IsInstant course.now.walk t → HasTimes (moment_at moment.now t) lookback }
     ensures near { (n : ℕ) → n < deepest → IsCourseNear n course.now → IsMomentNear moment.now → IsTrue result }
 {
@@ -216,8 +218,8 @@ pub fn select(
     moment: &Moment,
     stamped: bool,
 ) -> Result<Part, Unbuilt>
-    ensures part { (kept : Kept) (p : Plan) → AreRight kept bases.now.samples bases.now.lists → p.node ≡ node.Select rules.now moment.now stamped → IsPartOf (asked_over bases.now.samples kept span.now) course.now.walk p result }
-    ensures leaf { (kept : Kept) (p : Plan) → AreRight kept bases.now.samples bases.now.lists → IsSelectorOf (asked_over bases.now.samples kept span.now) p rules.now moment.now stamped → IsPartOf (asked_over bases.now.samples kept span.now) course.now.walk p result }
+    ensures part { (kept : Kept) (engines : List AllSeries) (requests : List Request) (p : Plan) → AreRight kept bases.now.samples bases.now.lists → p.node ≡ node.Select rules.now moment.now stamped → IsPartOf (asked_with bases.now.samples kept span.now engines) course.now.walk requests requests p result }
+    ensures leaf { (kept : Kept) (engines : List AllSeries) (requests : List Request) (p : Plan) → AreRight kept bases.now.samples bases.now.lists → IsSelectorOf (asked_with bases.now.samples kept span.now engines) p rules.now moment.now stamped → IsPartOf (asked_with bases.now.samples kept span.now engines) course.now.walk requests requests p result }
     ensures total { (n : ℕ) → n < deepest → IsCourseNear n course.now → is_under bases.now.lists rules.now ≡ true → IsMomentWithin moment.now → IsBuilt false result }
 {
     lent_steps_are_tables();

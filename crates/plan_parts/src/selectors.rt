@@ -5,7 +5,7 @@ ghost use Rattle.match_rule.specs.Patterns.{HaveTheirPatterns};
 ghost use Rattle.op_labels.specs.Rules.{Kept};
 ghost use Rattle.plan_bases.specs.Leaves.{IsLeafOf};
 ghost use Rattle.plan_parts.specs.Parts.{IsReadable, IsSelectorOf};
-ghost use Rattle.plan_serving.specs.Serving.{serving};
+ghost use Rattle.plan_serving.specs.Serving.{serving_over};
 ghost use Rattle.promql_ast.specs.Parts.{AreWithin};
 ghost use Rattle.promql_meaning.specs.Selecting.{Asked};
 ghost use Rattle.std.specs.Prelude.{◌≡◌, ◌<◌, ◌++◌, false, IfOk, IfSome, ⊤};
@@ -47,7 +47,7 @@ pub fn instant_selector(p: &Plan) -> Result<Option<InstantSelector>, AllocError>
     ensures selector { IfOk result (λ o. IfSome o (λ s. (asked : Asked) → IsSelectorOf asked p.now s.rules s.moment false)) }
     ensures leaf { IfOk result (λ o. IfSome o (λ s. IsLeafOf p.now s.rules)) }
     ensures deep { IfOk result (λ o. IfSome o (λ s. 0 < (measured p.now).depth)) }
-    ensures total { (kept : Kept) → HaveTheirPatterns kept (serving p.now).rules → AreWithin (λ rules. ⊤) hundred_years time_limit (measured p.now).parts → IfOk result (λ o. IfSome o (λ s. IsReadable kept s.rules s.moment)) }
+    ensures total { (kept : Kept) → HaveTheirPatterns kept (serving_over p.now).rules → AreWithin (λ rules. ⊤) hundred_years time_limit (measured p.now).parts → IfOk result (λ o. IfSome o (λ s. IsReadable kept s.rules s.moment)) }
 {
     more_rules_filter();
     range_selectors_cost();

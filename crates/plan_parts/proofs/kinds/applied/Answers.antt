@@ -16,18 +16,18 @@ use Rattle.plan_parts.proofs.Taking.{alone_kind, alone_taken, built_as}
 use Rattle.plan_parts.proofs.kinds.applied.Goals as goal
 
 pub returns-in-Round-clause-part : goal.returns-in-Round-clause-part
-returns-in-Round-clause-part c = λ asked walk p inner k e i. ok_then c.rounded.result c.rounded.ensures.part (λ part h.
+returns-in-Round-clause-part c = λ asked walk before now p inner k e i. ok_then c.rounded.result c.rounded.ensures.part (λ part h.
     let rows = c.in_ok-rows.rows in
-    let r = part_at asked walk inner c.args.rows rows c.in_ok-rows.was i in
-    h asked walk p inner (e ∙ ap (λ (f : Element). node.Element f inner []) c.in-Round.is) r)
+    let r = part_at asked walk before now inner c.args.rows rows c.in_ok-rows.was i in
+    h asked walk before now p inner (e ∙ ap (λ (f : Element). node.Element f inner []) c.in-Round.is) r)
 
 pub returns-in_default-clause-part : goal.returns-in_default-clause-part
-returns-in_default-clause-part c = λ asked walk p inner k e i. ok_then c.unary.result c.unary.ensures.made (λ part u.
+returns-in_default-clause-part c = λ asked walk before now p inner k e i. ok_then c.unary.result c.unary.ensures.made (λ part u.
     let rows = c.in_ok-rows.rows in
-    let r = part_at asked walk inner c.args.rows rows c.in_ok-rows.was i in
+    let r = part_at asked walk before now inner c.args.rows rows c.in_ok-rows.was i in
     let kept = c.args.patterns.now in
     let f = c.args.f in
-    unary_part asked walk p part kept (unary.Apply (formula.Apply f)) (keeps_scalar f rows.scalar) inner rows k
+    unary_part asked walk before now p part kept (unary.Apply (formula.Apply f)) (keeps_scalar f rows.scalar) inner rows k
     (subst (λ (b : Bool). IsUnary kept (unary.Apply (formula.Apply f)) b rows part) c.keeps_scalar-scalar.ensures u) r (of_element f [] e) (IsOver.of_element f e) (λ h. keeps_one f rows.scalar (shape_of rows.tree) r.scalar h)
     (λ x g. alone_gives asked (IsInstant walk) f p inner rows.scalar rows.own x g e (not_true (reads_first (formula.Apply f)) u.reads)))
 

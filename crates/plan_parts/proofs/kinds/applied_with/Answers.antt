@@ -12,18 +12,19 @@ use Rattle.promql_type.specs.Kinds.{is_scalar}
 use Rattle.logical_plan.specs.PlanTypes.{element_kind}
 use Rattle.plan_parts.proofs.Handed.{handed_on}
 use Rattle.plan_parts.proofs.Taking.{beside_taken, built_as}
+use Rattle.plan_parts.specs.Adding.{in_order}
 use Rattle.plan_parts.proofs.kinds.applied_with.Goals as goal
 
 pub returns-clause-part : goal.returns-clause-part
-returns-clause-part c = λ asked walk p inner a e i j. ok_then c.binary.result c.binary.ensures.made (λ part b.
+returns-clause-part c = λ asked walk before between now p inner a e i j. ok_then c.binary.result c.binary.ensures.made (λ part b.
     let rows = c.in_ok-rows.rows in
     let beside = c.in_ok-rows.beside in
-    let r = part_at asked walk inner c.args.rows rows c.in_ok-rows.ensures.first i in
-    let q = part_at asked walk a c.args.beside beside c.in_ok-rows.ensures.second j in
+    let r = part_at asked walk before between inner c.args.rows rows c.in_ok-rows.ensures.first i in
+    let q = part_at asked walk between now a c.args.beside beside c.in_ok-rows.ensures.second j in
     let f = c.args.f in
     let one : reads_first (formula.Apply f) ≡ true = search rules in
     let none : reads_second (formula.Apply f) ≡ false = search rules in
-    binary_part asked walk p part (binary.Apply (formula.Apply f)) false inner a rows beside b r q (of_element f (a ∷ []) e) (of_element_argument f inner [] [] e) (inl (IsBeside.of_argument f e)) (λ h. absurd (cc))
+    binary_part asked walk before now p part before between between now (in_order before between now r.added q.added) (binary.Apply (formula.Apply f)) false inner a rows beside b r q (of_element f (a ∷ []) e) (of_element_argument f inner [] [] e) (inl (IsBeside.of_argument f e)) (λ h. absurd (cc))
     (λ x y g h. beside_gives asked (IsInstant walk) f p inner a rows.scalar rows.own beside.scalar beside.own x y g h e one none))
 
 pub returns-in_err-rows-clause-total : goal.returns-in_err-rows-clause-total

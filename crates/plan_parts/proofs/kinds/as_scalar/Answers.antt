@@ -9,8 +9,8 @@ use Rattle.plan_work.specs.PlanLaws.{IsOver}
 use Rattle.plan_parts.proofs.kinds.as_scalar.Goals as goal
 
 pub returns-clause-part : goal.returns-clause-part
-returns-clause-part c = λ asked walk p inner k e i. ok_then c.unary.result c.unary.ensures.made (λ part u.
+returns-clause-part c = λ asked walk before now p inner k e i. ok_then c.unary.result c.unary.ensures.made (λ part u.
     let rows = c.in_ok-rows.rows in
-    let r = part_at asked walk inner c.args.rows rows c.in_ok-rows.was i in
-    unary_part asked walk p part c.args.patterns.now (unary.Small small.Scalar) true inner rows k u r (of_scalar e) (IsOver.of_scalar e) (λ h. refl)
+    let r = part_at asked walk before now inner c.args.rows rows c.in_ok-rows.was i in
+    unary_part asked walk before now p part c.args.patterns.now (unary.Small small.Scalar) true inner rows k u r (of_scalar e) (IsOver.of_scalar e) (λ h. refl)
     (λ f g. scalar_gives asked (IsInstant walk) p inner rows.scalar rows.own f g e))

@@ -26,6 +26,7 @@ returns-clause-made c =
     record {
       made = record { shape_is = shape; scalar_is = b.made.scalar_is; plain = b.made.plain };
       can = λ store kept k. b.can store kept k (n.can store kept);
+      asks = λ requests times h. b.asks requests times h (n.asks requests times);
       fresh = λ f. b.fresh f n.fresh;
       within = λ asked walk below p o w. subst (λ (s : Shape). StaysWithin asked walk p s) (sym shape) (c.trees_stay_within.ensures.over_number asked walk below p rule value (shape_of rows.tree) o w);
     })

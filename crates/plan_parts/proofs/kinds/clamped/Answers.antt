@@ -15,15 +15,15 @@ use Rattle.plan_parts.proofs.Handed.{handed_on}
 use Rattle.plan_parts.proofs.kinds.clamped.Goals as goal
 
 pub returns-in-Clamp-clause-part : goal.returns-in-Clamp-clause-part
-returns-in-Clamp-clause-part c = λ asked walk p inner a b e' i j k. ok_then c.clamp.result c.clamp.ensures.made (λ part m.
+returns-in-Clamp-clause-part c = λ asked walk before one two now p inner a b e' i j k. ok_then c.clamp.result c.clamp.ensures.made (λ part m.
     let rows = c.in_ok-rows.rows in
     let low = c.in_ok-low.low in
     let high = c.in_ok-low.high in
-    let r = part_at asked walk inner c.args.rows rows c.in_ok-rows.was i in
-    let l = part_at asked walk a c.args.low low c.in_ok-low.ensures.first j in
-    let h = part_at asked walk b c.args.high high c.in_ok-low.ensures.second k in
+    let r = part_at asked walk before one inner c.args.rows rows c.in_ok-rows.was i in
+    let l = part_at asked walk one two a c.args.low low c.in_ok-low.ensures.first j in
+    let h = part_at asked walk two now b c.args.high high c.in_ok-low.ensures.second k in
     let e = e' ∙ ap (λ (f : Element). node.Element f inner (a ∷ b ∷ [])) c.in-Clamp.is in
-    clamp_part asked walk p part (formula.Apply element.Clamp) inner a b rows low high m r l h (of_element element.Clamp (a ∷ b ∷ []) e) (of_element_argument element.Clamp inner [] (b ∷ []) e) (of_element_argument element.Clamp inner (a ∷ []) [] e)
+    clamp_part asked walk before now p part one two r.added l.added h.added (formula.Apply element.Clamp) inner a b rows low high m r l h (of_element element.Clamp (a ∷ b ∷ []) e) (of_element_argument element.Clamp inner [] (b ∷ []) e) (of_element_argument element.Clamp inner (a ∷ []) [] e)
     (IsThree.of_arguments element.Clamp e)
     (λ x y z g u v. clamp_gives asked (IsInstant walk) p inner a b rows.scalar rows.own low.scalar low.own high.scalar high.own x y z g u v e))
 

@@ -6,4 +6,4 @@ use Rattle.op_small.specs.declared.rule.SmallRule.TheVariants as small
 use Rattle.plan_parts.proofs.kinds.number.Goals as goal
 
 pub returns-clause-part : goal.returns-clause-part
-returns-clause-part c = ok_then c.instants.result c.instants.ensures.made (λ part m asked walk p e. instants_part asked walk p part (small.Number c.args.value) m refl (number_gives asked (IsInstant walk) p c.args.value e))
+returns-clause-part c = ok_then c.instants.result c.instants.ensures.made (λ part m asked walk requests p e. instants_part asked walk requests requests p part (small.Number c.args.value) refl m refl (number_gives asked (IsInstant walk) p c.args.value e))

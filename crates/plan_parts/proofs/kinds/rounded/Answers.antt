@@ -16,8 +16,8 @@ use Rattle.plan_work.specs.PlanLaws.{IsOver}
 use Rattle.plan_parts.proofs.kinds.rounded.Goals as goal
 
 pub returns-clause-part : goal.returns-clause-part
-returns-clause-part c = ok_then c.beside_number.result c.beside_number.ensures.made (λ part m. λ asked walk p inner e r.
+returns-clause-part c = ok_then c.beside_number.result c.beside_number.ensures.made (λ part m. λ asked walk before now p inner e r.
     let rows = c.args.rows in
-    number_part asked walk p part (binary.Apply (formula.Apply element.Round)) c.whole.result inner rows m r (of_element element.Round [] e) (IsOver.of_element element.Round e)
+    number_part asked walk before now p part (binary.Apply (formula.Apply element.Round)) c.whole.result inner rows m r (of_element element.Round [] e) (IsOver.of_element element.Round e)
     (λ f g. subst (λ (v : XFrac). Gives asked (IsInstant walk) p false false (λ t. binary_step (binary.Apply (formula.Apply element.Round)) (f t) (small_step (small.Number v) t (barren no_marks)))) (sym c.whole.ensures)
     (round_gives asked (IsInstant walk) p inner rows.scalar rows.own f g e)))

@@ -1,5 +1,6 @@
 use Rattle.std.proofs.Common.{◌≡◌, None, refl, subst, sym, rules}
 use Rattle.std.specs.Prelude.{IsTrue}
+use Rattle.plan_tree.specs.Asking.{HaveRequests}
 use Rattle.plan_tree.specs.Worlds.{world}
 use Rattle.plan_tree.specs.Nodes.{CanGo, shape_of}
 use Rattle.plan_tree.specs.Shapes.{BinaryOf, Shape}
@@ -21,6 +22,7 @@ returns-clause-made c =
       made = record { shape_is = shape; scalar_is = refl; plain = refl };
       reads = reads;
       can = λ store kept k l gs ps. (subst (λ (n : Node). CanGo (world store gs) kept ps None n) (sym rows) (k gs ps), subst (λ (n : Node). CanGo (world store gs) kept ps None n) (sym beside) (l gs ps));
+      asks = λ requests times h k. (subst (HaveRequests requests times) (sym rows) h, subst (HaveRequests requests times) (sym beside) k);
       fresh = λ f g. (subst IsFresh (sym rows) f, subst IsFresh (sym beside) g);
       within = λ asked walk left right p o v w. subst (λ (s : Shape). StaysWithin asked walk p s) (sym shape)
           (c.trees_stay_within.ensures.beside asked walk left right p rule (shape_of c.args.rows.tree) (shape_of c.args.beside.tree) o v w);

@@ -1,5 +1,6 @@
 use Rattle.std.proofs.Common.{◌≡◌, None, refl, subst, sym, rules}
 use Rattle.std.specs.Prelude.{IsTrue}
+use Rattle.plan_tree.specs.Asking.{HaveRequests}
 use Rattle.plan_tree.specs.Worlds.{world}
 use Rattle.plan_tree.specs.Nodes.{CanGo, shape_of}
 use Rattle.plan_tree.specs.Shapes.{ClampOf, Shape}
@@ -26,6 +27,7 @@ returns-clause-made c =
         subst (λ (n : Node). CanGo (world store gs) kept ps None n) (sym low) (l gs ps),
         subst (λ (n : Node). CanGo (world store gs) kept ps None n) (sym high) (m gs ps),
       );
+      asks = λ requests times h k l. (subst (HaveRequests requests times) (sym rows) h, subst (HaveRequests requests times) (sym low) k, subst (HaveRequests requests times) (sym high) l);
       fresh = λ f g h. (subst IsFresh (sym rows) f, subst IsFresh (sym low) g, subst IsFresh (sym high) h);
       within = λ asked walk first second third p o u v w. subst (λ (s : Shape). StaysWithin asked walk p s) (sym shape)
           (c.trees_stay_within.ensures.three asked walk first second third p rule (shape_of c.args.rows.tree) (shape_of c.args.low.tree) (shape_of c.args.high.tree) o u v w);

@@ -10,6 +10,7 @@ returns-clause-made c =
     record {
       made = record { shape_is = shape; scalar_is = refl; plain = refl };
       can = λ store kept gs ps. tt;
+      asks = λ requests times. tt;
       fresh = tt;
       within = λ asked walk p. subst (λ (s : Shape). StaysWithin asked walk p s) (sym shape) (c.trees_stay_within.ensures.number asked walk p one);
     }

@@ -1,5 +1,6 @@
 use Rattle.std.proofs.Common.{None, refl, ap, ap₂, subst, sym, rules}
 use Rattle.std.specs.Prelude.{IsTrue}
+use Rattle.plan_tree.specs.Asking.{HaveRequests}
 use Rattle.plan_tree.specs.Worlds.{world}
 use Rattle.plan_tree.specs.Nodes.{CanGo, shape_of}
 use Rattle.plan_tree.specs.Shapes.{Shape, UnaryOf}
@@ -22,6 +23,7 @@ returns-clause-made c =
       made = record { shape_is = shape; scalar_is = refl; plain = refl };
       reads = reads;
       can = λ store k gs ps. (c.in_ok-new.ensures.can kept keeps, subst (λ (n : Node). CanGo (world store gs) kept ps None n) (sym same) (k gs ps));
+      asks = λ requests times h. subst (HaveRequests requests times) (sym same) h;
       fresh = subst IsFresh (sym same);
       within = λ asked walk below p o w. subst (λ (s : Shape). StaysWithin asked walk p s) (sym shape) (c.trees_stay_within.ensures.over asked walk below p rule (shape_of rows) o w);
     }

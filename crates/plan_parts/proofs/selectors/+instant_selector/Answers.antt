@@ -6,7 +6,7 @@ use Rattle.logical_plan.specs.declared.nodes.PlanNode.TheVariants as node
 use Rattle.match_rule.specs.Patterns.{HaveTheirPatterns}
 use Rattle.plan_bases.specs.LeafLaws.{filter_is_leaf, select_is_leaf}
 use Rattle.plan_bases.specs.Leaves.{IsLeafOf}
-use Rattle.plan_serving.specs.Serving.{serving}
+use Rattle.plan_serving.specs.Serving.{serving_over as serving}
 use Rattle.promql_meaning.specs.Selecting.{Asked}
 use Rattle.plan_parts.specs.Parts.{IsReadable, IsSelectorOf}
 use Rattle.plan_parts.specs.declared.selectors.InstantSelector.{InstantSelector}
