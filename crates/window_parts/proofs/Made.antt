@@ -1,7 +1,9 @@
 -- Parts for functions of windows: what may be fed, and what is given.
-use Rattle.std.proofs.Common.{◌≡◌, ◌∙◌, ℕ, ◌<◌, length, get_or, Bool, false, List, [], ◌∷◌, ◌++◌, map, Option, Some, None, refl, sym, ap, subst, arith}
+use Rattle.std.proofs.Common.{◌≡◌, ◌∙◌, ℕ, ◌<◌, length, get_or, Bool, false, List, [], ◌∷◌, map, Option, Some, None, refl, sym, ap, subst, arith}
 use Rattle.std.specs.Prelude.{ℤ, pos, ◌<ℤ◌, IfOk, IfSome, IsTrue, Result, Ok, Err}
 use Rattle.std.proofs.lemmas.List.Elements.{All-contains_itself, recursion_from_All}
+use Rattle.exchange.specs.Asked.{MayRequest}
+use Rattle.exchange.specs.declared.request.Request.{Request}
 use Rattle.func_table.specs.declared.table.Window.{Window as WindowFunction}
 use Rattle.label_set.specs.declared.rules.Rule.{Rule}
 use Rattle.logical_plan.specs.Lowering.{planned}
@@ -9,7 +11,8 @@ use Rattle.logical_plan.specs.PlanMeaning.{givens_at, plan_meant}
 use Rattle.logical_plan.specs.declared.nodes.Plan.{Plan}
 use Rattle.logical_plan.specs.declared.nodes.PlanNode.TheVariants as node
 use Rattle.op_window.specs.Rules.{takes_scalar}
-use Rattle.plan_tree.specs.Worlds.{over}
+use Rattle.plan_tree.specs.Asking.{HaveRequests}
+use Rattle.plan_tree.specs.Worlds.{Gathers, world}
 use Rattle.plan_tree.specs.Nodes.{MayStart, shape_of}
 use Rattle.plan_tree.specs.Shapes.{IsFit, PointsOf, SeriesOf, Shape, StaysInTimes, places_of, rule}
 use Rattle.plan_tree.specs.Spending.{IsAtMost, IsFresh, nothing}
@@ -25,16 +28,21 @@ use Rattle.promql_meaning.specs.WalkMoments.{IsMomentOf, WalkMomentIsMoment}
 use Rattle.sample_store.specs.Samples.{IsSelected, chosen}
 use Rattle.series_marks.specs.Reaches.{AreThere, numbered}
 use Rattle.step_table.specs.declared.step.Step.{Step}
+use Rattle.ticks.specs.Listed.{IsListed}
 use Rattle.ticks.specs.Walks.{HasTimes, IsInstant, IsTime, moment_at, multiples-instants}
+use Rattle.ticks.specs.declared.grid.Grid.{Grid}
 use Rattle.ticks.specs.declared.moment.Ms.{Ms}
 use Rattle.ticks.specs.declared.walk.Walk.{Walk}
 use Rattle.ticks.specs.declared.walk.Walk.TheVariants.{Multiples}
 use Rattle.ticks.specs.declared.walk.WalkMoment.{WalkMoment}
 use Rattle.xfrac.specs.declared.value.XFrac.{XFrac}
+use Rattle.plan_parts.specs.Adding.{added_then, each_as, each_both, each_none, meant_before, own_both, turned}
+use Rattle.plan_parts.specs.Gathered.{IsQueryOver}
 use Rattle.plan_parts.specs.Gives.{Gives}
-use Rattle.plan_parts.specs.Parts.{IsChild, IsPart, OncesStay, below, of_subquery, of_window, of_window_argument}
+use Rattle.plan_parts.specs.Parts.{IsAskedIn, IsChild, IsPart, OncesStay, below, of_subquery, of_window, of_window_argument, under}
+use Rattle.plan_parts.specs.Requested.{AreAdded, AreMeant, EachAdded, HaveOwn, MayMake}
 use Rattle.plan_parts.specs.declared.parts.Part.{Part}
-use Rattle.window_parts.specs.Over.{IsArgument, IsRangeOf, IsScalarOf}
+use Rattle.window_parts.specs.Over.{IsArgument, IsOfArgument, IsRangeOf, IsScalarOf}
 use Rattle.window_parts.specs.declared.selectors.RangeSelector.{RangeSelector}
 use Rattle.window_parts.proofs.Giving.{given_step, points_give, series_gives, without_scalar}
 
@@ -62,28 +70,46 @@ only_within asked at a shape w =
     record { cost = w.cost; of = w.of; within = record { fetched = (let f = w.within.fetched in omega arith); probed = (let q = w.within.probed in omega arith) } }
 
 -- where a function takes no scalar, a number stands for it
-pub unread : NoSelectorCostsNothing → (asked : Asked) (walk : Walk) (f : WindowFunction) (arguments : List Plan) (part : Part) (value : XFrac) → takes_scalar f ≡ false
-    → ((asked : Asked) (walk : Walk) (p : Plan) → p.node ≡ node.Number value → IsPart asked walk p part) → IsScalarOf asked walk f arguments part
-unread free asked walk f arguments part value e number = record {
-  sound = (number asked walk (planned 0 (node.Number value)) refl).sound;
-  scalar = λ h. absurd (cc);
-  gives = λ stay t on w. without_scalar f t (rule (over asked.samples) asked.kept (shape_of part.tree) t) (step_at (givens_at (map (plan_meant asked) arguments) t) 0) w e;
-  within = λ at listed.
-      let p : Plan = planned 0 (node.Number value) in
-      nothing_within asked at p (arguments_bound asked arguments) (shape_of part.tree) (free asked p at (IsBare.of_number value refl)) ((number asked walk p refl).within at listed);
-}
+pub unread : NoSelectorCostsNothing → (asked : Asked) (walk : Walk) (before now : List Request) (f : WindowFunction) (arguments : List Plan) (part : Part) (value : XFrac) → takes_scalar f ≡ false
+    → ((asked : Asked) (walk : Walk) (requests : List Request) (p : Plan) → p.node ≡ node.Number value → IsPart asked walk requests requests p part) → before ≡ now → IsScalarOf asked walk before now f arguments part
+unread free asked walk before now f arguments part value e number same =
+    let p : Plan = planned 0 (node.Number value) in
+    let n = number asked walk before p refl in
+    subst (λ (rs : List Request). IsScalarOf asked walk before rs f arguments part) same (record {
+      sound = n.sound;
+      added = n.added;
+      owns = n.owns;
+      asks = n.asks;
+      named = each_none (IsOfArgument arguments) before;
+      make = n.make;
+      scalar = λ h. absurd (cc);
+      gives = λ gathers meant stay t on w. without_scalar f t (rule (world asked.samples gathers) asked.kept (shape_of part.tree) t) (step_at (givens_at (map (plan_meant asked) arguments) t) 0) w e;
+      within = λ at listed. nothing_within asked at p (arguments_bound asked arguments) (shape_of part.tree) (free asked p at (IsBare.of_number value refl)) (n.within at listed);
+    })
+
+-- where there is no argument no request is added
+pub none_argued : (asked : Asked) (walk : Walk) (before now : List Request) (arguments : List Plan) → IsArgument asked walk before now arguments None → before ≡ now
+none_argued asked walk before now [] i = i
+none_argued asked walk before now (a ∷ []) i = absurd i
+none_argued asked walk before now (a ∷ b ∷ arguments) i = absurd i
 
 -- a part of the argument is a scalar for it
-pub read : (asked : Asked) (walk : Walk) (f : WindowFunction) (arguments : List Plan) (part : Part) → IsTrue part.scalar → IsArgument asked walk arguments (Some part) → IsScalarOf asked walk f arguments part
-read asked walk f [] part s i = absurd i
-read asked walk f (a ∷ []) part s i = record {
+pub read : (asked : Asked) (walk : Walk) (before now : List Request) (f : WindowFunction) (arguments : List Plan) (part : Part) → IsTrue part.scalar → IsArgument asked walk before now arguments (Some part)
+    → IsScalarOf asked walk before now f arguments part
+read asked walk before now f [] part s i = absurd i
+read asked walk before now f (a ∷ []) part s i = record {
   sound = i.sound;
+  added = i.added;
+  owns = i.owns;
+  asks = i.asks;
+  named = each_as (λ (r : Request). IsAskedIn r a) (IsOfArgument (a ∷ [])) before now (λ r asked_in. (a, refl, asked_in)) i.named;
+  make = i.make;
   scalar = λ h. i.scalar s;
-  gives = λ stay t on w. ap (λ (x : Step). windowed_by f t x w)
-      (sym (ap step_of ((i.gives (stay a refl)).gives t on) ∙ given_step part.scalar (rule (over asked.samples) asked.kept (shape_of part.tree) t)));
+  gives = λ gathers meant stay t on w. ap (λ (x : Step). windowed_by f t x w)
+      (sym (ap step_of ((i.gives gathers meant (stay a refl)).gives t on) ∙ given_step part.scalar (rule (world asked.samples gathers) asked.kept (shape_of part.tree) t)));
   within = λ at listed. only_within asked at a (shape_of part.tree) (i.within at listed);
 }
-read asked walk f (a ∷ b ∷ arguments) part s i = absurd i
+read asked walk before now f (a ∷ b ∷ arguments) part s i = absurd i
 
 -- ---- the series of a selector
 
@@ -100,7 +126,13 @@ onces_below asked c p child stay = record { same = λ q once. stay.same q (below
 argument_stays : (asked : Asked) (p inner : Plan) (f : WindowFunction) (arguments : List Plan) → p.node ≡ node.Window f inner arguments → OncesStay asked p → (a : Plan) → arguments ≡ a ∷ [] → OncesStay asked a
 argument_stays asked p inner f arguments e stay a is = onces_below asked a p (of_window_argument f inner [] [] (e ∙ ap (node.Window f inner) is)) stay
 
-module _ (asked : Asked) (walk : Walk) (p inner : Plan) (f : WindowFunction) (arguments : List Plan) (e : p.node ≡ node.Window f inner arguments) (part scalar : Part) (one : IsScalarOf asked walk f arguments scalar) where
+-- so are its requests some of the function
+argument_named : (p inner : Plan) (f : WindowFunction) (arguments : List Plan) → p.node ≡ node.Window f inner arguments → (before now : List Request) → EachAdded (IsOfArgument arguments) before now → EachAdded (λ (r : Request). IsAskedIn r p) before now
+argument_named p inner f arguments e before now = each_as (IsOfArgument arguments) (λ (r : Request). IsAskedIn r p) before now
+    (λ r of. under of.0 p (of_window_argument f inner [] [] (e ∙ ap (node.Window f inner) of.1)) of.2)
+
+module _ (asked : Asked) (walk : Walk) (before between now : List Request) (p inner : Plan) (f : WindowFunction) (arguments : List Plan) (e : p.node ≡ node.Window f inner arguments) (part scalar : Part)
+    (one : IsScalarOf asked walk between now f arguments scalar) where
   abbrev S : AllSeries
   S = asked.samples
 
@@ -108,42 +140,57 @@ module _ (asked : Asked) (walk : Walk) (p inner : Plan) (f : WindowFunction) (ar
   K = asked.kept
 
   -- a part of this shape
-  shaped : (shape : Shape) → shape_of part.tree ≡ shape → part.scalar ≡ false → part.own ≡ false → IsFit S shape → MayStart S K part.tree → places_of shape ≡ [] → ((t : ℤ) → IsInstant walk t → StaysInTimes shape t) → IsFresh part.tree
-      → (OncesStay asked p → Gives asked (IsInstant walk) p false false (rule (over S) K shape)) → StaysWithin asked walk p shape → IsPart asked walk p part
-  shaped shape is plain rows fit can alone times fresh gives within = record {
+  shaped : (shape : Shape) → shape_of part.tree ≡ shape → part.scalar ≡ false → part.own ≡ false → IsFit S shape → MayStart S K part.tree → AreAdded before now → HaveOwn before now (places_of shape)
+      → ((times : List Ms) → IsListed walk times → HaveRequests now times part.tree) → EachAdded (λ (r : Request). IsAskedIn r p) before now → ((span : Grid) → IsQueryOver span K asked → MayMake span K before now) → ((t : ℤ) → IsInstant walk t → StaysInTimes shape t)
+      → IsFresh part.tree → ((gathers : Gathers) → AreMeant asked now gathers → OncesStay asked p → Gives asked (IsInstant walk) p false false (rule (world S gathers) K shape)) → StaysWithin asked walk p shape → IsPart asked walk before now p part
+  shaped shape is plain rows fit can added owns asks named make times fresh gives within = record {
     sound = record {
       fit = subst (IsFit S) (sym is) fit;
       can = can;
-      alone = ap places_of is ∙ alone;
       times = λ t i. subst (λ (s : Shape). StaysInTimes s t) (sym is) (times t i);
       fresh = fresh;
     };
+    added = added;
+    owns = subst (λ (s : Shape). HaveOwn before now (places_of s)) (sym is) owns;
+    asks = asks;
+    named = named;
+    make = make;
     scalar = λ h. absurd (cc);
-    gives = λ stay. subst (λ (b : Bool). Gives asked (IsInstant walk) p b part.own (rule (over S) K (shape_of part.tree))) (sym plain)
-        (subst (λ (o : Bool). Gives asked (IsInstant walk) p false o (rule (over S) K (shape_of part.tree))) (sym rows)
-        (subst (λ (s : Shape). Gives asked (IsInstant walk) p false false (rule (over S) K s)) (sym is) (gives stay)));
+    gives = λ gathers meant stay. subst (λ (b : Bool). Gives asked (IsInstant walk) p b part.own (rule (world S gathers) K (shape_of part.tree))) (sym plain)
+        (subst (λ (o : Bool). Gives asked (IsInstant walk) p false o (rule (world S gathers) K (shape_of part.tree))) (sym rows)
+        (subst (λ (s : Shape). Gives asked (IsInstant walk) p false false (rule (world S gathers) K s)) (sym is) (gives gathers meant stay)));
     within = subst (StaysWithin asked walk p) (sym is) within;
   }
 
-  pub series_part : WalkMomentIsMoment → WindowsStay → (selector : RangeSelector) (series : List ℕ) (at : WalkMoment) → shape_of part.tree ≡ SeriesOf series f at selector.range (shape_of scalar.tree) → part.scalar ≡ false → part.own ≡ false
-      → MayStart S K part.tree → IsFresh part.tree → IsSelected K selector.rules S series → numbered S series ≡ chosen K selector.rules S → IsMomentOf asked selector.moment at → at.closed ≡ selector.moment.closed → pos 0 <ℤ selector.range.0
-      → ((t : ℤ) → IsInstant walk t → IsTime t) → ((t : ℤ) → IsInstant walk t → HasTimes (moment_at at t) selector.range.0) → IsRangeOf asked inner selector → IsPart asked walk p part
-  series_part moments stays selector series at is plain rows can fresh selected these timed closed forward on times i =
-      let there : AreThere S series = selected_there K selector.rules S series selected in
-      shaped (SeriesOf series f at selector.range (shape_of scalar.tree)) is plain rows (there, forward, one.scalar, one.sound.fit) can one.sound.alone
-      (λ t w. (on t w, times t w, one.sound.times t w)) fresh
-      (λ stay. series_gives asked (IsInstant walk) moments p inner f arguments selector.rules selector.moment selector.range series at (rule (over S) K (shape_of scalar.tree)) these timed closed e i.gives (one.gives (argument_stays asked p inner f arguments e stay)))
-      (stays asked walk p inner f arguments selector.rules selector.moment selector.range series at (shape_of scalar.tree) e i.within there these timed closed one.within)
-
   pub points_part : WalkMomentIsMoment → MultiplesAreAll → SubqueriesStay → (q : Plan) (moment : Moment) (range step : Ms) (at : WalkMoment) (child : Part) → shape_of part.tree ≡ PointsOf f (Multiples walk at range step) at range step (shape_of child.tree) (shape_of scalar.tree)
-      → part.scalar ≡ false → part.own ≡ false → MayStart S K part.tree → IsFresh part.tree → IsPart asked (Multiples walk at range step) q child → IsMomentOf asked moment at → at.closed ≡ moment.closed → pos 0 <ℤ step.0
-      → ((t : ℤ) → IsInstant walk t → IsTime t) → inner.node ≡ node.Subquery q range step moment → IsPart asked walk p part
-  points_part moments law stays q moment range step at child is plain rows can fresh r timed closed forward on i =
-      shaped (PointsOf f (Multiples walk at range step) at range step (shape_of child.tree) (shape_of scalar.tree)) is plain rows (r.sound.times, one.scalar, r.sound.fit, one.sound.fit) can (λ j. one.sound.alone j ++ r.sound.alone j)
+      → part.scalar ≡ false → part.own ≡ false → MayStart S K part.tree → ((times : List Ms) → IsListed walk times → HaveRequests now times part.tree) → IsFresh part.tree → IsPart asked (Multiples walk at range step) before between q child
+      → IsMomentOf asked moment at → at.closed ≡ moment.closed → pos 0 <ℤ step.0
+      → ((t : ℤ) → IsInstant walk t → IsTime t) → inner.node ≡ node.Subquery q range step moment → IsPart asked walk before now p part
+  points_part moments law stays q moment range step at child is plain rows can asks fresh r timed closed forward on i =
+      shaped (PointsOf f (Multiples walk at range step) at range step (shape_of child.tree) (shape_of scalar.tree)) is plain rows (r.sound.times, one.scalar, r.sound.fit, one.sound.fit) can (added_then before between now r.added one.added)
+      (own_both before now between now before between (places_of (shape_of scalar.tree)) (places_of (shape_of child.tree)) (turned before between now r.added one.added) one.owns r.owns) asks
+      (each_both (λ (x : Request). IsAskedIn x p) before now between now before between (turned before between now r.added one.added) (argument_named p inner f arguments e between now one.named)
+      (each_as (λ (x : Request). IsAskedIn x q) (λ (x : Request). IsAskedIn x p) before between (λ x asked_in. under inner p (of_window f arguments e) (under q inner (of_subquery range step moment i) asked_in)) r.named))
+      (λ span over. each_both (MayRequest span K) before now between now before between (turned before between now r.added one.added) (one.make span over) (r.make span over))
       (λ t w. (on t w, (walk, refl, w), one.sound.times t w)) fresh
-      (λ stay.
-      let given = r.gives (onces_below asked q inner (of_subquery range step moment i) (onces_below asked inner p (of_window f arguments e) stay)) in
-      points_give asked (IsInstant walk) moments law p inner q f arguments moment range step at (rule (over S) K (shape_of scalar.tree)) (rule (over S) K (shape_of child.tree)) timed closed forward e i
-      (λ t u w v. ap step_of (given.gives u (coe 1 0 (k. multiples-instants walk at range step u k) (t, w, v))) ∙ given_step child.scalar (rule (over S) K (shape_of child.tree) u))
-      (one.gives (argument_stays asked p inner f arguments e stay)))
+      (λ gathers meant stay.
+      let given = r.gives gathers (meant_before asked between now gathers one.added meant) (onces_below asked q inner (of_subquery range step moment i) (onces_below asked inner p (of_window f arguments e) stay)) in
+      points_give asked (IsInstant walk) moments law p inner q f arguments moment range step at (rule (world S gathers) K (shape_of scalar.tree)) (rule (world S gathers) K (shape_of child.tree)) timed closed forward e i
+      (λ t u w v. ap step_of (given.gives u (coe 1 0 (k. multiples-instants walk at range step u k) (t, w, v))) ∙ given_step child.scalar (rule (world S gathers) K (shape_of child.tree) u))
+      (one.gives gathers meant (argument_stays asked p inner f arguments e stay)))
       (stays asked walk p inner q f arguments moment range step at (shape_of child.tree) (shape_of scalar.tree) e i timed closed forward r.within one.within)
+
+module _ (asked : Asked) (walk : Walk) (before now : List Request) (p inner : Plan) (f : WindowFunction) (arguments : List Plan) (e : p.node ≡ node.Window f inner arguments) (part scalar : Part)
+    (one : IsScalarOf asked walk before now f arguments scalar) where
+  pub series_part : WalkMomentIsMoment → WindowsStay → (selector : RangeSelector) (series : List ℕ) (at : WalkMoment) → shape_of part.tree ≡ SeriesOf series f at selector.range (shape_of scalar.tree) → part.scalar ≡ false → part.own ≡ false
+      → MayStart asked.samples asked.kept part.tree → ((times : List Ms) → IsListed walk times → HaveRequests now times part.tree) → IsFresh part.tree → IsSelected asked.kept selector.rules asked.samples series
+      → numbered asked.samples series ≡ chosen asked.kept selector.rules asked.samples → IsMomentOf asked selector.moment at → at.closed ≡ selector.moment.closed → pos 0 <ℤ selector.range.0
+      → ((t : ℤ) → IsInstant walk t → IsTime t) → ((t : ℤ) → IsInstant walk t → HasTimes (moment_at at t) selector.range.0) → IsRangeOf asked inner selector → IsPart asked walk before now p part
+  series_part moments stays selector series at is plain rows can asks fresh selected these timed closed forward on times i =
+      let there : AreThere asked.samples series = selected_there asked.kept selector.rules asked.samples series selected in
+      shaped asked walk before before now p inner f arguments e part scalar one (SeriesOf series f at selector.range (shape_of scalar.tree)) is plain rows (there, forward, one.scalar, one.sound.fit) can one.added one.owns asks
+      (argument_named p inner f arguments e before now one.named) one.make
+      (λ t w. (on t w, times t w, one.sound.times t w)) fresh
+      (λ gathers meant stay. series_gives asked (IsInstant walk) moments p inner f arguments selector.rules selector.moment selector.range series at (rule (world asked.samples gathers) asked.kept (shape_of scalar.tree)) these timed closed e i.gives
+      (one.gives gathers meant (argument_stays asked p inner f arguments e stay)))
+      (stays asked walk p inner f arguments selector.rules selector.moment selector.range series at (shape_of scalar.tree) e i.within there these timed closed one.within)

@@ -17,7 +17,7 @@ use Rattle.logical_plan.specs.declared.nodes.PlanNode.TheFolds.{map-PlanNode}
 use Rattle.match_rule.specs.Patterns.{HasItsPattern, HaveTheirPatterns}
 use Rattle.op_labels.specs.Rules.{Kept}
 use Rattle.plan_parts.specs.Courses.{IsLength, IsMomentWithin}
-use Rattle.plan_serving.specs.Serving.{Serving, node_ranges, node_serving, serving}
+use Rattle.plan_serving.specs.Serving.{Serving, node_ranges, node_serving_over as node_serving, serving_over as serving}
 use Rattle.promql_ast.specs.Parts.{IsWithin, Part}
 use Rattle.promql_ast.specs.declared.tree.Moment.{Moment}
 use Rattle.ticks.specs.Durations.{hundred_years}

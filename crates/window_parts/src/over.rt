@@ -1,4 +1,5 @@
 //! The trees of functions of windows.
+ghost use Rattle.exchange.specs.declared.request.Request.{Request};
 ghost use Rattle.logical_plan.specs.declared.nodes.Plan.{Plan};
 ghost use Rattle.logical_plan.specs.declared.nodes.PlanNode.TheVariants as node;
 ghost use Rattle.logical_plan.specs.PlanTypes.{is_window};
@@ -6,9 +7,10 @@ ghost use Rattle.logical_plan.specs.Validity.{deepest};
 ghost use Rattle.plan_bases.specs.Bases.{AreRight, HoldsPlan, Kept, is_under};
 ghost use Rattle.plan_parts.specs.Courses.{IsCourseNear, IsLength, IsMomentWithin, ReachBack};
 ghost use Rattle.plan_parts.specs.Parts.{IsBuilt, IsPartOf};
+ghost use Rattle.plan_parts.specs.Requested.{asked_with};
 ghost use Rattle.plan_parts.specs.declared.unbuilt.Unbuilt.TheVariants.{Memory};
 ghost use Rattle.promql_ast.specs.declared.tree.Moment.{Moment};
-ghost use Rattle.promql_meaning.specs.Selecting.{Asked, asked_over};
+ghost use Rattle.promql_meaning.specs.Selecting.{AllSeries, Asked};
 ghost use Rattle.promql_type.specs.declared.kind.Kind.{Kind};
 ghost use Rattle.std.specs.Prelude.{◌≡◌, ◌+◌, ◌<◌, ◌<ℤ◌, ℕ, ℤ, pos, Bool, true, false, List, IfOk, IsTrue, MatchResult};
 ghost use Rattle.ticks.specs.Walks.{HasTimes, IsInstant, moment_at};
@@ -29,7 +31,7 @@ use promql_ast::Moment;
 use promql_meaning::laws::{multiples_are_all, walk_moments_are_moments};
 use std::alloc::Global;
 use subquery_rows::SubqueryRows;
-use ticks::{Grid, Ms, WalkMoment};
+use ticks::{Grid, Ms, WalkMoment, walks_are_listed};
 
 /// Whether the windows that end at the moments of the instants lie within the times, and have a length. It takes no memory.
 fn are_within(course: &Course, moment: &WalkMoment, range: Ms) -> bool
@@ -53,7 +55,7 @@ fn over_selector(
     selector: &RangeSelector,
     scalar: Part,
 ) -> Result<Part, Unbuilt>
-    ensures part { (kept : Kept) (p inner : Plan) (arguments : List Plan) → AreRight kept bases.now.samples bases.now.lists → p.node ≡ node.Window f inner arguments → IsRangeOf (asked_over bases.now.samples kept span.now) inner selector.now → IsScalarOf (asked_over bases.now.samples kept span.now) course.now.walk f arguments scalar → IsPartOf (asked_over bases.now.samples kept span.now) course.now.walk p result }
+    ensures part { (kept : Kept) (engines : List AllSeries) (before now : List Request) (p inner : Plan) (arguments : List Plan) → AreRight kept bases.now.samples bases.now.lists → p.node ≡ node.Window f inner arguments → IsRangeOf (asked_with bases.now.samples kept span.now engines) inner selector.now → IsScalarOf (asked_with bases.now.samples kept span.now engines) course.now.walk before now f arguments scalar → IsPartOf (asked_with bases.now.samples kept span.now engines) course.now.walk before now p result }
     ensures total { (kept : Kept) (n : ℕ) → n < deepest → IsCourseNear n course.now → IsSelectorWithin kept selector.now → is_under bases.now.lists selector.now.rules ≡ true → IsBuilt false result }
 {
     walk_moments_are_moments();
@@ -89,7 +91,7 @@ pub fn series(
     windows: &Plan,
     argument: Result<Option<Part>, Unbuilt>,
 ) -> Result<Part, Unbuilt>
-    ensures part { (kept : Kept) (p : Plan) (arguments : List Plan) → AreRight kept bases.now.samples bases.now.lists → p.node ≡ node.Window f windows.now arguments → IsArgumentOf (asked_over bases.now.samples kept span.now) course.now.walk arguments argument → IsPartOf (asked_over bases.now.samples kept span.now) course.now.walk p result }
+    ensures part { (kept : Kept) (engines : List AllSeries) (before now : List Request) (p : Plan) (arguments : List Plan) → AreRight kept bases.now.samples bases.now.lists → p.node ≡ node.Window f windows.now arguments → IsArgumentOf (asked_with bases.now.samples kept span.now engines) course.now.walk before now arguments argument → IsPartOf (asked_with bases.now.samples kept span.now engines) course.now.walk before now p result }
     ensures total { (kept : Kept) (n : ℕ) (given : Kind) (kinds : List Kind) → n < deepest → IsCourseNear n course.now → IsRangePlan kept windows.now → HoldsPlan kept bases.now.lists windows.now → is_window f given kinds ≡ true → IsArgumentBuilt kinds argument → IsBuilt false result }
 {
     let argument = argument?;
@@ -121,7 +123,7 @@ pub fn inside(
     step: Ms,
 ) -> Result<Subquery, Unbuilt>
     ensures walk { IfOk result (λ s. s.course.walk ≡ Multiples outer.now.walk s.moment s.range s.step) }
-    ensures inside { IfOk result (λ s. (samples kept : _) → IsInside (asked_over samples kept span.now) moment.now range step s) }
+    ensures inside { IfOk result (λ s. (samples kept engines : _) → IsInside (asked_with samples kept span.now engines) moment.now range step s) }
     ensures total { (n : ℕ) → n < deepest → IsCourseNear n outer.now → IsMomentWithin moment.now → IsLength range → IsLength step → MatchResult result (λ s. IsCourseNear (n + 1) s.course) (λ e. e ≡ Memory) }
 {
     let moment = settled(moment, span);
@@ -148,12 +150,13 @@ pub fn points(
     argument: Result<Option<Part>, Unbuilt>,
 ) -> Result<Part, Unbuilt>
     requires { inside.now.course.walk ≡ Multiples outer.now.walk inside.now.moment inside.now.range inside.now.step }
-    ensures part { (asked : Asked) (p inner q : Plan) (moment : Moment) (range step : Ms) (arguments : List Plan) → p.node ≡ node.Window f inner arguments → inner.node ≡ node.Subquery q range step moment → IsInside asked moment range step inside.now → IsPartOf asked inside.now.course.walk q rows → IsArgumentOf asked outer.now.walk arguments argument → IsPartOf asked outer.now.walk p result }
+    ensures part { (asked : Asked) (before between now : List Request) (p inner q : Plan) (moment : Moment) (range step : Ms) (arguments : List Plan) → p.node ≡ node.Window f inner arguments → inner.node ≡ node.Subquery q range step moment → IsInside asked moment range step inside.now → IsPartOf asked inside.now.course.walk before between q rows → IsArgumentOf asked outer.now.walk between now arguments argument → IsPartOf asked outer.now.walk before now p result }
     ensures total { (scalar : Bool) (given : Kind) (kinds : List Kind) → is_window f given kinds ≡ true → IsBuilt scalar rows → IsArgumentBuilt kinds argument → IsBuilt false result }
 {
     walk_moments_are_moments();
     multiples_are_all();
     trees_stay_within();
+    walks_are_listed();
     let rows = rows?;
     let argument = argument?;
     let scalar = scalar_for(alloc, f, argument)?;

@@ -1,4 +1,5 @@
 //! The scalar that a function of windows takes.
+ghost use Rattle.exchange.specs.declared.request.Request.{Request};
 ghost use Rattle.logical_plan.specs.PlanTypes.{is_window};
 ghost use Rattle.logical_plan.specs.declared.nodes.Plan.{Plan};
 ghost use Rattle.op_window.specs.Rules.{takes_scalar as reads_scalar};
@@ -27,7 +28,7 @@ fn takes_scalar(f: Window) -> bool
 /// there is an argument and the function takes none or the other way round, and where the argument isn't a scalar; else the only error
 /// is want of memory.
 pub(crate) fn scalar_for(alloc: Global, f: Window, argument: Option<Part>) -> Result<Part, Unbuilt>
-    ensures part { IfOk result (λ part. (asked : Asked) (walk : Walk) (arguments : List Plan) → IsArgument asked walk arguments argument → IsScalarOf asked walk f arguments part) }
+    ensures part { IfOk result (λ part. (asked : Asked) (walk : Walk) (before now : List Request) (arguments : List Plan) → IsArgument asked walk before now arguments argument → IsScalarOf asked walk before now f arguments part) }
     ensures total { (given : Kind) (kinds : List Kind) → is_window f given kinds ≡ true → IsOfKinds kinds argument → IsBuilt true result }
 {
     nodes_add_up();

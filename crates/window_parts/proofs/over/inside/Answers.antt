@@ -8,7 +8,9 @@ use Rattle.window_parts.specs.declared.over.Subquery.{Subquery}
 use Rattle.window_parts.proofs.over.inside.Goals as goal
 
 pub returns-in-Some-clause-inside : goal.returns-in-Some-clause-inside
-returns-in-Some-clause-inside c = λ samples kept. record { timed = c.settled-moment.ensures.moment samples kept; closed = c.settled-moment.ensures.closed; range_is = refl; step_is = refl }
+returns-in-Some-clause-inside c = λ samples kept engines.
+    let moment = c.settled-moment.ensures.moment samples kept in
+    record { timed = record { fixed = moment.fixed; offset = moment.offset }; closed = c.settled-moment.ensures.closed; range_is = refl; step_is = refl }
 
 -- what is built, at the instants of one subquery more
 abbrev IsBuiltNear : ℕ → Result Subquery Unbuilt → Type 0

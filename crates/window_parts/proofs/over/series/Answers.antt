@@ -3,6 +3,7 @@ use Rattle.std.specs.Prelude.{IsSomeAnd}
 use Rattle.std.proofs.lemmas.Result.{err_from_is_err_and}
 use Rattle.plan_bases.specs.LeafLaws.{leaf_holds}
 use Rattle.plan_bases.specs.Leaves.{IsLeafOf}
+use Rattle.plan_parts.specs.Requested.{asked_with}
 use Rattle.promql_meaning.specs.Selecting.{Asked, asked_over}
 use Rattle.window_parts.specs.Over.{IsArgument, IsArgumentBuilt, IsRangeOf, IsSelectorWithin}
 use Rattle.window_parts.specs.declared.selectors.RangeSelector.{RangeSelector}
@@ -11,13 +12,13 @@ use Rattle.window_parts.proofs.Made.{ok_at, some_at}
 use Rattle.window_parts.proofs.over.series.Goals as goal
 
 pub returns-clause-part : goal.returns-clause-part
-returns-clause-part c = λ kept p arguments right e argued.
-    let asked = asked_over c.args.bases.now.samples kept c.args.span.now in
+returns-clause-part c = λ kept engines before now p arguments right e argued.
+    let asked = asked_with c.args.bases.now.samples kept c.args.span.now engines in
     let walk = c.args.course.now.walk in
     let windows = c.args.windows.now in
-    let given = ok_at (IsArgument asked walk arguments) c.args.argument c.in_ok-argument.argument c.in_ok-argument.was argued in
+    let given = ok_at (IsArgument asked walk before now arguments) c.args.argument c.in_ok-argument.argument c.in_ok-argument.was argued in
     let range = some_at (λ (s : RangeSelector). (asked : Asked) → IsRangeOf asked windows s) _ c.in-Some.selector c.in-Some.is c.in_ok-selector.ensures.range asked in
-    c.over_selector.ensures.part kept p windows arguments right e range (c.in_ok-scalar.ensures.part asked walk arguments given)
+    c.over_selector.ensures.part kept engines before now p windows arguments right e range (c.in_ok-scalar.ensures.part asked walk before now arguments given)
 
 pub returns-in_err-argument-clause-total : goal.returns-in_err-argument-clause-total
 returns-in_err-argument-clause-total c = λ kept n given kinds few near plan holds takes built.
