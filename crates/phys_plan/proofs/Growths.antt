@@ -10,7 +10,7 @@ use Rattle.label_set.specs.declared.rules.Pairing.{Pairing}
 use Rattle.label_set.specs.declared.rules.Relabel.{Relabel as Relabelling}
 use Rattle.label_set.specs.declared.rules.Rule.{Rule}
 use Rattle.logical_plan.specs.Lowering.{planned}
-use Rattle.logical_plan.specs.PlanFolds.{of-Number, of-Time, of-Select, of-Range, of-Subquery, of-Element, of-Stamp, of-Window, of-Absent, of-Buckets, of-Relabel, of-Sort, of-ScalarOf, of-VectorOf, of-Group, of-Pair, of-Set, of-Filter, of-Ratio, of-Once}
+use Rattle.logical_plan.specs.PlanFolds.{of-Gather, of-Number, of-Time, of-Select, of-Range, of-Subquery, of-Element, of-Stamp, of-Window, of-Absent, of-Buckets, of-Relabel, of-Sort, of-ScalarOf, of-VectorOf, of-Group, of-Pair, of-Set, of-Filter, of-Ratio, of-Once}
 use Rattle.logical_plan.specs.PlanTypes.{Typing, are_sound, has_none, is_element, is_group, is_of, is_pair, is_relabel, is_sound, is_stamped, is_window, kinds_of, node_typing, operand_of, typing}
 use Rattle.logical_plan.specs.declared.nodes.Plan.{Plan}
 use Rattle.logical_plan.specs.declared.nodes.PlanNode.{PlanNode}
@@ -21,8 +21,10 @@ use Rattle.promql_type.specs.Kinds.{is_kind, is_number, is_scalar}
 use Rattle.promql_type.specs.Rules.{comparison_refusals, matching_refusals}
 use Rattle.promql_type.specs.declared.kind.Kind.{Kind}
 use Rattle.promql_type.specs.declared.kind.Kind.TheVariants.{Scalar, Vector, Windows, Words}
+use Rattle.promql_ast.specs.declared.tree.Expr.{Expr}
 use Rattle.promql_ast.specs.declared.tree.Moment.{Moment}
 use Rattle.step_table.specs.Groups.{Names}
+use Rattle.step_table.specs.declared.cells.PartKind.{PartKind}
 use Rattle.ticks.specs.declared.moment.Ms.{Ms}
 use Rattle.xfrac.specs.declared.value.PairOp.{PairOp}
 use Rattle.xfrac.specs.declared.value.XFrac.{XFrac}
@@ -54,6 +56,9 @@ typing-Time p e = there p node.Time e ∙ of-Time node_typing (λ q. q.node) p.a
 
 pub typing-Select : (p : Plan) (rules : List Rule) (moment : Moment) (stamped : Bool) → p.node ≡ node.Select rules moment stamped → T p ≡ N (PlanNode-F.Select rules moment stamped)
 typing-Select p rules moment stamped e = there p (node.Select rules moment stamped) e ∙ of-Select node_typing (λ q. q.node) p.at rules moment stamped
+
+pub typing-Gather : (p : Plan) (expr : Expr) (kind : PartKind) (engines : List ℕ) → p.node ≡ node.Gather expr kind engines → T p ≡ N (PlanNode-F.Gather expr kind engines)
+typing-Gather p expr kind engines e = there p (node.Gather expr kind engines) e ∙ of-Gather node_typing (λ q. q.node) p.at expr kind engines
 
 pub typing-Range : (p : Plan) (rules : List Rule) (moment : Moment) (range : Ms) → p.node ≡ node.Range rules moment range → T p ≡ N (PlanNode-F.Range rules moment range)
 typing-Range p rules moment range e = there p (node.Range rules moment range) e ∙ of-Range node_typing (λ q. q.node) p.at rules moment range

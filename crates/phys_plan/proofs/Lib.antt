@@ -1,5 +1,6 @@
 mod Arguments
 mod Arms
+mod Asked
 mod Built
 mod Growths
 mod InPlace
@@ -7,4 +8,5 @@ mod KindsOf
 mod Layers
 mod Onced
 mod Refused
+mod Unasked
 mod Windowed

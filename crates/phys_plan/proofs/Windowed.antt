@@ -1,6 +1,6 @@
 -- What stands below selectors and functions of windows of a plan that has a tree.
 use Rattle.std.proofs.Common.{◌≡◌, ◌∙◌, ◌<◌, ◌+◌, ℕ, List, [], ◌∷◌, map, Bool, true, false, ap, refl, sym, subst, arith}
-use Rattle.std.specs.Prelude.{◌||◌}
+use Rattle.std.specs.Prelude.{◌||◌, ◌&&◌, ◌++◌, is_some, Option, None, Some, IsTrue}
 use Rattle.std.specs.List.{AllByRecursion}
 use Rattle.func_table.specs.declared.table.Window.{Window as WindowFunction}
 use Rattle.holders.specs.Joins.{front_of}
@@ -9,8 +9,8 @@ use Rattle.label_set.specs.declared.rules.Relabel.{Relabel as Relabelling}
 use Rattle.label_set.specs.declared.rules.Relabel.TheVariants as relabel
 use Rattle.label_set.specs.declared.rules.Rule.{Rule}
 use Rattle.logical_plan.specs.Lowering.{planned}
-use Rattle.logical_plan.specs.PlanFolds.{at_node, by_node, of, of-Filter, of-Gather, of-Relabel, of-Select, of-Subquery, of-Window}
-use Rattle.logical_plan.specs.PlanTypes.{is_of, is_unstamped, node_typing, typing}
+use Rattle.logical_plan.specs.PlanFolds.{at_node, by_node, of-Filter, of-Gather, of-Relabel, of-Select, of-Subquery, of-Window}
+use Rattle.logical_plan.specs.PlanTypes.{is_of, is_unstamped, node_typing, part_gives, typing}
 use Rattle.logical_plan.specs.Validity.{Measure, deepest, measured, node_measure}
 use Rattle.logical_plan.specs.declared.nodes.Plan.{Plan}
 use Rattle.logical_plan.specs.declared.nodes.PlanNode.{PlanNode}
@@ -21,18 +21,24 @@ use Rattle.logical_plan.specs.declared.nodes.PlanNode.TheFolds.{map-PlanNode}
 use Rattle.match_rule.specs.Patterns.{HasItsPattern, HaveTheirPatterns, IsWholeId}
 use Rattle.op_labels.specs.Rules.{HasPatterns, Kept}
 use Rattle.promql_ast.specs.declared.tree.Expr.{Expr}
+use Rattle.promql_ast.specs.Parts.{Part}
 use Rattle.promql_ast.specs.declared.tree.Moment.{Moment}
+use Rattle.promql_ast.specs.declared.tree.Selector.{Selector}
+use Rattle.promql_type.specs.Kinds.{is_scalar}
 use Rattle.promql_type.specs.declared.kind.Kind.TheVariants.{Vector}
 use Rattle.step_table.specs.declared.cells.PartKind.{PartKind}
+use Rattle.step_table.specs.declared.cells.PartKind.TheVariants as part
 use Rattle.ticks.specs.declared.moment.Ms.{Ms}
 use Rattle.plan_bases.specs.Bases.{HoldsPlan, Lists}
 use Rattle.plan_parts.specs.Courses.{IsLength, IsMomentWithin}
 use Rattle.plan_parts.specs.Parts.{IsChild}
-use Rattle.plan_serving.specs.Serving.{Serving, all_rules, are_served, node_points, node_serving, serving}
+use Rattle.plan_serving.specs.Asking.{asked_selector, is_rising, is_served_part, rules_in}
+use Rattle.plan_serving.specs.Serving.{Serving, all_rules, are_served, node_points, node_serving_over as node_serving, serving_over as serving}
 use Rattle.window_parts.specs.Over.{IsRangePlan}
 use Rattle.phys_plan.specs.Growth.{CanGrow, HasTree, IsInPlace}
+use Rattle.phys_plan.proofs.Asked.{asked_parts, some_depth}
 use Rattle.phys_plan.proofs.Growths.{told, typing-Relabel}
-use Rattle.phys_plan.proofs.InPlace.{Fits, holds_below, in_place_below, left_true}
+use Rattle.phys_plan.proofs.InPlace.{Fits, holds_below, in_place_below, left_true, right_true}
 use Rattle.phys_plan.proofs.KindsOf.{of_kind, vector_number}
 
 abbrev M : Plan → Measure
@@ -72,15 +78,50 @@ whole_grows kept lists p holds h = record {
   holds = holds;
 }
 
+-- ---- the selectors that engines are asked for
+
+-- there is one where a part is served
+pub gather_selector : (kind : PartKind) (expr : Expr) → IsTrue (is_served_part kind expr) → (s : Selector) × (asked_selector kind expr ≡ Some s)
+gather_selector kind expr h = there (asked_selector kind expr) h
+  where
+    there : (o : Option Selector) → is_some o ≡ true → (s : Selector) × (o ≡ Some s)
+    there None h = absurd (cc)
+    there (Some s) h = (s, refl)
+
+-- what is served gives a vector
+pub gather_vector : (kind : PartKind) (expr : Expr) → IsTrue (is_served_part kind expr) → is_scalar (part_gives kind) ≡ false
+gather_vector part.Rows expr h = refl
+gather_vector part.Windows expr h = absurd (cc)
+gather_vector (part.Partial f by) expr h = absurd (cc)
+
 module _ (kept : Kept) (lists : Lists) (n : ℕ) where
   abbrev Can : Plan → Type 0
   Can = CanGrow kept lists n
 
   -- ---- parts that engines are asked for
 
-  pub no_gather : (p : Plan) (expr : Expr) (kind : PartKind) (engines : List ℕ) → p.node ≡ node.Gather expr kind engines → Can p → ⊥
-  no_gather p expr kind engines e can =
-      let none : false ≡ true = subst (λ (s : Serving). s.served ≡ true) (serving_there p (node.Gather expr kind engines) e ∙ of-Gather node_serving (λ q. q.node) p.at expr kind engines) can.placed.served.windows in absurd (cc)
+  pub gather_served : (p : Plan) (expr : Expr) (kind : PartKind) (engines : List ℕ) → p.node ≡ node.Gather expr kind engines → Can p → IsTrue (is_served_part kind expr) × IsTrue (is_rising engines)
+  gather_served p expr kind engines e can =
+      let h : ((is_served_part kind expr && is_rising engines) && true) ≡ true = subst (λ (s : Serving). s.served ≡ true) (serving_there p (node.Gather expr kind engines) e ∙ of-Gather node_serving (λ q. q.node) p.at expr kind engines) can.placed.served.windows in
+      let own = left_true (is_served_part kind expr && is_rising engines) true h in
+      (left_true (is_served_part kind expr) (is_rising engines) own, right_true (is_served_part kind expr) (is_rising engines) own)
+
+  module _ (p : Plan) (expr : Expr) (kind : PartKind) (engines : List ℕ) (e : p.node ≡ node.Gather expr kind engines) (can : Can p) where
+    gather_measured : M p ≡ measure_node (PlanNode-F.Gather expr kind engines) p.at
+    gather_measured = measured_there p (node.Gather expr kind engines) e ∙ of-Gather node_measure (λ q. q.node q.at) p.at expr kind engines
+
+    pub gather_few : n < deepest
+    gather_few = let room = can.placed.room in let deep = ap (λ (m : Measure). m.depth) gather_measured in let some = some_depth expr in omega (arith, deep)
+
+    pub gather_within : (s : Selector) → asked_selector kind expr ≡ Some s → IsMomentWithin s.moment
+    gather_within s is =
+        (subst (λ (ps : List Part). AllByRecursion Fits (ps ++ [])) (asked_parts kind expr s is) (subst (λ (m : Measure). AllByRecursion Fits m.parts) gather_measured can.placed.within)).1.0
+
+    pub gather_kept : (s : Selector) → asked_selector kind expr ≡ Some s → HaveTheirPatterns kept s.rules
+    gather_kept s is =
+        front_of (λ (rule : Rule). HasItsPattern kept rule.kind) s.rules []
+        (subst (λ (o : Option Selector). HaveTheirPatterns kept (rules_in o ++ [])) is
+        (subst (λ (t : Serving). HaveTheirPatterns kept t.rules) (serving_there p (node.Gather expr kind engines) e ∙ of-Gather node_serving (λ q. q.node) p.at expr kind engines) can.placed.served.rules))
 
   -- ---- selectors
 

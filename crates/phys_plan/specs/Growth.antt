@@ -11,7 +11,7 @@ use Rattle.logical_plan.specs.declared.nodes.Plan.{Plan}
 use Rattle.logical_plan.specs.declared.nodes.PlanNode.TheVariants as node
 use Rattle.op_labels.specs.Rules.{Kept}
 use Rattle.plan_bases.specs.Bases.{HoldsPlan, Lists}
-use Rattle.plan_serving.specs.Serving.{IsServed}
+use Rattle.plan_serving.specs.Serving.{IsServedOver}
 use Rattle.promql_ast.specs.Parts.{AreWithin}
 use Rattle.promql_type.specs.Kinds.{is_number}
 use Rattle.step_table.specs.Groups.{Names}
@@ -26,14 +26,14 @@ GivesNumbers p = is_number (typing p).kind ≡ true
 pub record HasTree (kept : Kept) (p : Plan) : Type 0 where
   pub valid : IsValid hundred_years time_limit p
   pub number : GivesNumbers p
-  pub served : IsServed kept p
+  pub served : IsServedOver kept p
 
 -- each of its nodes is typed, its times and lengths lie within the limits, kernels serve it, and with so many subqueries around it it is
 -- not too deep
 pub record IsInPlace (kept : Kept) (n : ℕ) (p : Plan) : Type 0 where
   pub typed : (typing p).typed ≡ true
   pub within : AreWithin (λ rules. ⊤) hundred_years time_limit (measured p).parts
-  pub served : IsServed kept p
+  pub served : IsServedOver kept p
   pub room : n + (measured p).depth ≤ deepest
 
 -- it gives a scalar or a vector, and the series of its leaves are there

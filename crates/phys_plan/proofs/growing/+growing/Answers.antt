@@ -3,86 +3,382 @@ use Rattle.label_set.specs.declared.rules.Relabel.TheVariants.{Filter}
 use Rattle.label_set.specs.declared.rules.Rule.{Rule}
 use Rattle.logical_plan.specs.declared.nodes.Plan.{Plan}
 use Rattle.logical_plan.specs.declared.nodes.PlanNode.TheVariants as node
-use Rattle.promql_meaning.specs.Selecting.{Asked, asked_over}
+use Rattle.promql_meaning.specs.Selecting.{Asked}
 use Rattle.plan_parts.specs.Parts.{IsPartOf, IsBuilt, IsReadable, IsSelectorOf}
 use Rattle.plan_parts.specs.declared.selectors.InstantSelector.{InstantSelector}
 use Rattle.plan_bases.specs.LeafLaws.{leaf_holds, selector_holds}
 use Rattle.plan_bases.specs.Leaves.{IsLeafOf}
-use Rattle.phys_plan.proofs.Arms.{child_of, ok_then, some_at}
-use Rattle.std.specs.Prelude.{slice_index_or}
+use Rattle.phys_plan.proofs.Arms.{ok_then, some_at}
+use Rattle.std.specs.Prelude.{slice_index_or, Result}
 use Rattle.std.proofs.lemmas.Result.{err_from_is_err_and}
 use Rattle.label_set.specs.declared.rules.Relabel.{Relabel}
 use Rattle.logical_plan.specs.PlanTypes.{is_group, kinds_of}
 use Rattle.logical_plan.specs.Validity.{measured}
 use Rattle.logical_plan.specs.declared.nodes.PlanNode.TheOpen.{PlanNode-F}
 use Rattle.match_rule.specs.Patterns.{HaveTheirPatterns}
-use Rattle.op_labels.specs.Rules.{HasPatterns}
+use Rattle.op_labels.specs.Rules.{HasPatterns, Kept}
 use Rattle.promql_ast.specs.declared.tree.Moment.{Moment}
 use Rattle.promql_type.specs.Kinds.{is_scalar}
 use Rattle.ticks.specs.declared.moment.Ms.{Ms}
-use Rattle.plan_serving.specs.Serving.{serving}
-use Rattle.window_parts.specs.Over.{IsArgumentBuilt, IsOfKinds, IsRangePlan}
+use Rattle.plan_serving.specs.Serving.{serving_over as serving}
+use Rattle.window_parts.specs.Over.{IsArgument, IsArgumentBuilt, IsOfKinds, IsRangePlan}
 use Rattle.phys_plan.specs.Growth.{IsChange, IsRetyping, IsTwofold}
 use Rattle.phys_plan.proofs.Arguments.{element_arguments, none_of, one_at, one_of, two_at, two_of, window_arguments, window_inner}
-use Rattle.phys_plan.proofs.Growths.{N, T, as_kind, few-Element, few-Group, few-Window, grows-Absent, grows-Buckets, grows-Element, grows-Element-one, grows-Element-two, grows-Filter, grows-Group, grows-Group-two, grows-Once, grows-Pair, grows-Ratio, grows-Relabel, grows-ScalarOf, grows-Set, grows-Sort, grows-Stamp, grows-VectorOf, grows-Window, no_windows, scalar-Buckets, takes-Element, takes-Group, takes-Window, typing-Absent, typing-Buckets, typing-Element, typing-Group, typing-Number, typing-Once, typing-Pair, typing-Range, typing-Ratio, typing-Relabel, typing-ScalarOf, typing-Select, typing-Set, typing-Sort, typing-Stamp, typing-Subquery, typing-Time, typing-VectorOf, typing-Window, vector-Filter}
+use Rattle.phys_plan.proofs.Growths.{N, T, as_kind, few-Element, few-Group, few-Window, grows-Absent, grows-Buckets, grows-Element, grows-Element-one, grows-Element-two, grows-Filter, grows-Group, grows-Group-two, grows-Once, grows-Pair, grows-Ratio, grows-Relabel, grows-ScalarOf, grows-Set, grows-Sort, grows-Stamp, grows-VectorOf, grows-Window, no_windows, scalar-Buckets, takes-Element, takes-Group, takes-Window, typing-Absent, typing-Buckets, typing-Element, typing-Group, typing-Number, typing-Once, typing-Pair, typing-Range, typing-Ratio, typing-Relabel, typing-ScalarOf, typing-Select, typing-Set, typing-Sort, typing-Stamp, typing-Subquery, typing-Time, typing-VectorOf, typing-Window, vector-Filter, typing-Gather}
 use Rattle.phys_plan.proofs.Refused.{no_change, no_retyping, no_twofold, none_some}
-use Rattle.phys_plan.proofs.Windowed.{filter_kept, inner_holds, no_gather, range_plan, relabel_kept, select_few, select_kept, select_within, subquery_grows, subquery_within, window_few, windows_range}
+use Rattle.phys_plan.proofs.Windowed.{filter_kept, gather_few, gather_kept, gather_selector, gather_served, gather_vector, gather_within, inner_holds, range_plan, relabel_kept, select_few, select_kept, select_within, subquery_grows, subquery_within, window_few, windows_range}
+use Rattle.exchange.specs.declared.request.Request.{Request}
+use Rattle.plan_parts.specs.Requested.{asked_with}
+use Rattle.plan_parts.specs.declared.parts.Part.{Part}
+use Rattle.plan_parts.specs.declared.unbuilt.Unbuilt.{Unbuilt}
+use Rattle.ticks.specs.declared.grid.Grid.{Grid}
+use Rattle.ticks.specs.declared.walk.Walk.{Walk}
 use Rattle.phys_plan.proofs.growing.+growing.Goals as goal
 
+-- ---- parts
+
 pub grown-returns-in-Number-clause-part : goal.grown-returns-in-Number-clause-part
-grown-returns-in-Number-clause-part t c =
-    let asked = asked_over c.args.site.now.bases.now.samples c.args.patterns.now c.args.site.now.span.now in
-    ok_then c.number.result c.number.ensures.part (λ part is. is asked c.args.course.now.walk c.args.p.now c.in-Number.is)
-
-pub grown-returns-in-Select-clause-part : goal.grown-returns-in-Select-clause-part
-grown-returns-in-Select-clause-part t c = c.select.ensures.part c.args.patterns.now c.args.p.now c.requires c.in-Select.is
-
-pub grown-returns-in-Time-clause-part : goal.grown-returns-in-Time-clause-part
-grown-returns-in-Time-clause-part t c =
-    let asked = asked_over c.args.site.now.bases.now.samples c.args.patterns.now c.args.site.now.span.now in
-    ok_then c.time.result c.time.ensures.part (λ part is. is asked c.args.course.now.walk c.args.p.now c.in-Time.is)
-
-pub over_one-returns-in_ok-copy-in-Filter-clause-part : goal.over_one-returns-in_ok-copy-in-Filter-clause-part
-over_one-returns-in_ok-copy-in-Filter-clause-part t c =
-    let asked = asked_over c.args.site.now.bases.now.samples c.args.patterns.now c.args.site.now.span.now in
-    let walk = c.args.course.now.walk in
-    let base = c.in-Filter.base in
-    let copied = ap (λ (rules : List Rule). Filter rules) c.in_ok-copy-in-Filter.ensures in
-    let rows = child_of asked asked walk base c.get-in-Filter.result.now c.grown-rows-in-Filter.result refl c.get-in-Filter.ensures c.grown-rows-in-Filter.ensures.part in
-    c.relabelled-in-Filter.ensures.filter asked walk c.args.p.now base c.in-Filter.rules refl copied c.in-Filter.is rows
-
-pub retyped-returns-in-Sort-clause-part : goal.retyped-returns-in-Sort-clause-part
-retyped-returns-in-Sort-clause-part t c =
-    let asked = asked_over c.args.site.now.bases.now.samples c.args.patterns.now c.args.site.now.span.now in
-    let walk = c.args.course.now.walk in
-    let inner = c.in-Sort.inner in
-    let rows = child_of asked asked walk inner c.get-in-Sort.result.now c.grown-rows-in-Sort.result refl c.get-in-Sort.ensures c.grown-rows-in-Sort.ensures.part in
-    c.as_vector.ensures.sort asked walk c.args.p.now inner c.in-Sort.down c.in-Sort.is rows
-
-pub over_series-returns-clause-part : goal.over_series-returns-clause-part
-over_series-returns-clause-part t c =
-    let p = c.args.p.now in
-    let f = c.in-Window.f in
-    let arguments = c.in-Window.field-2 in
-    let beside = c.only_argument-beside.ensures.part f c.in-Window.windows arguments c.in-Window.is in
-    let is = c.in-Window.is ∙ ap (λ (windows : Plan). node.Window f windows arguments) (sym c.get.ensures) in
-    c.series.ensures.part c.args.patterns.now p arguments c.requires is beside
-
-pub over_points-returns-clause-part : goal.over_points-returns-clause-part
-over_points-returns-clause-part t c =
+grown-returns-in-Number-clause-part t c = λ engines.
     let store = c.args.site.now.bases.now.samples in
     let span = c.args.site.now.span.now in
-    let asked = asked_over store c.args.patterns.now span in
+    let asked = asked_with store c.args.patterns.now span engines in
     let walk = c.args.course.now.walk in
+    let p = c.args.p.now in
+    let before = c.args.exchange.now.requests in
+    ok_then c.number.result c.number.ensures.part (λ part is. is asked walk before p c.in-Number.is)
+
+pub grown-returns-in-Time-clause-part : goal.grown-returns-in-Time-clause-part
+grown-returns-in-Time-clause-part t c = λ engines.
+    let store = c.args.site.now.bases.now.samples in
+    let span = c.args.site.now.span.now in
+    let asked = asked_with store c.args.patterns.now span engines in
+    let walk = c.args.course.now.walk in
+    let p = c.args.p.now in
+    let before = c.args.exchange.now.requests in
+    ok_then c.time.result c.time.ensures.part (λ part is. is asked walk before p c.in-Time.is)
+
+pub grown-returns-in-Select-clause-part : goal.grown-returns-in-Select-clause-part
+grown-returns-in-Select-clause-part t c = λ engines.
+    let store = c.args.site.now.bases.now.samples in
+    let span = c.args.site.now.span.now in
+    let asked = asked_with store c.args.patterns.now span engines in
+    let walk = c.args.course.now.walk in
+    let p = c.args.p.now in
+    let before = c.args.exchange.now.requests in
+    c.select.ensures.part c.args.patterns.now engines before p c.requires c.in-Select.is
+
+pub grown-returns-in-Gather-clause-part : goal.grown-returns-in-Gather-clause-part
+grown-returns-in-Gather-clause-part t c = λ engines.
+    let store = c.args.site.now.bases.now.samples in
+    let span = c.args.site.now.span.now in
+    let asked = asked_with store c.args.patterns.now span engines in
+    let walk = c.args.course.now.walk in
+    let p = c.args.p.now in
+    let before = c.args.exchange.now.requests in
+    ok_then c.gather.result c.gather.ensures.part (λ part is. is store engines p c.in-Gather.is)
+
+pub over_one-returns-in-Stamp-clause-part : goal.over_one-returns-in-Stamp-clause-part
+over_one-returns-in-Stamp-clause-part t c = λ engines.
+    let store = c.args.site.now.bases.now.samples in
+    let span = c.args.site.now.span.now in
+    let asked = asked_with store c.args.patterns.now span engines in
+    let walk = c.args.course.now.walk in
+    let p = c.args.p.now in
+    let before = c.args.exchange.now.requests in
+    let e = c.in-Stamp.is ∙ ap (λ (q : Plan). node.Stamp q) (sym c.get.ensures) in
+    c.stamped.ensures.part asked walk before c.grown-rows.new.exchange.requests p c.get.result.now refl e (c.grown-rows.ensures.part engines)
+
+pub over_one-returns-in_ok-labels-in-Absent-clause-part : goal.over_one-returns-in_ok-labels-in-Absent-clause-part
+over_one-returns-in_ok-labels-in-Absent-clause-part t c = λ engines.
+    let store = c.args.site.now.bases.now.samples in
+    let span = c.args.site.now.span.now in
+    let asked = asked_with store c.args.patterns.now span engines in
+    let walk = c.args.course.now.walk in
+    let p = c.args.p.now in
+    let before = c.args.exchange.now.requests in
+    let e = c.in-Absent.is ∙ (λ i. node.Absent (sym c.in_ok-labels-in-Absent.ensures i) (sym c.get-in-Absent.ensures i)) in
+    c.absent.ensures.part asked walk before c.grown-rows-in-Absent.new.exchange.requests p c.get-in-Absent.result.now refl e (c.grown-rows-in-Absent.ensures.part engines)
+
+pub over_one-returns-in_ok-rule-in-Relabel-clause-part : goal.over_one-returns-in_ok-rule-in-Relabel-clause-part
+over_one-returns-in_ok-rule-in-Relabel-clause-part t c = λ engines.
+    let store = c.args.site.now.bases.now.samples in
+    let span = c.args.site.now.span.now in
+    let asked = asked_with store c.args.patterns.now span engines in
+    let walk = c.args.course.now.walk in
+    let p = c.args.p.now in
+    let before = c.args.exchange.now.requests in
+    let e = c.in-Relabel.is ∙ (λ i. node.Relabel (sym c.in_ok-rule-in-Relabel.ensures i) (sym c.get-in-Relabel.ensures i)) in
+    c.relabelled.ensures.relabel asked walk before c.grown-rows-in-Relabel.new.exchange.requests p c.get-in-Relabel.result.now refl e (c.grown-rows-in-Relabel.ensures.part engines)
+
+pub over_one-returns-in_ok-copy-in-Filter-clause-part : goal.over_one-returns-in_ok-copy-in-Filter-clause-part
+over_one-returns-in_ok-copy-in-Filter-clause-part t c = λ engines.
+    let store = c.args.site.now.bases.now.samples in
+    let span = c.args.site.now.span.now in
+    let asked = asked_with store c.args.patterns.now span engines in
+    let walk = c.args.course.now.walk in
+    let p = c.args.p.now in
+    let before = c.args.exchange.now.requests in
+    let e = c.in-Filter.is ∙ ap (λ (q : Plan). node.Filter q c.in-Filter.rules) (sym c.get-in-Filter.ensures) in
+    let copied = ap (λ (rules : List Rule). Filter rules) c.in_ok-copy-in-Filter.ensures in
+    c.relabelled-in-Filter.ensures.filter asked walk before c.grown-rows-in-Filter.new.exchange.requests p c.get-in-Filter.result.now c.in-Filter.rules refl copied e (c.grown-rows-in-Filter.ensures.part engines)
+
+pub retyped-returns-in-ScalarOf-clause-part : goal.retyped-returns-in-ScalarOf-clause-part
+retyped-returns-in-ScalarOf-clause-part t c = λ engines.
+    let store = c.args.site.now.bases.now.samples in
+    let span = c.args.site.now.span.now in
+    let asked = asked_with store c.args.patterns.now span engines in
+    let walk = c.args.course.now.walk in
+    let p = c.args.p.now in
+    let before = c.args.exchange.now.requests in
+    let e = c.in-ScalarOf.is ∙ ap (λ (q : Plan). node.ScalarOf q) (sym c.get.ensures) in
+    c.as_scalar.ensures.part asked walk before c.grown-rows.new.exchange.requests p c.get.result.now refl e (c.grown-rows.ensures.part engines)
+
+pub retyped-returns-in-Sort-clause-part : goal.retyped-returns-in-Sort-clause-part
+retyped-returns-in-Sort-clause-part t c = λ engines.
+    let store = c.args.site.now.bases.now.samples in
+    let span = c.args.site.now.span.now in
+    let asked = asked_with store c.args.patterns.now span engines in
+    let walk = c.args.course.now.walk in
+    let p = c.args.p.now in
+    let before = c.args.exchange.now.requests in
+    let e = c.in-Sort.is ∙ ap (λ (q : Plan). node.Sort c.in-Sort.down q) (sym c.get-in-Sort.ensures) in
+    c.as_vector.ensures.sort asked walk before c.grown-rows-in-Sort.new.exchange.requests p c.get-in-Sort.result.now c.in-Sort.down e (c.grown-rows-in-Sort.ensures.part engines)
+
+pub retyped-returns-in-VectorOf-clause-part : goal.retyped-returns-in-VectorOf-clause-part
+retyped-returns-in-VectorOf-clause-part t c = λ engines.
+    let store = c.args.site.now.bases.now.samples in
+    let span = c.args.site.now.span.now in
+    let asked = asked_with store c.args.patterns.now span engines in
+    let walk = c.args.course.now.walk in
+    let p = c.args.p.now in
+    let before = c.args.exchange.now.requests in
+    let e = c.in-VectorOf.is ∙ ap (λ (q : Plan). node.VectorOf q) (sym c.get-in-VectorOf.ensures) in
+    c.as_vector-in-VectorOf.ensures.vector asked walk before c.grown-rows-in-VectorOf.new.exchange.requests p c.get-in-VectorOf.result.now e (c.grown-rows-in-VectorOf.ensures.part engines)
+
+pub over_two-returns-in-Buckets-clause-part : goal.over_two-returns-in-Buckets-clause-part
+over_two-returns-in-Buckets-clause-part t c = λ engines.
+    let store = c.args.site.now.bases.now.samples in
+    let span = c.args.site.now.span.now in
+    let asked = asked_with store c.args.patterns.now span engines in
+    let walk = c.args.course.now.walk in
+    let p = c.args.p.now in
+    let before = c.args.exchange.now.requests in
+    let between = c.grown-rows.new.exchange.requests in
+    let now = c.grown-beside.new.exchange.requests in
+    let e = c.in-Buckets.is ∙ (λ i. node.Buckets (sym c.get-in-Buckets.ensures i) (sym c.get.ensures i)) in
+    let later = c.grown-beside.ensures.part engines in
+    c.quantiles.ensures.part asked walk before between now p c.get.result.now c.get-in-Buckets.result.now e (c.grown-rows.ensures.part engines) later
+
+pub over_two-returns-in_ok-pairing-in-Pair-clause-part : goal.over_two-returns-in_ok-pairing-in-Pair-clause-part
+over_two-returns-in_ok-pairing-in-Pair-clause-part t c = λ engines.
+    let store = c.args.site.now.bases.now.samples in
+    let span = c.args.site.now.span.now in
+    let asked = asked_with store c.args.patterns.now span engines in
+    let walk = c.args.course.now.walk in
+    let p = c.args.p.now in
+    let before = c.args.exchange.now.requests in
+    let between = c.grown-rows-in-Pair.new.exchange.requests in
+    let now = c.grown-beside-in-Pair.new.exchange.requests in
+    let e = c.in-Pair.is ∙ (λ i. node.Pair c.in-Pair.op (sym c.get-in-Pair.ensures i) (sym c.get-in-Pair-2.ensures i) (sym c.in_ok-pairing-in-Pair.ensures i)) in
+    let later = c.grown-beside-in-Pair.ensures.part engines in
+    c.paired.ensures.part asked walk before between now p c.get-in-Pair.result.now c.get-in-Pair-2.result.now e (c.grown-rows-in-Pair.ensures.part engines) later
+
+pub over_two-returns-in_ok-pairing-in-Set-clause-part : goal.over_two-returns-in_ok-pairing-in-Set-clause-part
+over_two-returns-in_ok-pairing-in-Set-clause-part t c = λ engines.
+    let store = c.args.site.now.bases.now.samples in
+    let span = c.args.site.now.span.now in
+    let asked = asked_with store c.args.patterns.now span engines in
+    let walk = c.args.course.now.walk in
+    let p = c.args.p.now in
+    let before = c.args.exchange.now.requests in
+    let between = c.grown-rows-in-Set.new.exchange.requests in
+    let now = c.grown-beside-in-Set.new.exchange.requests in
+    let e = c.in-Set.is ∙ (λ i. node.Set c.in-Set.op (sym c.get-in-Set.ensures i) (sym c.get-in-Set-2.ensures i) (sym c.in_ok-pairing-in-Set.ensures i)) in
+    let later = c.grown-beside-in-Set.ensures.part engines in
+    c.combined.ensures.part asked walk before between now p c.get-in-Set.result.now c.get-in-Set-2.result.now e (c.grown-rows-in-Set.ensures.part engines) later
+
+pub over_two-returns-in-Ratio-clause-part : goal.over_two-returns-in-Ratio-clause-part
+over_two-returns-in-Ratio-clause-part t c = λ engines.
+    let store = c.args.site.now.bases.now.samples in
+    let span = c.args.site.now.span.now in
+    let asked = asked_with store c.args.patterns.now span engines in
+    let walk = c.args.course.now.walk in
+    let p = c.args.p.now in
+    let before = c.args.exchange.now.requests in
+    let between = c.grown-rows-in-Ratio.new.exchange.requests in
+    let now = c.grown-beside-in-Ratio.new.exchange.requests in
+    let e = c.in-Ratio.is ∙ (λ i. node.Ratio (sym c.get-in-Ratio.ensures i) (sym c.get-in-Ratio-2.ensures i)) in
+    let later = c.grown-beside-in-Ratio.ensures.part engines in
+    c.divided.ensures.part asked walk before between now p c.get-in-Ratio.result.now c.get-in-Ratio-2.result.now e (c.grown-rows-in-Ratio.ensures.part engines) later
+
+pub over_series-returns-clause-part : goal.over_series-returns-clause-part
+over_series-returns-clause-part t c = λ engines.
+    let store = c.args.site.now.bases.now.samples in
+    let span = c.args.site.now.span.now in
+    let asked = asked_with store c.args.patterns.now span engines in
+    let walk = c.args.course.now.walk in
+    let p = c.args.p.now in
+    let before = c.args.exchange.now.requests in
+    let f = c.in-Window.f in
+    let arguments = c.in-Window.field-2 in
+    let now = c.only_argument-beside.new.exchange.requests in
+    let given = (c.only_argument-beside.ensures.part engines f c.in-Window.windows arguments c.in-Window.is) in
+    let is = c.in-Window.is ∙ ap (λ (windows : Plan). node.Window f windows arguments) (sym c.get.ensures) in
+    (c.series.ensures.part c.args.patterns.now engines before now p arguments c.requires is given)
+
+pub over_points-returns-clause-part : goal.over_points-returns-clause-part
+over_points-returns-clause-part t c = λ engines.
+    let store = c.args.site.now.bases.now.samples in
+    let span = c.args.site.now.span.now in
+    let asked = asked_with store c.args.patterns.now span engines in
+    let walk = c.args.course.now.walk in
+    let p = c.args.p.now in
+    let before = c.args.exchange.now.requests in
     let f = c.in-Window.f in
     let windows = c.in-Window.windows in
     let arguments = c.in-Window.field-2 in
     let below = c.in_ok-below.below in
     let inner = c.in-Subquery.inner in
+    let between = c.grown-rows.new.exchange.requests in
+    let now = c.only_argument-beside.new.exchange.requests in
     let is = sym (ap (λ (q : Plan). q.node) c.get.ensures) ∙ c.in-Subquery.is in
-    let rows = child_of asked asked below.course.walk inner c.get-2.result.now c.grown-rows.result refl c.get-2.ensures c.grown-rows.ensures.part in
-    let beside = c.only_argument-beside.ensures.part f windows arguments c.in-Window.is in
-    c.points.ensures.part asked c.args.p.now windows inner c.in-Subquery.moment c.in-Subquery.range c.in-Subquery.step arguments c.in-Window.is is (c.in_ok-below.ensures.inside store c.args.patterns.now) rows beside
+    let rows = subst (λ (q : Plan). IsPartOf asked below.course.walk before between q c.grown-rows.result) c.get-2.ensures (c.grown-rows.ensures.part engines) in
+    let beside = (c.only_argument-beside.ensures.part engines f windows arguments c.in-Window.is) in
+    c.points.ensures.part asked before between now p windows inner c.in-Subquery.moment c.in-Subquery.range c.in-Subquery.step arguments c.in-Window.is is (c.in_ok-below.ensures.inside store c.args.patterns.now engines) rows beside
+
+pub element-returns-in-empty-clause-part : goal.element-returns-in-empty-clause-part
+element-returns-in-empty-clause-part t c = λ engines.
+    let store = c.args.site.now.bases.now.samples in
+    let span = c.args.site.now.span.now in
+    let asked = asked_with store c.args.patterns.now span engines in
+    let walk = c.args.course.now.walk in
+    let p = c.args.p.now in
+    let before = c.args.exchange.now.requests in
+    let f = c.in-Element.f in
+    let inner = c.get.result.now in
+    let none = none_of c.as_slice.result.now c.in-Element.arguments c.as_slice.ensures c.in-empty.len_below in
+    let e : p.node ≡ node.Element f inner [] = c.in-Element.is ∙ (λ i. node.Element f (sym c.get.ensures i) (none i)) in
+    c.applied.ensures.part asked walk before c.grown-rows.new.exchange.requests p inner refl e (c.grown-rows.ensures.part engines)
+
+pub beside_one-returns-in-len1-clause-part : goal.beside_one-returns-in-len1-clause-part
+beside_one-returns-in-len1-clause-part t c = λ engines.
+    let store = c.args.site.now.bases.now.samples in
+    let span = c.args.site.now.span.now in
+    let asked = asked_with store c.args.patterns.now span engines in
+    let walk = c.args.course.now.walk in
+    let p = c.args.p.now in
+    let before = c.args.exchange.now.requests in
+    let f = c.in-Element.f in
+    let inner = c.get.result.now in
+    let a = c.a-item.result in
+    let between = c.grown-rows.new.exchange.requests in
+    let now = c.grown-beside.new.exchange.requests in
+    let one = one_of c.as_slice.result.now c.in-Element.arguments a c.as_slice.ensures c.a-item.is c.in-len1.len_at_least c.in-len1.len_below in
+    let e : p.node ≡ node.Element f inner (a ∷ []) = c.in-Element.is ∙ (λ i. node.Element f (sym c.get.ensures i) (one i)) in
+    let beside = c.grown-beside.ensures.part engines in
+    c.applied_with.ensures.part asked walk before between now p inner a e (c.grown-rows.ensures.part engines) beside
+
+pub beside_two-returns-in-len2-clause-part : goal.beside_two-returns-in-len2-clause-part
+beside_two-returns-in-len2-clause-part t c = λ engines.
+    let store = c.args.site.now.bases.now.samples in
+    let span = c.args.site.now.span.now in
+    let asked = asked_with store c.args.patterns.now span engines in
+    let walk = c.args.course.now.walk in
+    let p = c.args.p.now in
+    let before = c.args.exchange.now.requests in
+    let f = c.in-Element.f in
+    let inner = c.get.result.now in
+    let a = c.a-item.result in
+    let b = c.b-item.result in
+    let one = c.grown-rows.new.exchange.requests in
+    let both = c.grown-low.new.exchange.requests in
+    let now = c.grown-high.new.exchange.requests in
+    let two = two_of c.as_slice.result.now c.in-Element.arguments a b c.as_slice.ensures c.a-item.is c.b-item.is c.in-len2.len_at_least c.in-len2.len_below in
+    let e : p.node ≡ node.Element f inner (a ∷ b ∷ []) = c.in-Element.is ∙ (λ i. node.Element f (sym c.get.ensures i) (two i)) in
+    let low = c.grown-low.ensures.part engines in
+    let high = c.grown-high.ensures.part engines in
+    c.clamped.ensures.part asked walk before one both now p inner a b e (c.grown-rows.ensures.part engines) low high
+
+pub group-returns-in-len1-clause-part : goal.group-returns-in-len1-clause-part
+group-returns-in-len1-clause-part t c = λ engines.
+    let store = c.args.site.now.bases.now.samples in
+    let span = c.args.site.now.span.now in
+    let asked = asked_with store c.args.patterns.now span engines in
+    let walk = c.args.course.now.walk in
+    let p = c.args.p.now in
+    let before = c.args.exchange.now.requests in
+    let f = c.in-Group.f in
+    let a = c.a-item.result in
+    let one = one_of c.as_slice.result.now c.in-Group.arguments a c.as_slice.ensures c.a-item.is c.in-len1.len_at_least c.in-len1.len_below in
+    let e : p.node ≡ node.Group f c.in_ok-by.by (a ∷ []) c.in_ok-label.label = c.in-Group.is ∙ (λ i. node.Group f (sym c.in_ok-by.ensures i) (one i) (sym c.in_ok-label.ensures i)) in
+    c.grouped.ensures.part asked walk before c.grown-rows.new.exchange.requests p a refl e (c.grown-rows.ensures.part engines)
+
+pub group-returns-in-len2-clause-part : goal.group-returns-in-len2-clause-part
+group-returns-in-len2-clause-part t c = λ engines.
+    let store = c.args.site.now.bases.now.samples in
+    let span = c.args.site.now.span.now in
+    let asked = asked_with store c.args.patterns.now span engines in
+    let walk = c.args.course.now.walk in
+    let p = c.args.p.now in
+    let before = c.args.exchange.now.requests in
+    let f = c.in-Group.f in
+    let a = c.a-item-then-this-lt3.result in
+    let b = c.b-item.result in
+    let between = c.grown-parameter.new.exchange.requests in
+    let now = c.grown-rows-in-len2.new.exchange.requests in
+    let two = two_of c.as_slice.result.now c.in-Group.arguments a b c.as_slice.ensures c.a-item-then-this-lt3.is c.b-item.is c.in-len2.len_at_least c.in-len2.len_below in
+    let e : p.node ≡ node.Group f c.in_ok-by.by (a ∷ b ∷ []) c.in_ok-label.label = c.in-Group.is ∙ (λ i. node.Group f (sym c.in_ok-by.ensures i) (two i) (sym c.in_ok-label.ensures i)) in
+    let rows = (c.grown-rows-in-len2.ensures.part engines) in
+    c.ranked.ensures.part asked walk before between now p a b e rows (c.grown-parameter.ensures.part engines)
+
+pub once-returns-clause-part : goal.once-returns-clause-part
+once-returns-clause-part t c = λ engines.
+    let store = c.args.site.now.bases.now.samples in
+    let span = c.args.site.now.span.now in
+    let asked = asked_with store c.args.patterns.now span engines in
+    let walk = c.args.course.now.walk in
+    let p = c.args.p.now in
+    let before = c.args.exchange.now.requests in
+    let inner = c.get.result.now in
+    let e = c.in-Once.is ∙ ap (λ (q : Plan). node.Once q) (sym c.get.ensures) in
+    c.repeated.ensures.part asked walk c.in-Some.below.walk before c.grown-child.new.exchange.requests p inner c.first-first.ensures.begins c.in-Some.ensures.walk e (c.grown-child.ensures.part engines)
+
+pub only_argument-returns-in-empty-clause-part : goal.only_argument-returns-in-empty-clause-part
+only_argument-returns-in-empty-clause-part t c = λ engines f inner arguments is.
+    let store = c.args.site.now.bases.now.samples in
+    let span = c.args.site.now.span.now in
+    let asked = asked_with store c.args.patterns.now span engines in
+    let walk = c.args.course.now.walk in
+    let p = c.args.p.now in
+    let before = c.args.exchange.now.requests in
+    let own = c.in-Window.arguments in
+    let none = none_of c.as_slice.result.now own c.as_slice.ensures c.in-empty.len_below in
+    let same = window_arguments f c.in-Window.field-0 inner c.in-Window.field-1 arguments own (sym is ∙ c.in-Window.is) in
+    subst (λ (xs : List Plan). IsArgument asked walk before before xs None) (sym (same ∙ none)) refl
+
+pub only_argument-returns-in_ok-grown-in-len1-clause-part : goal.only_argument-returns-in_ok-grown-in-len1-clause-part
+only_argument-returns-in_ok-grown-in-len1-clause-part t c = λ engines f inner arguments is.
+    let store = c.args.site.now.bases.now.samples in
+    let span = c.args.site.now.span.now in
+    let asked = asked_with store c.args.patterns.now span engines in
+    let walk = c.args.course.now.walk in
+    let p = c.args.p.now in
+    let before = c.args.exchange.now.requests in
+    let own = c.in-Window.arguments in
+    let a = c.a-item.result in
+    let now = c.grown.new.exchange.requests in
+    let one = one_of c.as_slice.result.now own a c.as_slice.ensures c.a-item.is c.in-len1.len_at_least c.in-len1.len_below in
+    let same = window_arguments f c.in-Window.field-0 inner c.in-Window.field-1 arguments own (sym is ∙ c.in-Window.is) in
+    subst (λ (xs : List Plan). IsArgument asked walk before now xs (Some c.in_ok-grown-in-len1.field-0)) (sym (same ∙ one)) (c.in_ok-grown-in-len1.ensures.part engines)
+
+pub filtered-returns-in-Some-clause-part : goal.filtered-returns-in-Some-clause-part
+filtered-returns-in-Some-clause-part t c = λ engines.
+    let asked = asked_with c.args.site.now.bases.now.samples c.args.patterns.now c.args.site.now.span.now engines in
+    let leaf = c.in-Some.leaf in
+    let is : IsSelectorOf asked c.args.p.now leaf.rules leaf.moment false = some_at (λ (s : InstantSelector). (asked : Asked) → IsSelectorOf asked c.args.p.now s.rules s.moment false) _ leaf c.in-Some.is c.in_ok-leaf.ensures.selector asked in
+    c.select.ensures.leaf c.args.patterns.now engines c.args.exchange.now.requests c.args.p.now c.requires is
+
+-- ---- all plans that kernels serve
 
 pub grown-returns-in-Number-clause-total : goal.grown-returns-in-Number-clause-total
 grown-returns-in-Number-clause-total t c = λ n near can.
@@ -163,13 +459,6 @@ pub grown-returns-in-Filter-clause-total : goal.grown-returns-in-Filter-clause-t
 grown-returns-in-Filter-clause-total t c = λ n near can.
     c.filtered.ensures.total c.in-Filter.base c.in-Filter.rules c.in-Filter.is n near can
 
-pub filtered-returns-in-Some-clause-part : goal.filtered-returns-in-Some-clause-part
-filtered-returns-in-Some-clause-part t c =
-    let asked = asked_over c.args.site.now.bases.now.samples c.args.patterns.now c.args.site.now.span.now in
-    let leaf = c.in-Some.leaf in
-    let is : IsSelectorOf asked c.args.p.now leaf.rules leaf.moment false = some_at (λ (s : InstantSelector). (asked : Asked) → IsSelectorOf asked c.args.p.now s.rules s.moment false) _ leaf c.in-Some.is c.in_ok-leaf.ensures.selector asked in
-    c.select.ensures.leaf c.args.patterns.now c.args.p.now c.requires is
-
 pub filtered-returns-in-Some-clause-total : goal.filtered-returns-in-Some-clause-total
 filtered-returns-in-Some-clause-total t c = λ base rules e n near can.
     let p = c.args.p.now in
@@ -206,7 +495,13 @@ grown-returns-in-Subquery-clause-total t c = λ n near can.
 pub grown-returns-in-Gather-clause-total : goal.grown-returns-in-Gather-clause-total
 grown-returns-in-Gather-clause-total t c = λ n near can.
     let it = c.in-Gather in
-    absurd (no_gather c.args.patterns.now c.args.site.now.bases.now.lists n c.args.p.now it.expr it.kind it.asked it.is can)
+    let p = c.args.p.now in
+    let kept = c.args.patterns.now in
+    let lists = c.args.site.now.bases.now.lists in
+    let served = gather_served kept lists n p it.expr it.kind it.asked it.is can in
+    let s = gather_selector it.kind it.expr served.0 in
+    as_kind p (N (PlanNode-F.Gather it.expr it.kind it.asked)) c.gather.result (typing-Gather p it.expr it.kind it.asked it.is)
+    (subst (λ (b : Bool). IsBuilt b c.gather.result) (sym (gather_vector it.kind it.expr served.0)) (c.gather.ensures.total n s.0 (gather_few kept lists n p it.expr it.kind it.asked it.is can) near s.1 served.1 (gather_kept kept lists n p it.expr it.kind it.asked it.is can s.0 s.1) (gather_within kept lists n p it.expr it.kind it.asked it.is can s.0 s.1)))
 
 pub over_one-returns-in-Stamp-clause-total : goal.over_one-returns-in-Stamp-clause-total
 over_one-returns-in-Stamp-clause-total t c = λ change n near can.
