@@ -1,3 +1,4 @@
 mod Far
 mod Going
+mod Gone
 mod Listed

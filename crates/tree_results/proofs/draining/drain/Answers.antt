@@ -7,6 +7,7 @@ use Rattle.plan_tree.specs.Worlds.{Gathers}
 use Rattle.step_table.specs.Timed.{StepAt}
 use Rattle.result_rows.specs.Taken.{HasTaken, Kept}
 use Rattle.tree_results.proofs.Far.{all_taken, farther, nearer, stops, within_at}
+use Rattle.tree_results.proofs.Gone.{behind, faulted, given, lacking, made}
 use Rattle.tree_results.proofs.draining.drain.Goals as goal
 
 -- nothing was taken yet
@@ -32,6 +33,7 @@ loop-collected-init g c = (
   ),
   refl,
   λ start h. h,
+  c.turns_follow.ensures.none _,
 )
 
 pub returns-in-Some-clause-drained : goal.returns-in-Some-clause-drained
@@ -66,6 +68,7 @@ loop-collected-preserved g c =
           ),
       kept ∙ i.1,
       λ start h. c.in_ok-step.ensures.spent start (i.2 start h),
+      made c.turns_follow.ensures.follow c.in_ok-step.field-0 _ _ _ i.3 c.in_ok-step.ensures.run,
     )
 
 pub returns-clause-drained : goal.returns-clause-drained
@@ -98,3 +101,20 @@ returns-clause-bounded g c start h =
     let i = c.loop-collected.invariant in
     let known = c.requires.ready.0 in
     within_at c.args.store.now c.args.patterns.now known (shape_of c.args.tree.now.node) c.args.grid.now c.loop-collected.tree c.loop-collected.collected c.args.tree.now.walk start c.step.new.work (i.0 known c.requires.ready.1).1 c.requires.walk (c.step.ensures.bounded start (i.2 start h))
+
+-- ---- engines
+
+pub returns-in_err-step-clause-run : goal.returns-in_err-step-clause-run
+returns-in_err-step-clause-run g c =
+    behind c.turns_follow.ensures.follow c.from_residual.result _ _ _ c.loop-collected.invariant.3 (faulted _ c.from_residual.result _ _ c.from_residual.ensures.1 c.in_err-step.ensures.run)
+
+pub returns-in_err-outcome-clause-run : goal.returns-in_err-outcome-clause-run
+returns-in_err-outcome-clause-run g c =
+    let gone = made c.turns_follow.ensures.follow c.in_ok-step.field-0 _ _ _ c.loop-collected.invariant.3 c.in_ok-step.ensures.run in
+    lacking _ c.from_residual-in_err-outcome.result _ _ c.from_residual-in_err-outcome.ensures.1 c.in_err-outcome.ensures.memory gone
+
+pub returns-in-Some-clause-run : goal.returns-in-Some-clause-run
+returns-in-Some-clause-run g c = given _ _ _ (made c.turns_follow.ensures.follow c.in_ok-step.field-0 _ _ _ c.loop-collected.invariant.3 c.in_ok-step.ensures.run)
+
+pub returns-clause-run : goal.returns-clause-run
+returns-clause-run g c = given _ _ _ (made c.turns_follow.ensures.follow c.in_ok-step.field-0 _ _ _ c.loop-collected.invariant.3 c.in_ok-step.ensures.run)
