@@ -1,8 +1,10 @@
 -- The steps of a tree that gives what a plan means are those that the query's expression means.
 use Rattle.std.proofs.Common.{◌≡◌, ◌∙◌, zero, suc, Bool, List, [], ◌∷◌, Option, refl, sym, ap, ap₂, subst, arith}
-use Rattle.std.specs.Prelude.{ℤ, Result, IfOk, ⊤}
+use Rattle.std.specs.Prelude.{ℤ, Result, Ok, Err, IfErr, IfOk, IsErrAnd, ⊤}
 use Rattle.std.specs.List.{AllByRecursion, Contains}
 use Rattle.std.proofs.lemmas.List.Elements.{All-contains_itself, recursion_from_All}
+use Rattle.exchange.specs.declared.fault.RunFault.{RunFault}
+use Rattle.exchange.specs.declared.fault.RunFault.TheVariants as run
 use Rattle.label_set.specs.Entries.{recursion_map}
 use Rattle.logical_plan.specs.PlanMeaning.{plan_meaning, plan_step}
 use Rattle.logical_plan.specs.Placements.{TellApart}
@@ -21,9 +23,11 @@ use Rattle.promql_meaning.specs.declared.given.Given.{Given}
 use Rattle.promql_meaning.specs.declared.given.Given.TheVariants as given
 use Rattle.plan_parts.specs.declared.unbuilt.Unbuilt.{Unbuilt}
 use Rattle.plan_parts.specs.declared.unbuilt.Unbuilt.TheVariants.{Invalid, Memory}
+use Rattle.plan_tree.specs.Feeding.{HasGone}
 use Rattle.promql_type.specs.Replacements.{Kept}
 use Rattle.promql_type.specs.declared.replace.Replacement.{Replacement}
 use Rattle.query_places.specs.Apart.{StandApart}
+use Rattle.remote_api.specs.Seen.{EngineSeen}
 use Rattle.result_rows.specs.Judged.{CollectedIsJudged}
 use Rattle.result_rows.specs.Taken.{HasTaken, Kept as Taken, ordered_answer}
 use Rattle.step_table.specs.Timed.{StepAt, steps_over}
@@ -107,3 +111,33 @@ pub by_answer : (instant : Bool) (e : Expr) (kept : Taken) (steps meant : List S
 by_answer instant e kept steps meant answer scalar order judges taken is scalar_is order_is same =
     ap outcome.Answer (is ∙ ap (λ (s : Bool). ordered_answer s order steps) scalar_is ∙ ap (λ (o : Option ByValue). ordered_answer (gives_scalar e) o steps) order_is)
     ∙ judges instant e kept steps taken ∙ ap (λ (ss : List StepAt). judged instant e ss) same
+
+-- ---- engines
+
+-- what is known of a result that is told
+pub ok_at : {X E : Type 0} (P : X → Type 0) (r : Result X E) (x : X) → r ≡ Ok x → IfOk r P → P x
+ok_at P r x e h = subst (λ z. IfOk z P) e h
+
+-- a result of which more is known
+pub then_judged : {X E : Type 0} {P Q : X → Type 0} (r : Result X E) → IfOk r P → ((x : X) → P x → Q x) → IfOk r Q
+then_judged (Ok x) h f = f x h
+then_judged (Err e) h f = h
+
+-- what a call makes of engines, whatever it gives
+pub gone_given : {S T : Type 0} (x : S) (y : T) (es fs : List EngineSeen) → HasGone {T = S} (Ok x) es fs → HasGone {T = T} (Ok y) es fs
+gone_given x y es fs h = record { many = h.many; grown = h.grown; calm = h.calm; fault = tt }
+
+gone_as : (S T : Type 0) (fault : RunFault) (es fs : List EngineSeen) → HasGone {T = S} (Err fault) es fs → HasGone {T = T} (Err fault) es fs
+gone_as S T run.Memory es fs h = record { many = h.many; grown = h.grown; calm = tt; fault = tt }
+gone_as S T (run.EngineFault i) es fs h = record { many = h.many; grown = h.grown; calm = tt; fault = h.fault }
+gone_as S T (run.OutOfStep i expected got) es fs h = record { many = h.many; grown = h.grown; calm = tt; fault = h.fault }
+gone_as S T (run.WrongCell i at) es fs h = record { many = h.many; grown = h.grown; calm = tt; fault = h.fault }
+
+pub gone_fault : {S T : Type 0} (fault : RunFault) (r : Result T RunFault) (es fs : List EngineSeen) → IsErrAnd r (λ e. e ≡ fault) → HasGone {T = S} (Err fault) es fs → HasGone r es fs
+gone_fault fault (Ok x) es fs e h = absurd e
+gone_fault {S} {T} fault (Err x) es fs e h = subst (λ (z : RunFault). HasGone {T = T} (Err z) es fs) (sym e) (gone_as S T fault es fs h)
+
+-- want of memory behind it tells of no engine
+pub gone_on : {S T : Type 0} (x : S) (r : Result T RunFault) (es fs : List EngineSeen) → IfErr r (λ e. e ≡ run.Memory) → HasGone {T = S} (Ok x) es fs → HasGone r es fs
+gone_on x (Ok y) es fs m h = gone_given x y es fs h
+gone_on {S} {T} x (Err e) es fs m h = subst (λ (z : RunFault). HasGone {T = T} (Err z) es fs) (sym m) (record { many = h.many; grown = h.grown; calm = tt; fault = tt })

@@ -1,4 +1,5 @@
-use Rattle.std.proofs.Common.{◌≡◌, [], Some, subst, sym}
+use Rattle.std.proofs.Common.{◌≡◌, ℕ, List, [], ◌∷◌, Some, slice_get, subst, sym}
+use Rattle.exchange.specs.declared.request.Request.{Request}
 use Rattle.frac_text.specs.Times.{time_limit}
 use Rattle.logical_plan.specs.declared.nodes.Plan.{Plan}
 use Rattle.plan_tree.specs.Chains.{IsReady}
@@ -20,9 +21,14 @@ use Rattle.query_engine.proofs.Spent.{spends_both, spends_building, spends_nothi
 use Rattle.query_engine.proofs.Streamed.{never_invalid, over_kept, steps_are_meant}
 use Rattle.query_engine.proofs.streaming.answered.Goals as goal
 
+-- the tree asks no engine
+none_made : (requests : List Request) → requests ≡ [] → (k : ℕ) (r : Request) → slice_get requests k ≡ Some r → ⊥
+none_made [] e k r at = absurd (cc)
+none_made (q ∷ requests) e k r at = absurd (cc)
+
 -- the tree gives what the plan means, which is what the query means
-pub collected-requires-clause-gives : goal.collected-requires-clause-gives
-collected-requires-clause-gives g c =
+pub alone-requires-clause-gives : goal.alone-requires-clause-gives
+alone-requires-clause-gives g c =
     let store = c.args.store.now in
     let kept = c.args.patterns.now in
     let grid = c.args.grid.now in
@@ -32,17 +38,20 @@ collected-requires-clause-gives g c =
     let well_typed = subst (λ (e : Expr). (judged e).refusals ≡ []) c.expr.ensures.tree c.expr.ensures.well_typed in
     let placed = c.kept_patterns_are_placed.ensures kept (placed_of c.args.typed.now) tree well_typed c.requires.kept c.requires.apart in
     let stay = c.steady_onces_stay.ensures asked c.in_ok-plan.plan c.in_ok-plan.ensures.onces in
+    let none = c.in-Ok.ensures.alone (c.in_ok-plan.ensures.served kept hundred_years time_limit c.requires.within c.requires.kept) in
     subst (λ (k : Kept). steps_over (rule (over store) k shape) (grid_times grid) ≡ steps_over (meaning_step (asked_over store k grid) tree) (grid_times grid)) (sym c.build.ensures.same)
-    (steps_are_meant asked grid c.in_ok-plan.plan tree (rule (over store) kept shape) (c.grids_are_listed.ensures grid) (c.in-Ok.ensures.gives stay) (λ t. c.in_ok-plan.ensures.means asked t c.series.ensures.labelled placed))
+    (steps_are_meant asked grid c.in_ok-plan.plan tree (rule (over store) kept shape) (c.grids_are_listed.ensures grid) (c.in-Ok.ensures.gives [] no_gathers (λ k r t at served. absurd (none_made c.in-Ok.tree.exchange.requests none k r at)) stay)
+    (λ t. c.in_ok-plan.ensures.means asked t c.series.ensures.labelled placed))
 
--- it asks no engine
-pub collected-requires-clause-ready : goal.collected-requires-clause-ready
-collected-requires-clause-ready g c = λ es. subst (λ (k : Kept). IsReady c.args.store.now k (Some no_gathers) es c.in-Ok.tree) (sym c.build.ensures.same) (c.in-Ok.ensures.ready es)
+pub alone-requires-clause-ready : goal.alone-requires-clause-ready
+alone-requires-clause-ready g c = λ es.
+    let none = c.in-Ok.ensures.alone (c.in_ok-plan.ensures.served c.args.patterns.now hundred_years time_limit c.requires.within c.requires.kept) in
+    subst (λ (k : Kept). IsReady c.args.store.now k (Some no_gathers) es c.in-Ok.tree) (sym c.build.ensures.same) (c.in-Ok.ensures.ready none es)
 
 -- the outcome is that over the patterns that were kept before
 pub returns-in-Ok-clause-result : goal.returns-in-Ok-clause-result
 returns-in-Ok-clause-result g c =
-    over_kept c.args.store.now c.args.patterns.now c.build.new.patterns (tree_of c.args.typed.now) c.args.grid.now c.args.instant c.collected.result c.build.ensures.same c.collected.ensures.result
+    over_kept c.args.store.now c.args.patterns.now c.build.new.patterns (tree_of c.args.typed.now) c.args.grid.now c.args.instant c.alone.result c.build.ensures.same c.alone.ensures.result
 
 -- nothing was spent yet
 pub returns-in_err-plan-clause-bounded : goal.returns-in_err-plan-clause-bounded
@@ -63,10 +72,10 @@ returns-in-Ok-clause-bounded g c =
     let asked = asked_over c.args.store.now c.args.patterns.now grid in
     let p = c.in_ok-plan.plan in
     let tree = c.in-Ok.tree in
-    let reads = tree_reads asked grid p tree c.build.new.work c.collected.new.work c.fresh_trees_begin.ensures c.spending_stays_within.ensures (c.grids_are_listed.ensures grid)
-    c.in-Ok.ensures.fed c.in-Ok.ensures.fresh c.in-Ok.ensures.walk c.in-Ok.ensures.within c.collected.ensures.bounded in
-    subst (λ (q : Plan). SpendsAtMost asked grid q c.args.work.now c.collected.new.work) c.in_ok-plan.ensures.plan
-    (spends_both asked grid p c.args.work.now c.build.new.work c.collected.new.work c.build.ensures.tested reads)
+    let reads = tree_reads asked grid p tree c.build.new.work c.alone.new.work c.fresh_trees_begin.ensures c.spending_stays_within.ensures (c.grids_are_listed.ensures grid)
+    c.in-Ok.ensures.fed c.in-Ok.ensures.fresh c.in-Ok.ensures.walk c.in-Ok.ensures.within c.alone.ensures.bounded in
+    subst (λ (q : Plan). SpendsAtMost asked grid q c.args.work.now c.alone.new.work) c.in_ok-plan.ensures.plan
+    (spends_both asked grid p c.args.work.now c.build.new.work c.alone.new.work c.build.ensures.tested reads)
 
 -- the plan is valid, and kernels serve it
 pub unreachable-requires : goal.unreachable-requires
@@ -76,6 +85,6 @@ unreachable-requires g c =
     (record {
       valid = c.in_ok-plan.ensures.valid hundred_years time_limit c.requires.limits;
       number = c.in_ok-plan.ensures.numbers;
-      served = c.in_ok-plan.ensures.served c.args.patterns.now hundred_years time_limit c.requires.within c.requires.kept;
+      served = c.served_plans_are_served_over.ensures c.args.patterns.now c.in_ok-plan.plan (c.in_ok-plan.ensures.served c.args.patterns.now hundred_years time_limit c.requires.within c.requires.kept);
     })
     tt)
