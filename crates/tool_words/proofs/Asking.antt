@@ -5,28 +5,27 @@ use Rattle.std.specs.Str.{bytes_eq}
 use Rattle.std.proofs.lemmas.Slice.Eq.{bytes_eq-Decides}
 use Rattle.std.proofs.lemmas.Result.{IfOk-weaker}
 use Rattle.clap.specs.declared.parser.matches.ArgMatches.{ArgMatches}
-use Rattle.tool_words.specs.Asked.{AsksForBatch, AsksForEdges, BatchesAreAskedFor, EdgesAreAskedFor, Wish, asked, batch_in, batch_of, choices_in, choices_of, closed_edges, edges_in, edges_named, edges_of, explain, explain_at, explain_of, explain_worded, format, format_of, format_worded, if_grid, moments_of, query, query_at, query_of, query_worded, number_of, open_edges, opts_in, said_batch, test, test_at, test_of, test_worded, time_of, moment_at, range_of, unsaid, unsaid_batch, workload, workload_at, workload_of, workload_worded}
+use Rattle.tool_words.specs.Asked.{AsksForBatch, AsksForEdges, BatchesAreAskedFor, EdgesAreAskedFor, Wish, asked, batch_in, batch_of, choices_in, choices_of, closed_edges, edges_in, edges_named, edges_of, engines_in, explain, explain_at, explain_of, explain_worded, format, format_of, format_worded, if_grid, moments_of, query, query_at, query_of, query_worded, number_of, open_edges, opts_in, said_batch, test, test_at, test_of, test_worded, time_of, moment_at, range_of, unsaid, unsaid_batch, workload, workload_at, workload_of, workload_worded}
 use Rattle.ticks.specs.Moments.{Moments, is_grid}
+use Rattle.tool_words.specs.Engines.{AreDeclaredTo, Labels}
 use Rattle.tool_words.specs.Said.{Item, Text, places_of, said, value_of}
 use Rattle.tool_words.specs.Tells.{Holds, Tells}
-use Rattle.tool_words.specs.Views.{AreInBatches, HasBatch, HasFiles, HasSeries, IsOneInstant, wish_of}
+use Rattle.tool_words.specs.Views.{AreInBatches, HasBatch, HasEngines, HasFiles, HasSeries, IsOneInstant, wish_of}
 use Rattle.tool_words.specs.declared.asked.Asked.{Asked}
 use Rattle.tool_words.specs.declared.asked.Asked.TheVariants as wanted
 use Rattle.tool_words.specs.declared.asked.Choices.{Choices}
 use Rattle.tool_words.specs.declared.asked.Optimisers.{Optimisers}
 use Rattle.ticks.specs.declared.moment.Ms.{Ms}
 use Rattle.tool_words.proofs.Counts.{number_counted, number_is, spelled_number}
+use Rattle.tool_words.proofs.Declaring.{declared_to}
 
 pub answered : {E : Type 0} (m : ArgMatches) (said : Option (List Item)) (r : Result (Option Asked) E) (of : List Item → Option Wish) → Tells (Some m) said
     → ((items : List Item) → Holds m items → IfOk r (λ asked. option_map wish_of asked ≡ of items)) → IfOk r (λ asked. option_map wish_of asked ≡ option_and_then of said)
 answered m said r of tells judged =
     IfOk-weaker r _ _ (λ asked h. h ∙ sym (ap (option_and_then of) tells.1)) (judged tells.0 tells.2)
 
-pub told : (m : ArgMatches) (said : Option (List Item)) (o : Option Asked) (of : List Item → Option Wish) → Tells (Some m) said
-    → ((items : List Item) → Holds m items → option_map wish_of o ≡ of items) → option_map wish_of o ≡ option_and_then of said
-told m said o of tells judged = judged tells.0 tells.2 ∙ sym (ap (option_and_then of) tells.1)
-
--- ---- what is asked for has files, an instant query has one instant, a workload has series, and batches have instants
+-- ---- what is asked for has files, an instant query has one instant, a workload has series, batches have instants, and engines may be
+-- declared to the boxes
 
 abbrev Alone : Moments → Type 0
 Alone m = m.instant ≡ true → m.start ≡ m.end
@@ -34,12 +33,12 @@ Alone m = m.instant ≡ true → m.start ≡ m.end
 abbrev Counted : ℕ → ℕ → Type 0
 Counted most n = (0 < n) × (n ≤ most)
 
-abbrev Sound : Wish → Type 0
-Sound (test choices files) = AreInBatches choices × (0 < length files)
-Sound (query choices moments file expr) = AreInBatches choices × Alone moments
-Sound (workload choices count) = AreInBatches choices × Counted 20000 count
-Sound (format expr) = ⊤
-Sound (explain optimisers expr) = ⊤
+abbrev Sound : ℕ → Wish → Type 0
+Sound boxes (test choices engines files) = AreInBatches choices × AreDeclaredTo boxes engines × (0 < length files)
+Sound boxes (query choices engines moments file expr) = AreInBatches choices × AreDeclaredTo boxes engines × Alone moments
+Sound boxes (workload choices engines count) = AreInBatches choices × AreDeclaredTo boxes engines × Counted 20000 count
+Sound boxes (format expr) = ⊤
+Sound boxes (explain optimisers engines expr) = AreDeclaredTo boxes engines
 
 batch_counted : (value : Option Text) → IfSome (batch_of value) (Counted 1024)
 batch_counted None = (omega arith, omega arith)
@@ -79,105 +78,125 @@ moments_alone (Some at) None None None = moment_alone (time_of at)
 moments_alone None (Some from) (Some to) (Some step) = range_alone (time_of from) (time_of to) (time_of step)
 moments_alone _ _ _ _ = tt
 
-test_sound : (choices : Choices) → AreInBatches choices → (words : List Text) → IfSome (test_worded choices words) Sound
-test_sound choices few [] = tt
-test_sound choices few (file ∷ files) = (few, omega arith)
+module _ (boxes : ℕ) where
+  declared : (items : List Item) → IfSome (engines_in boxes items) (AreDeclaredTo boxes)
+  declared items = declared_to boxes (value_of (codes "engines") items)
 
-test_chosen : (choices : Option Choices) → IfSome choices AreInBatches → (words : List Text) → IfSome (test_at choices words) Sound
-test_chosen None few words = tt
-test_chosen (Some choices) few words = test_sound choices few words
+  module _ (choices : Choices) (few : AreInBatches choices) (engines : List Labels) (may : AreDeclaredTo boxes engines) where
+    test_sound : (words : List Text) → IfSome (test_worded choices engines words) (Sound boxes)
+    test_sound [] = tt
+    test_sound (file ∷ files) = (few, may, omega arith)
 
-query_sound : (choices : Choices) → AreInBatches choices → (m : Moments) → Alone m → (words : List Text) → IfSome (query_worded choices m words) Sound
-query_sound choices few m alone (file ∷ expr ∷ []) = (few, alone)
-query_sound choices few m alone _ = tt
+    query_sound : (m : Moments) → Alone m → (words : List Text) → IfSome (query_worded choices engines m words) (Sound boxes)
+    query_sound m alone (file ∷ expr ∷ []) = (few, may, alone)
+    query_sound m alone _ = tt
 
-query_chosen : (choices : Option Choices) → IfSome choices AreInBatches → (m : Option Moments) → IfSome m Alone → (words : List Text) → IfSome (query_at choices m words) Sound
-query_chosen None few m alone words = tt
-query_chosen (Some choices) few None alone words = tt
-query_chosen (Some choices) few (Some m) alone words = query_sound choices few m alone words
+    counted : (n : Option ℕ) → IfSome n (Counted 20000) → IfSome (option_map (workload choices engines) n) (Sound boxes)
+    counted None h = tt
+    counted (Some n) h = (few, may, h)
 
-counted : (choices : Choices) → AreInBatches choices → (n : Option ℕ) → IfSome n (Counted 20000) → IfSome (option_map (workload choices) n) Sound
-counted choices few None h = tt
-counted choices few (Some n) h = (few, h)
+    workload_sound : (words : List Text) → IfSome (workload_worded choices engines words) (Sound boxes)
+    workload_sound (count ∷ []) = counted (number_of 20000 count) (number_counted 20000 count)
+    workload_sound _ = tt
 
-workload_sound : (choices : Choices) → AreInBatches choices → (words : List Text) → IfSome (workload_worded choices words) Sound
-workload_sound choices few (count ∷ []) = counted choices few (number_of 20000 count) (number_counted 20000 count)
-workload_sound choices few _ = tt
+  test_chosen : (choices : Option Choices) → IfSome choices AreInBatches → (engines : Option (List Labels)) → IfSome engines (AreDeclaredTo boxes) → (words : List Text)
+      → IfSome (test_at choices engines words) (Sound boxes)
+  test_chosen None few engines may words = tt
+  test_chosen (Some choices) few None may words = tt
+  test_chosen (Some choices) few (Some engines) may words = test_sound choices few engines may words
 
-workload_chosen : (choices : Option Choices) → IfSome choices AreInBatches → (words : List Text) → IfSome (workload_at choices words) Sound
-workload_chosen None few words = tt
-workload_chosen (Some choices) few words = workload_sound choices few words
+  query_chosen : (choices : Option Choices) → IfSome choices AreInBatches → (engines : Option (List Labels)) → IfSome engines (AreDeclaredTo boxes) → (m : Option Moments) → IfSome m Alone → (words : List Text)
+      → IfSome (query_at choices engines m words) (Sound boxes)
+  query_chosen None few engines may m alone words = tt
+  query_chosen (Some choices) few None may m alone words = tt
+  query_chosen (Some choices) few (Some engines) may None alone words = tt
+  query_chosen (Some choices) few (Some engines) may (Some m) alone words = query_sound choices few engines may m alone words
 
-format_sound : (words : List Text) → IfSome (format_worded words) Sound
-format_sound (expr ∷ []) = tt
-format_sound _ = tt
+  workload_chosen : (choices : Option Choices) → IfSome choices AreInBatches → (engines : Option (List Labels)) → IfSome engines (AreDeclaredTo boxes) → (words : List Text)
+      → IfSome (workload_at choices engines words) (Sound boxes)
+  workload_chosen None few engines may words = tt
+  workload_chosen (Some choices) few None may words = tt
+  workload_chosen (Some choices) few (Some engines) may words = workload_sound choices few engines may words
 
-explain_sound : (optimisers : Optimisers) (words : List Text) → IfSome (explain_worded optimisers words) Sound
-explain_sound optimisers (expr ∷ []) = tt
-explain_sound optimisers _ = tt
+  format_sound : (words : List Text) → IfSome (format_worded words) (Sound boxes)
+  format_sound (expr ∷ []) = tt
+  format_sound _ = tt
 
-explain_chosen : (optimisers : Option Optimisers) (words : List Text) → IfSome (explain_at optimisers words) Sound
-explain_chosen None words = tt
-explain_chosen (Some optimisers) words = explain_sound optimisers words
+  explain_sound : (optimisers : Optimisers) (engines : List Labels) → AreDeclaredTo boxes engines → (words : List Text) → IfSome (explain_worded optimisers engines words) (Sound boxes)
+  explain_sound optimisers engines may (expr ∷ []) = may
+  explain_sound optimisers engines may _ = tt
 
--- what the items of each command ask for
-pub tests_sound : (said : Option (List Item)) → IfSome (option_and_then test_of said) Sound
-tests_sound None = tt
-tests_sound (Some items) = test_chosen (choices_in items) (chosen items) (places_of items)
+  explain_chosen : (optimisers : Option Optimisers) (engines : Option (List Labels)) → IfSome engines (AreDeclaredTo boxes) → (words : List Text) → IfSome (explain_at optimisers engines words) (Sound boxes)
+  explain_chosen None engines may words = tt
+  explain_chosen (Some optimisers) None may words = tt
+  explain_chosen (Some optimisers) (Some engines) may words = explain_sound optimisers engines may words
 
-pub queries_sound : (said : Option (List Item)) → IfSome (option_and_then query_of said) Sound
-queries_sound None = tt
-queries_sound (Some items) = query_chosen (choices_in items) (chosen items) _
-    (moments_alone (value_of (codes "at") items) (value_of (codes "from") items) (value_of (codes "to") items) (value_of (codes "step") items)) (places_of items)
+  -- what the items of each command ask for
+  pub tests_sound : (said : Option (List Item)) → IfSome (option_and_then (test_of boxes) said) (Sound boxes)
+  tests_sound None = tt
+  tests_sound (Some items) = test_chosen (choices_in items) (chosen items) (engines_in boxes items) (declared items) (places_of items)
 
-pub workloads_sound : (said : Option (List Item)) → IfSome (option_and_then workload_of said) Sound
-workloads_sound None = tt
-workloads_sound (Some items) = workload_chosen (choices_in items) (chosen items) (places_of items)
+  pub queries_sound : (said : Option (List Item)) → IfSome (option_and_then (query_of boxes) said) (Sound boxes)
+  queries_sound None = tt
+  queries_sound (Some items) = query_chosen (choices_in items) (chosen items) (engines_in boxes items) (declared items) _
+      (moments_alone (value_of (codes "at") items) (value_of (codes "from") items) (value_of (codes "to") items) (value_of (codes "step") items)) (places_of items)
 
-pub formats_sound : (said : Option (List Item)) → IfSome (option_and_then format_of said) Sound
-formats_sound None = tt
-formats_sound (Some items) = format_sound (places_of items)
+  pub workloads_sound : (said : Option (List Item)) → IfSome (option_and_then (workload_of boxes) said) (Sound boxes)
+  workloads_sound None = tt
+  workloads_sound (Some items) = workload_chosen (choices_in items) (chosen items) (engines_in boxes items) (declared items) (places_of items)
 
-pub explains_sound : (said : Option (List Item)) → IfSome (option_and_then explain_of said) Sound
-explains_sound None = tt
-explains_sound (Some items) = explain_chosen (opts_in items) (places_of items)
+  pub formats_sound : (said : Option (List Item)) → IfSome (option_and_then format_of said) (Sound boxes)
+  formats_sound None = tt
+  formats_sound (Some items) = format_sound (places_of items)
+
+  pub explains_sound : (said : Option (List Item)) → IfSome (option_and_then (explain_of boxes) said) (Sound boxes)
+  explains_sound None = tt
+  explains_sound (Some items) = explain_chosen (opts_in items) (engines_in boxes items) (declared items) (places_of items)
 
 -- what an answer stands for is sound, so the answer is
-module _ (w : Option Wish) (sound : IfSome w Sound) where
-  sound_too : (asked : Asked) → Some (wish_of asked) ≡ w → Sound (wish_of asked)
-  sound_too asked is = subst (λ (w : Option Wish). IfSome w Sound) (sym is) sound
+module _ (boxes : ℕ) (w : Option Wish) (sound : IfSome w (Sound boxes)) where
+  sound_too : (asked : Asked) → Some (wish_of asked) ≡ w → Sound boxes (wish_of asked)
+  sound_too asked is = subst (λ (w : Option Wish). IfSome w (Sound boxes)) (sym is) sound
 
   has_files : (o : Option Asked) → option_map wish_of o ≡ w → IfSome o HasFiles
   has_files None is = tt
-  has_files (Some (wanted.Test choices files)) is = (sound_too (wanted.Test choices files) is).1
-  has_files (Some (wanted.Query choices grid instant file expr)) is = tt
-  has_files (Some (wanted.Workload choices count)) is = tt
+  has_files (Some (wanted.Test choices engines files)) is = (sound_too (wanted.Test choices engines files) is).2
+  has_files (Some (wanted.Query choices engines grid instant file expr)) is = tt
+  has_files (Some (wanted.Workload choices engines count)) is = tt
   has_files (Some (wanted.Format expr)) is = tt
-  has_files (Some (wanted.Explain optimisers expr)) is = tt
+  has_files (Some (wanted.Explain optimisers engines expr)) is = tt
 
   is_one_instant : (o : Option Asked) → option_map wish_of o ≡ w → IfSome o IsOneInstant
   is_one_instant None is = tt
-  is_one_instant (Some (wanted.Test choices files)) is = tt
-  is_one_instant (Some (wanted.Query choices grid instant file expr)) is = (sound_too (wanted.Query choices grid instant file expr) is).1
-  is_one_instant (Some (wanted.Workload choices count)) is = tt
+  is_one_instant (Some (wanted.Test choices engines files)) is = tt
+  is_one_instant (Some (wanted.Query choices engines grid instant file expr)) is = (sound_too (wanted.Query choices engines grid instant file expr) is).2
+  is_one_instant (Some (wanted.Workload choices engines count)) is = tt
   is_one_instant (Some (wanted.Format expr)) is = tt
-  is_one_instant (Some (wanted.Explain optimisers expr)) is = tt
+  is_one_instant (Some (wanted.Explain optimisers engines expr)) is = tt
 
   has_series : (o : Option Asked) → option_map wish_of o ≡ w → IfSome o HasSeries
   has_series None is = tt
-  has_series (Some (wanted.Test choices files)) is = tt
-  has_series (Some (wanted.Query choices grid instant file expr)) is = tt
-  has_series (Some (wanted.Workload choices count)) is = (sound_too (wanted.Workload choices count) is).1
+  has_series (Some (wanted.Test choices engines files)) is = tt
+  has_series (Some (wanted.Query choices engines grid instant file expr)) is = tt
+  has_series (Some (wanted.Workload choices engines count)) is = (sound_too (wanted.Workload choices engines count) is).2
   has_series (Some (wanted.Format expr)) is = tt
-  has_series (Some (wanted.Explain optimisers expr)) is = tt
+  has_series (Some (wanted.Explain optimisers engines expr)) is = tt
 
   has_batch : (o : Option Asked) → option_map wish_of o ≡ w → IfSome o HasBatch
   has_batch None is = tt
-  has_batch (Some (wanted.Test choices files)) is = (sound_too (wanted.Test choices files) is).0
-  has_batch (Some (wanted.Query choices grid instant file expr)) is = (sound_too (wanted.Query choices grid instant file expr) is).0
-  has_batch (Some (wanted.Workload choices count)) is = (sound_too (wanted.Workload choices count) is).0
+  has_batch (Some (wanted.Test choices engines files)) is = (sound_too (wanted.Test choices engines files) is).0
+  has_batch (Some (wanted.Query choices engines grid instant file expr)) is = (sound_too (wanted.Query choices engines grid instant file expr) is).0
+  has_batch (Some (wanted.Workload choices engines count)) is = (sound_too (wanted.Workload choices engines count) is).0
   has_batch (Some (wanted.Format expr)) is = tt
-  has_batch (Some (wanted.Explain optimisers expr)) is = tt
+  has_batch (Some (wanted.Explain optimisers engines expr)) is = tt
+
+  has_engines : (o : Option Asked) → option_map wish_of o ≡ w → IfSome o (HasEngines boxes)
+  has_engines None is = tt
+  has_engines (Some (wanted.Test choices engines files)) is = (sound_too (wanted.Test choices engines files) is).1
+  has_engines (Some (wanted.Query choices engines grid instant file expr)) is = (sound_too (wanted.Query choices engines grid instant file expr) is).1
+  has_engines (Some (wanted.Workload choices engines count)) is = (sound_too (wanted.Workload choices engines count) is).1
+  has_engines (Some (wanted.Format expr)) is = tt
+  has_engines (Some (wanted.Explain optimisers engines expr)) is = sound_too (wanted.Explain optimisers engines expr) is
 
   pub some_files : {E : Type 0} (r : Result (Option Asked) E) → IfOk r (λ asked. option_map wish_of asked ≡ w) → IfOk r (λ asked. IfSome asked HasFiles)
   some_files r read = IfOk-weaker r _ _ has_files read
@@ -191,6 +210,9 @@ module _ (w : Option Wish) (sound : IfSome w Sound) where
   pub in_batches : {E : Type 0} (r : Result (Option Asked) E) → IfOk r (λ asked. option_map wish_of asked ≡ w) → IfOk r (λ asked. IfSome asked HasBatch)
   in_batches r read = IfOk-weaker r _ _ has_batch read
 
+  pub engines_declared : {E : Type 0} (r : Result (Option Asked) E) → IfOk r (λ asked. option_map wish_of asked ≡ w) → IfOk r (λ asked. IfSome asked (HasEngines boxes))
+  engines_declared r read = IfOk-weaker r _ _ has_engines read
+
 -- ---- words that name no command
 
 apart : (x y : Text) → (x ≡ y → ⊥) → bytes_eq x y ≡ false
@@ -200,17 +222,17 @@ apart x y other = go (bytes_eq x y) refl
     go true e = absurd (other ((bytes_eq-Decides x y).0 e))
     go false e = e
 
-unnamed : (command : Text) (rest : List Text) → (command ≡ codes "promqltest" → ⊥) → (command ≡ codes "query" → ⊥)
-    → (command ≡ codes "workload" → ⊥) → (command ≡ codes "format" → ⊥) → (command ≡ codes "explain" → ⊥) → None ≡ asked (command ∷ rest)
-unnamed command rest no_test no_query no_workload no_format no_explain =
+unnamed : (boxes : ℕ) (command : Text) (rest : List Text) → (command ≡ codes "promqltest" → ⊥) → (command ≡ codes "query" → ⊥)
+    → (command ≡ codes "workload" → ⊥) → (command ≡ codes "format" → ⊥) → (command ≡ codes "explain" → ⊥) → None ≡ asked boxes (command ∷ rest)
+unnamed boxes command rest no_test no_query no_workload no_format no_explain =
     rw (apart command (codes "promqltest") no_test, apart command (codes "query") no_query, apart command (codes "workload") no_workload, apart command (codes "format") no_format, apart command (codes "explain") no_explain) refl
 
-pub no_command : {Z : Type 0} (words : List (String Z)) (first : String Z) (command : Text) → Some first ≡ slice_get words 0 → command ≡ string_bytes first
-    → (command ≡ codes "promqltest" → ⊥) → (command ≡ codes "query" → ⊥) → (command ≡ codes "workload" → ⊥) → (command ≡ codes "format" → ⊥) → (command ≡ codes "explain" → ⊥) → None ≡ asked (map string_bytes words)
-no_command [] first command is value no_test no_query no_workload no_format no_explain = absurd (cc)
-no_command (word ∷ words) first command is value no_test no_query no_workload no_format no_explain =
+pub no_command : {Z : Type 0} (boxes : ℕ) (words : List (String Z)) (first : String Z) (command : Text) → Some first ≡ slice_get words 0 → command ≡ string_bytes first
+    → (command ≡ codes "promqltest" → ⊥) → (command ≡ codes "query" → ⊥) → (command ≡ codes "workload" → ⊥) → (command ≡ codes "format" → ⊥) → (command ≡ codes "explain" → ⊥) → None ≡ asked boxes (map string_bytes words)
+no_command boxes [] first command is value no_test no_query no_workload no_format no_explain = absurd (cc)
+no_command boxes (word ∷ words) first command is value no_test no_query no_workload no_format no_explain =
     let same : string_bytes word ≡ command = ap string_bytes (let e : word ≡ first = cc in e) ∙ sym value in
-    unnamed (string_bytes word) (map string_bytes words) (λ e. no_test (sym same ∙ e)) (λ e. no_query (sym same ∙ e)) (λ e. no_workload (sym same ∙ e)) (λ e. no_format (sym same ∙ e)) (λ e. no_explain (sym same ∙ e))
+    unnamed boxes (string_bytes word) (map string_bytes words) (λ e. no_test (sym same ∙ e)) (λ e. no_query (sym same ∙ e)) (λ e. no_workload (sym same ∙ e)) (λ e. no_format (sym same ∙ e)) (λ e. no_explain (sym same ∙ e))
 
 -- ---- the edges that are asked for
 

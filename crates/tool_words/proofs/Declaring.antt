@@ -1,8 +1,9 @@
 -- Pairs, sets and lists of `--engines`.
 use Rattle.std.proofs.Common.{◌≡◌, ◌<◌, ◌≤◌, ◌+◌, ◌∙◌, ◌&&◌, ◌||◌, ◌==◌, ℕ, Bool, true, false, not, refl, sym, ap, subst, arith, List, [], ◌∷◌, ◌++◌, map, length, drop, get_or, Option, Some, None, Result, append_assoc, append-nil, bytes_eq}
-use Rattle.std.specs.Prelude.{IfOk, IfSome, is_some, slice_get, option_and_then, option_map, if◌then◌else◌}
+use Rattle.std.specs.Prelude.{IfOk, IfSome, is_some, nat_le, slice_get, option_and_then, option_map, if◌then◌else◌}
 use Rattle.std.specs.List.{AllByRecursion, IsDistinct, after_first, list_all, list_any, position_or_len, slice_split}
 use Rattle.std.specs.Map.{keys_of}
+use Rattle.std.proofs.lemmas.Bool.{leb-true}
 use Rattle.std.proofs.lemmas.List.{drop_all, drop_more}
 use Rattle.std.proofs.lemmas.List.Splits.{length-slice_split}
 use Rattle.std.proofs.lemmas.Option.{get_or_from_slice_get, slice_get_within}
@@ -12,7 +13,7 @@ use Rattle.label_set.specs.Entries.{all_keys_insert}
 use Rattle.label_set.specs.LabelEquality.{labels_eq}
 use Rattle.label_set.specs.Labels.{byte_cmp, is_named, metric_name, put_refusal, with_pair}
 use Rattle.tool_words.specs.Said.{Text, name_in}
-use Rattle.tool_words.specs.Engines.{AreDeclarable, Labels, all_labels_in, are_distinct, engines_named, have_same_names, if_apart, is_declarable, labels_in, pair_in, pairs_listed, sets_listed, tell_apart, with_declared, with_pair_in, with_pairs_in}
+use Rattle.tool_words.specs.Engines.{AreDeclarable, AreDeclaredTo, Labels, all_labels_in, are_distinct, engines_named, engines_of, have_same_names, if_apart, is_declarable, labels_in, pair_in, pairs_listed, sets_listed, tell_apart, with_declared, with_pair_in, with_pairs_in}
 
 -- ---- a pair
 
@@ -222,16 +223,44 @@ apart sets (first ∷ others) l of e = go (list_all (have_same_names first) othe
 some_set : (p : ℕ → Bool) (text : Text) → 0 < length (slice_split p text)
 some_set p text = omega (arith, length-slice_split p text)
 
-are_declarable : (list : Text) → IfSome (engines_named list) AreDeclarable
-are_declarable list = go (all_labels_in (sets_listed list)) (of_sets (sets_listed list))
+-- what boxes may be declared to, and no more of it than boxes
+record AreOfBoxes (boxes : ℕ) (all : List Labels) : Type 0 where
+  pub few : length all ≤ boxes
+  pub declarable : AreDeclarable all
+
+are_of_boxes : (boxes : ℕ) (list : Text) → IfSome (engines_named boxes list) (AreOfBoxes boxes)
+are_of_boxes boxes list = counted (nat_le (length (sets_listed list)) boxes) refl
   where
-    kept : (all : List Labels) → AreOf (sets_listed list) all → (b : Bool) → tell_apart all ≡ b → IfSome (if b then Some all else None) AreDeclarable
-    kept all of true e = apart (sets_listed list) all (some_set (λ b. b == 59) list) of e
-    kept all of false e = tt
+    kept : length (sets_listed list) ≤ boxes → (all : List Labels) → AreOf (sets_listed list) all → (b : Bool) → tell_apart all ≡ b → IfSome (if b then Some all else None) (AreOfBoxes boxes)
+    kept few all of true e = record {
+      few = omega (arith, few, of.as_many);
+      declarable = apart (sets_listed list) all (some_set (λ b. b == 59) list) of e;
+    }
+    kept few all of false e = tt
 
-    go : (o : Option (List Labels)) → IfSome o (AreOf (sets_listed list)) → IfSome (option_and_then if_apart o) AreDeclarable
-    go None of = tt
-    go (Some all) of = kept all of (tell_apart all) refl
+    go : length (sets_listed list) ≤ boxes → (o : Option (List Labels)) → IfSome o (AreOf (sets_listed list)) → IfSome (option_and_then if_apart o) (AreOfBoxes boxes)
+    go few None of = tt
+    go few (Some all) of = kept few all of (tell_apart all) refl
 
-pub all_declarable : {E : Type 0} (list : Text) (r : Result (Option (List Labels)) E) → IfOk r (λ engines. engines ≡ engines_named list) → IfOk r (λ engines. IfSome engines AreDeclarable)
-all_declarable list r named = IfOk-weaker r _ _ (λ engines e. subst (λ (o : Option (List Labels)). IfSome o AreDeclarable) (sym e) (are_declarable list)) named
+    counted : (b : Bool) → nat_le (length (sets_listed list)) boxes ≡ b
+        → IfSome (if b then option_and_then if_apart (all_labels_in (sets_listed list)) else None) (AreOfBoxes boxes)
+    counted true e = go (leb-true (length (sets_listed list)) boxes e) (all_labels_in (sets_listed list)) (of_sets (sets_listed list))
+    counted false e = tt
+
+of_boxes : {E : Type 0} (boxes : ℕ) (list : Text) (r : Result (Option (List Labels)) E) → IfOk r (λ engines. engines ≡ engines_named boxes list) → IfOk r (λ engines. IfSome engines (AreOfBoxes boxes))
+of_boxes boxes list r named = IfOk-weaker r _ _ (λ engines e. subst (λ (o : Option (List Labels)). IfSome o (AreOfBoxes boxes)) (sym e) (are_of_boxes boxes list)) named
+
+each_some : {P Q : List Labels → Type 0} → ((all : List Labels) → P all → Q all) → (o : Option (List Labels)) → IfSome o P → IfSome o Q
+each_some follows None p = tt
+each_some follows (Some all) p = follows all p
+
+pub all_declarable : {E : Type 0} (boxes : ℕ) (list : Text) (r : Result (Option (List Labels)) E) → IfOk r (λ engines. engines ≡ engines_named boxes list) → IfOk r (λ engines. IfSome engines AreDeclarable)
+all_declarable boxes list r named = IfOk-weaker r _ _ (each_some (λ all of. of.declarable)) (of_boxes boxes list r named)
+
+pub all_few : {E : Type 0} (boxes : ℕ) (list : Text) (r : Result (Option (List Labels)) E) → IfOk r (λ engines. engines ≡ engines_named boxes list) → IfOk r (λ engines. IfSome engines (λ all. length all ≤ boxes))
+all_few boxes list r named = IfOk-weaker r _ _ (each_some (λ all of. of.few)) (of_boxes boxes list r named)
+
+-- without the option none is declared, with it what the list declares
+pub declared_to : (boxes : ℕ) (value : Option Text) → IfSome (engines_of boxes value) (AreDeclaredTo boxes)
+declared_to boxes None = record { few = omega arith; declarable = λ some. absurd (omega (arith, some)) }
+declared_to boxes (Some list) = each_some (λ all of. record { few = of.few; declarable = λ some. of.declarable }) (engines_named boxes list) (are_of_boxes boxes list)

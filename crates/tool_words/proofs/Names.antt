@@ -19,21 +19,26 @@ one_more n names is others name among = go (bytes_eq n name) refl
 
 pub test_names : AreNames test_options
 test_names =
-    one_more (codes "edges") (codes "batch" ∷ codes "opts" ∷ []) (record { some = omega arith; plain = refl })
-    (one_more (codes "batch") (codes "opts" ∷ []) (record { some = omega arith; plain = refl })
-    (one_more (codes "opts") [] (record { some = omega arith; plain = refl })
-    no_names))
+    one_more (codes "edges") (codes "batch" ∷ codes "opts" ∷ codes "engines" ∷ []) (record { some = omega arith; plain = refl })
+    (one_more (codes "batch") (codes "opts" ∷ codes "engines" ∷ []) (record { some = omega arith; plain = refl })
+    (one_more (codes "opts") (codes "engines" ∷ []) (record { some = omega arith; plain = refl })
+    (one_more (codes "engines") [] (record { some = omega arith; plain = refl })
+    no_names)))
 
 pub query_names : AreNames query_options
 query_names =
-    one_more (codes "edges") (codes "batch" ∷ codes "opts" ∷ codes "at" ∷ codes "from" ∷ codes "to" ∷ codes "step" ∷ []) (record { some = omega arith; plain = refl })
-    (one_more (codes "batch") (codes "opts" ∷ codes "at" ∷ codes "from" ∷ codes "to" ∷ codes "step" ∷ []) (record { some = omega arith; plain = refl })
-    (one_more (codes "opts") (codes "at" ∷ codes "from" ∷ codes "to" ∷ codes "step" ∷ []) (record { some = omega arith; plain = refl })
+    one_more (codes "edges") (codes "batch" ∷ codes "opts" ∷ codes "engines" ∷ codes "at" ∷ codes "from" ∷ codes "to" ∷ codes "step" ∷ []) (record { some = omega arith; plain = refl })
+    (one_more (codes "batch") (codes "opts" ∷ codes "engines" ∷ codes "at" ∷ codes "from" ∷ codes "to" ∷ codes "step" ∷ []) (record { some = omega arith; plain = refl })
+    (one_more (codes "opts") (codes "engines" ∷ codes "at" ∷ codes "from" ∷ codes "to" ∷ codes "step" ∷ []) (record { some = omega arith; plain = refl })
+    (one_more (codes "engines") (codes "at" ∷ codes "from" ∷ codes "to" ∷ codes "step" ∷ []) (record { some = omega arith; plain = refl })
     (one_more (codes "at") (codes "from" ∷ codes "to" ∷ codes "step" ∷ []) (record { some = omega arith; plain = refl })
     (one_more (codes "from") (codes "to" ∷ codes "step" ∷ []) (record { some = omega arith; plain = refl })
     (one_more (codes "to") (codes "step" ∷ []) (record { some = omega arith; plain = refl })
     (one_more (codes "step") [] (record { some = omega arith; plain = refl })
-    no_names))))))
+    no_names)))))))
 
 pub explain_names : AreNames explain_options
-explain_names = one_more (codes "opts") [] (record { some = omega arith; plain = refl }) no_names
+explain_names =
+    one_more (codes "opts") (codes "engines" ∷ []) (record { some = omega arith; plain = refl })
+    (one_more (codes "engines") [] (record { some = omega arith; plain = refl })
+    no_names)

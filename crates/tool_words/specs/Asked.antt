@@ -9,33 +9,34 @@ use Rattle.std.specs.Str.Parse.{digits_value}
 use Rattle.ticks.specs.Moments.{Moments, is_grid}
 use Rattle.ticks.specs.declared.moment.Ms.{Ms}
 use Rattle.frac_text.specs.Times.{time_answer}
+use Rattle.tool_words.specs.Engines.{Labels, engines_of}
 use Rattle.tool_words.specs.Opts.{opts_of}
 use Rattle.tool_words.specs.Said.{Item, Text, places_of, said, value_of}
 use Rattle.tool_words.specs.declared.asked.Choices.{Choices}
 use Rattle.tool_words.specs.declared.asked.Optimisers.{Optimisers}
 
 -- what a command asks for: to judge files, to answer an expression over a file's samples, or to judge a script that is made of
--- so many series, each with what is chosen for its evaluations; or to print an expression, or its plan behind some rewrites, of
--- which nothing is evaluated
+-- so many series, each with what is chosen for its evaluations, and with the engines that are declared, none without `--engines`;
+-- or to print an expression, or its plan behind some rewrites and over such engines, of which nothing is evaluated
 pub data Wish : Type 0 where
-  test : Choices → List Text → Wish
-  query : Choices → Moments → Text → Text → Wish
-  workload : Choices → ℕ → Wish
+  test : Choices → List Labels → List Text → Wish
+  query : Choices → List Labels → Moments → Text → Text → Wish
+  workload : Choices → List Labels → ℕ → Wish
   format : Text → Wish
-  explain : Optimisers → Text → Wish
+  explain : Optimisers → List Labels → Text → Wish
 
 -- the options of `promqltest` and `workload`, those of `query`, those of `format`, which has none, and those of `explain`
 abbrev pub test_options : List Text
-test_options = codes "edges" ∷ codes "batch" ∷ codes "opts" ∷ []
+test_options = codes "edges" ∷ codes "batch" ∷ codes "opts" ∷ codes "engines" ∷ []
 
 abbrev pub query_options : List Text
-query_options = codes "edges" ∷ codes "batch" ∷ codes "opts" ∷ codes "at" ∷ codes "from" ∷ codes "to" ∷ codes "step" ∷ []
+query_options = codes "edges" ∷ codes "batch" ∷ codes "opts" ∷ codes "engines" ∷ codes "at" ∷ codes "from" ∷ codes "to" ∷ codes "step" ∷ []
 
 abbrev pub format_options : List Text
 format_options = []
 
 abbrev pub explain_options : List Text
-explain_options = codes "opts" ∷ []
+explain_options = codes "opts" ∷ codes "engines" ∷ []
 
 -- the value of `--edges`: windows are open on the left under v3, as without it, and closed under v2
 abbrev pub edges_named : Text → Option Bool
@@ -69,6 +70,10 @@ batch_in items = batch_of (value_of (codes "batch") items)
 abbrev pub opts_in : List Item → Option Optimisers
 opts_in items = opts_of (value_of (codes "opts") items)
 
+-- the value of `--engines`, for so many boxes
+abbrev pub engines_in : ℕ → List Item → Option (List Labels)
+engines_in boxes items = engines_of boxes (value_of (codes "engines") items)
+
 -- what is chosen for all evaluations
 abbrev pub choices_of : Option Bool → Option ℕ → Option Optimisers → Option Choices
 choices_of (Some closed) (Some batch) (Some optimisers) = Some (record { closed = closed; batch = batch; optimisers = optimisers })
@@ -100,43 +105,43 @@ moments_of None (Some from) (Some to) (Some step) = range_of (time_of from) (tim
 moments_of _ _ _ _ = None
 
 -- one file or more
-abbrev pub test_worded : Choices → List Text → Option Wish
-test_worded choices [] = None
-test_worded choices (file ∷ files) = Some (test choices (file ∷ files))
+abbrev pub test_worded : Choices → List Labels → List Text → Option Wish
+test_worded choices engines [] = None
+test_worded choices engines (file ∷ files) = Some (test choices engines (file ∷ files))
 
-abbrev pub test_at : Option Choices → List Text → Option Wish
-test_at None words = None
-test_at (Some choices) words = test_worded choices words
+abbrev pub test_at : Option Choices → Option (List Labels) → List Text → Option Wish
+test_at (Some choices) (Some engines) words = test_worded choices engines words
+test_at _ _ words = None
 
-abbrev pub test_of : List Item → Option Wish
-test_of items = test_at (choices_in items) (places_of items)
+abbrev pub test_of : ℕ → List Item → Option Wish
+test_of boxes items = test_at (choices_in items) (engines_in boxes items) (places_of items)
 
 -- a file and an expression
-abbrev pub query_worded : Choices → Moments → List Text → Option Wish
-query_worded choices moments (file ∷ expr ∷ []) = Some (query choices moments file expr)
-query_worded choices moments _ = None
+abbrev pub query_worded : Choices → List Labels → Moments → List Text → Option Wish
+query_worded choices engines moments (file ∷ expr ∷ []) = Some (query choices engines moments file expr)
+query_worded choices engines moments _ = None
 
-abbrev pub query_at : Option Choices → Option Moments → List Text → Option Wish
-query_at None moments words = None
-query_at (Some choices) None words = None
-query_at (Some choices) (Some moments) words = query_worded choices moments words
+abbrev pub query_at : Option Choices → Option (List Labels) → Option Moments → List Text → Option Wish
+query_at (Some choices) (Some engines) (Some moments) words = query_worded choices engines moments words
+query_at _ _ _ words = None
 
-abbrev pub query_of : List Item → Option Wish
-query_of items =
-    query_at (choices_in items) (moments_of (value_of (codes "at") items) (value_of (codes "from") items) (value_of (codes "to") items) (value_of (codes "step") items))
+abbrev pub query_of : ℕ → List Item → Option Wish
+query_of boxes items =
+    query_at (choices_in items) (engines_in boxes items)
+    (moments_of (value_of (codes "at") items) (value_of (codes "from") items) (value_of (codes "to") items) (value_of (codes "step") items))
     (places_of items)
 
 -- a number of series, at most 20,000
-abbrev pub workload_worded : Choices → List Text → Option Wish
-workload_worded choices (count ∷ []) = option_map (workload choices) (number_of 20000 count)
-workload_worded choices _ = None
+abbrev pub workload_worded : Choices → List Labels → List Text → Option Wish
+workload_worded choices engines (count ∷ []) = option_map (workload choices engines) (number_of 20000 count)
+workload_worded choices engines _ = None
 
-abbrev pub workload_at : Option Choices → List Text → Option Wish
-workload_at None words = None
-workload_at (Some choices) words = workload_worded choices words
+abbrev pub workload_at : Option Choices → Option (List Labels) → List Text → Option Wish
+workload_at (Some choices) (Some engines) words = workload_worded choices engines words
+workload_at _ _ words = None
 
-abbrev pub workload_of : List Item → Option Wish
-workload_of items = workload_at (choices_in items) (places_of items)
+abbrev pub workload_of : ℕ → List Item → Option Wish
+workload_of boxes items = workload_at (choices_in items) (engines_in boxes items) (places_of items)
 
 -- an expression
 abbrev pub format_worded : List Text → Option Wish
@@ -146,31 +151,31 @@ format_worded _ = None
 abbrev pub format_of : List Item → Option Wish
 format_of items = format_worded (places_of items)
 
--- an expression, and the rewrites that are chosen
-abbrev pub explain_worded : Optimisers → List Text → Option Wish
-explain_worded optimisers (expr ∷ []) = Some (explain optimisers expr)
-explain_worded optimisers _ = None
+-- an expression, the rewrites that are chosen, and the engines that are declared
+abbrev pub explain_worded : Optimisers → List Labels → List Text → Option Wish
+explain_worded optimisers engines (expr ∷ []) = Some (explain optimisers engines expr)
+explain_worded optimisers engines _ = None
 
-abbrev pub explain_at : Option Optimisers → List Text → Option Wish
-explain_at None words = None
-explain_at (Some optimisers) words = explain_worded optimisers words
+abbrev pub explain_at : Option Optimisers → Option (List Labels) → List Text → Option Wish
+explain_at (Some optimisers) (Some engines) words = explain_worded optimisers engines words
+explain_at _ _ words = None
 
-abbrev pub explain_of : List Item → Option Wish
-explain_of items = explain_at (opts_in items) (places_of items)
+abbrev pub explain_of : ℕ → List Item → Option Wish
+explain_of boxes items = explain_at (opts_in items) (engines_in boxes items) (places_of items)
 
-abbrev pub command_of : Text → List Text → Option Wish
-command_of command rest =
-    if bytes_eq command (codes "promqltest") then option_and_then test_of (said test_options rest)
-    else (if bytes_eq command (codes "query") then option_and_then query_of (said query_options rest)
-    else (if bytes_eq command (codes "workload") then option_and_then workload_of (said test_options rest)
+abbrev pub command_of : ℕ → Text → List Text → Option Wish
+command_of boxes command rest =
+    if bytes_eq command (codes "promqltest") then option_and_then (test_of boxes) (said test_options rest)
+    else (if bytes_eq command (codes "query") then option_and_then (query_of boxes) (said query_options rest)
+    else (if bytes_eq command (codes "workload") then option_and_then (workload_of boxes) (said test_options rest)
     else (if bytes_eq command (codes "format") then option_and_then format_of (said format_options rest)
-    else (if bytes_eq command (codes "explain") then option_and_then explain_of (said explain_options rest)
+    else (if bytes_eq command (codes "explain") then option_and_then (explain_of boxes) (said explain_options rest)
     else None))))
 
--- what the program's words ask for, where they follow the rules
-abbrev pub asked : List Text → Option Wish
-asked [] = None
-asked (command ∷ rest) = command_of command rest
+-- what the program's words ask for, where they follow the rules, and there are so many boxes of engines
+abbrev pub asked : ℕ → List Text → Option Wish
+asked boxes [] = None
+asked boxes (command ∷ rest) = command_of boxes command rest
 
 -- ---- the edge that is asked for, as a relation
 

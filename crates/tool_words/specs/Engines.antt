@@ -1,6 +1,6 @@
 -- The engines that `--engines` declares, each by a set of labels. (The labels of engines are those of the distributed queries of
 -- thanos-io/promql-engine; the form of the list is this project's own.)
-use Rattle.std.specs.Prelude.{◌≡◌, ◌==◌, ◌<◌, ◌&&◌, Bool, true, false, not, List, [], ◌∷◌, length, Option, Some, None, bytes_eq, is_some, option_and_then, option_map, if◌then◌else◌}
+use Rattle.std.specs.Prelude.{◌≡◌, ◌==◌, ◌<◌, ◌≤◌, ◌&&◌, ℕ, Bool, true, false, not, List, [], ◌∷◌, length, Option, Some, None, bytes_eq, is_some, option_and_then, option_map, nat_le, if◌then◌else◌}
 use Rattle.std.specs.Cmp.Lexicographic.{pointwise}
 use Rattle.std.specs.List.{AllByRecursion, IsDistinct, list_all, list_any, slice_split}
 use Rattle.std.specs.Map.{keys_of}
@@ -68,12 +68,19 @@ tell_apart (first ∷ others) = list_all (have_same_names first) others && are_d
 abbrev pub if_apart : List Labels → Option (List Labels)
 if_apart all = if tell_apart all then Some all else None
 
--- the value of `--engines`: sets that `;` (59) parts, of which the k-th is declared to the k-th engine
+-- the value of `--engines`: sets that `;` (59) parts, of which the k-th is declared to the k-th box
 abbrev pub sets_listed : Text → List Text
 sets_listed list = slice_split (λ b. b == 59) list
 
-abbrev pub engines_named : Text → Option (List Labels)
-engines_named list = option_and_then if_apart (all_labels_in (sets_listed list))
+-- no more sets than boxes, which is asked before any set is read
+abbrev pub engines_named : ℕ → Text → Option (List Labels)
+engines_named boxes list =
+    if nat_le (length (sets_listed list)) boxes then option_and_then if_apart (all_labels_in (sets_listed list)) else None
+
+-- no engines without the option
+abbrev pub engines_of : ℕ → Option Text → Option (List Labels)
+engines_of boxes None = Some []
+engines_of boxes (Some list) = engines_named boxes list
 
 -- ---- what engines are declared by
 
@@ -88,3 +95,8 @@ pub record AreDeclarable (all : List Labels) : Type 0 where
   pub names : AllByRecursion (λ (labels : Labels). keys_of labels ≡ names_of_first all) all
   pub unnamed : is_named (names_of_first all) metric_name ≡ false
   pub values : IsDistinct labels_eq all
+
+-- what is declared to so many boxes: no more sets than boxes, which may be declared where there is any
+pub record AreDeclaredTo (boxes : ℕ) (all : List Labels) : Type 0 where
+  pub few : length all ≤ boxes
+  pub declarable : 0 < length all → AreDeclarable all

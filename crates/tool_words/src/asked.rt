@@ -1,4 +1,5 @@
 use holders::{Items, Text};
+use label_set::Labels;
 use ticks::Grid;
 
 /// Which rewrites of plans are chosen.
@@ -29,18 +30,21 @@ pub struct Choices {
     pub optimisers: Optimisers,
 }
 
-/// What the words of the program ask for.
+/// What the words of the program ask for. `engines` is what `--engines` declares, of which the k-th labels are for the k-th box of
+/// engines; without the option it is empty.
 #[derive(Debug, Drop)]
 pub enum Asked {
     /// To judge the evaluations of these scripts, in this order.
     Test {
         choices: Choices,
+        engines: Items<Labels>,
         files: Items<Text>,
     },
     /// To answer an expression over the samples that a script loads, at the instants of a grid. `instant` tells that
     /// it is an instant query, whose grid is one instant.
     Query {
         choices: Choices,
+        engines: Items<Labels>,
         grid: Grid,
         instant: bool,
         file: Text,
@@ -49,15 +53,17 @@ pub enum Asked {
     /// To judge the evaluations of a script that is made of so many series.
     Workload {
         choices: Choices,
+        engines: Items<Labels>,
         count: u32,
     },
     /// To print an expression in its canonical form.
     Format {
         expr: Text,
     },
-    /// To print the plan of an expression behind the rewrites that are chosen.
+    /// To print the plan of an expression behind the rewrites that are chosen, over these engines.
     Explain {
         optimisers: Optimisers,
+        engines: Items<Labels>,
         expr: Text,
     },
 }

@@ -2,7 +2,7 @@
 ghost use Rattle.label_set.specs.LabelEquality.{labels_eq};
 ghost use Rattle.label_set.specs.Labels.{put_refusal, with_pair};
 ghost use Rattle.std.specs.List.{list_all, list_any};
-ghost use Rattle.std.specs.Prelude.{◌≡◌, ◌≢◌, [], IfOk, IfSome, MatchBool, None, Some, false, is_some, map, true};
+ghost use Rattle.std.specs.Prelude.{◌≡◌, ◌≢◌, ◌≤◌, [], IfOk, IfSome, MatchBool, None, Some, false, is_some, length, map, true};
 ghost use Rattle.tool_words.specs.Engines.{AreDeclarable, all_labels_in, are_distinct, engines_named, have_same_names, if_apart, is_declarable, labels_in, pairs_listed, sets_listed, tell_apart, with_pair_in, with_pairs_in};
 
 use holders::Items;
@@ -166,23 +166,32 @@ fn if_apart(all: Items<Labels>) -> Option<Items<Labels>>
     }
 }
 
-/// The engines that a list declares, where it declares any.
-fn engines_in(alloc: Global, list: &str) -> Result<Option<Items<Labels>>, AllocError>
-    ensures { IfOk result (λ engines. engines ≡ engines_named list.now) }
+/// The engines that a list declares, where it declares any, and no more of them than there are boxes. Sets are read and compared
+/// only where there are no more.
+fn engines_named(alloc: Global, list: &str, boxes: u32) -> Result<Option<Items<Labels>>, AllocError>
+    ensures { IfOk result (λ engines. engines ≡ engines_named boxes list.now) }
 {
     let sets = sets_of(alloc, list)?;
+    if sets.len() > boxes as usize {
+        return Ok(None);
+    }
     match all_labels_in(alloc, sets.as_slice())? {
         Some(all) => Ok(if_apart(all)),
         None => Ok(None),
     }
 }
 
-/// The engines that a value of `--engines` declares, in order: sets parted by `;`, each of pairs `name=value` parted by `,`. A name
-/// ends at the first `=`, no value is empty, and labels take each pair; all sets have the same names, `__name__` not among them, and
-/// no two the same values. Else there are none. The only error is want of memory.
-pub fn engines_by(alloc: Global, list: &str) -> Result<Option<Items<Labels>>, AllocError>
-    ensures engines { IfOk result (λ engines. engines ≡ engines_named list.now) }
+/// The engines that a value of `--engines` declares to so many boxes, in order: sets parted by `;`, each of pairs `name=value` parted
+/// by `,`. There are no more sets than boxes. A name ends at the first `=`, no value is empty, and labels take each pair; all sets
+/// have the same names, `__name__` not among them, and no two the same values. Else there are none. The only error is want of memory.
+pub fn engines_by(
+    alloc: Global,
+    list: &str,
+    boxes: u32,
+) -> Result<Option<Items<Labels>>, AllocError>
+    ensures engines { IfOk result (λ engines. engines ≡ engines_named boxes list.now) }
     ensures declarable { IfOk result (λ engines. IfSome engines AreDeclarable) }
+    ensures few { IfOk result (λ engines. IfSome engines (λ all. length all ≤ boxes)) }
 {
-    engines_in(alloc, list)
+    engines_named(alloc, list, boxes)
 }

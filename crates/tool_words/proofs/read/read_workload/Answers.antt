@@ -1,6 +1,6 @@
 use Rattle.tool_words.specs.Asked.{workload_of}
-use Rattle.tool_words.proofs.Asking.{told}
+use Rattle.tool_words.proofs.Asking.{answered}
 use Rattle.tool_words.proofs.read.read_workload.Goals as goal
 
 pub returns-in-Some : goal.returns-in-Some
-returns-in-Some c = told c.in-Some.matches _ c.judge_workload.result workload_of (rw c.in-Some.is at c.in_ok-matches.ensures) c.judge_workload.ensures
+returns-in-Some c = answered c.in-Some.matches _ c.judge_workload.result (workload_of c.args.boxes) (rw c.in-Some.is at c.in_ok-matches.ensures) c.judge_workload.ensures
