@@ -144,29 +144,29 @@ module _ (files : List ℕ → Option (List ℕ)) where
   -- what a report says of what is asked
   abbrev SaysOf : Option Wish → Report → Type 0
   SaysOf None report = report ≡ usage_report
-  SaysOf (Some (test choices paths)) report = (seen : List JudgedFile) × (last : Last) × Sees choices.closed (Have files) paths seen last × (report ≡ report_of seen last)
-  SaysOf (Some (query choices moments path expr)) report = Says choices.closed moments (Have files) path expr report
-  SaysOf (Some (workload choices series)) report =
+  SaysOf (Some (test choices engines paths)) report = (seen : List JudgedFile) × (last : Last) × Sees choices.closed (Have files) paths seen last × (report ≡ report_of seen last)
+  SaysOf (Some (query choices engines moments path expr)) report = Says choices.closed moments (Have files) path expr report
+  SaysOf (Some (workload choices engines series)) report =
       (seen : List JudgedFile) × (last : Last) × Sees choices.closed (Just (workload_text series)) (workload_path ∷ []) seen last × (report ≡ workload_report series seen last)
   SaysOf (Some (format expr)) report = Prints expr report
-  SaysOf (Some (explain optimisers expr)) report = Outlines (rewrites_in optimisers) expr report
+  SaysOf (Some (explain optimisers engines expr)) report = Outlines (rewrites_in optimisers) expr report
 
-  says_of : (words : List (List ℕ)) (report : Report) → IsReport words (Have files) report → SaysOf (asked words) report
+  says_of : (words : List (List ℕ)) (report : Report) → IsReport words (Have files) report → SaysOf (asked 0 words) report
   says_of words report (misused none) = subst (λ (w : Option Wish). SaysOf w usage_report) (sym none) refl
-  says_of words report (tested choices paths seen last is sees) = subst (λ (w : Option Wish). SaysOf w (report_of seen last)) (sym is) (seen, last, sees, refl)
-  says_of words report (queried choices grid instant path expr said_so is q) = subst (λ (w : Option Wish). SaysOf w said_so) (sym is) (said choices.closed (moments_in grid instant) (Have files) path expr grid instant refl said_so q)
-  says_of words report (worked choices series seen last is sees) = subst (λ (w : Option Wish). SaysOf w (workload_report series seen last)) (sym is) (seen, last, sees, refl)
+  says_of words report (tested choices engines paths seen last is sees) = subst (λ (w : Option Wish). SaysOf w (report_of seen last)) (sym is) (seen, last, sees, refl)
+  says_of words report (queried choices engines grid instant path expr said_so is q) = subst (λ (w : Option Wish). SaysOf w said_so) (sym is) (said choices.closed (moments_in grid instant) (Have files) path expr grid instant refl said_so q)
+  says_of words report (worked choices engines series seen last is sees) = subst (λ (w : Option Wish). SaysOf w (workload_report series seen last)) (sym is) (seen, last, sees, refl)
   says_of words report (formatted expr said_so is f) = subst (λ (w : Option Wish). SaysOf w said_so) (sym is) (printed_so expr said_so f)
-  says_of words report (explained optimisers expr said_so is x) = subst (λ (w : Option Wish). SaysOf w said_so) (sym is) (outlined_so (rewrites_in optimisers) expr said_so x)
+  says_of words report (explained optimisers engines expr said_so is x) = subst (λ (w : Option Wish). SaysOf w said_so) (sym is) (outlined_so (rewrites_in optimisers) expr said_so x)
 
   one_of : (wish : Option Wish) → IsSettled wish files → (one other : Report) → SaysOf wish one → SaysOf wish other → one ≡ other
   one_of None once one other a b = a ∙ sym b
-  one_of (Some (test choices paths)) once one other a b = a.3 ∙ reports_once choices.closed (Have files) paths once report_of a.0 b.0 a.1 b.1 a.2 b.2 ∙ sym b.3
-  one_of (Some (query choices moments path expr)) once one other a b = answers_once choices.closed moments (Have files) path expr once one other a b
-  one_of (Some (workload choices series)) once one other a b =
+  one_of (Some (test choices engines paths)) once one other a b = a.3 ∙ reports_once choices.closed (Have files) paths once report_of a.0 b.0 a.1 b.1 a.2 b.2 ∙ sym b.3
+  one_of (Some (query choices engines moments path expr)) once one other a b = answers_once choices.closed moments (Have files) path expr once one other a b
+  one_of (Some (workload choices engines series)) once one other a b =
       a.3 ∙ reports_once choices.closed (Just (workload_text series)) (workload_path ∷ []) (once, tt) (workload_report series) a.0 b.0 a.1 b.1 a.2 b.2 ∙ sym b.3
   one_of (Some (format expr)) once one other a b = printed_once expr once one other a b
-  one_of (Some (explain optimisers expr)) once one other a b = outlined_once (rewrites_in optimisers) expr once one other a b
+  one_of (Some (explain optimisers engines expr)) once one other a b = outlined_once (rewrites_in optimisers) expr once one other a b
 
-pub one_report : (words : List (List ℕ)) (files : List ℕ → Option (List ℕ)) → IsSettled (asked words) files → (one other : Report) → IsReport words (Have files) one → IsReport words (Have files) other → one ≡ other
-one_report words files once one other a b = one_of files (asked words) once one other (says_of files words one a) (says_of files words other b)
+pub one_report : (words : List (List ℕ)) (files : List ℕ → Option (List ℕ)) → IsSettled (asked 0 words) files → (one other : Report) → IsReport words (Have files) one → IsReport words (Have files) other → one ≡ other
+one_report words files once one other a b = one_of files (asked 0 words) once one other (says_of files words one a) (says_of files words other b)

@@ -11,6 +11,7 @@ use Rattle.promql_meaning.specs.declared.answer.Outcome.{Outcome}
 use Rattle.promql_meaning.specs.declared.answer.Outcome.TheVariants as outcome
 use Rattle.ticks.specs.declared.grid.Grid.{Grid}
 use Rattle.tool_words.specs.Asked.{Wish, asked, explain, format, query, test, workload}
+use Rattle.tool_words.specs.Engines.{Labels}
 use Rattle.tool_words.specs.declared.asked.Choices.{Choices}
 use Rattle.ticks.specs.Moments.{moments_in}
 use Rattle.promql_tool.specs.Ends.{IfFirst, IfMade, IsGone, IsOneOf, IsRefused, IsUnrun, Reports, makes, refuses}
@@ -39,11 +40,11 @@ told_each (Some files) P each = each files
 -- what holds of each text holds of that of a workload
 pub made_each : (wish : Option Wish) (P : List ℕ → Type 0) → ((text : List ℕ) → P text) → IfMade wish P
 made_each None P each = tt
-made_each (Some (test choices paths)) P each = tt
-made_each (Some (query choices moments path expr)) P each = tt
-made_each (Some (workload choices series)) P each = each (workload_text series)
+made_each (Some (test choices engines paths)) P each = tt
+made_each (Some (query choices engines moments path expr)) P each = tt
+made_each (Some (workload choices engines series)) P each = each (workload_text series)
 made_each (Some (format expr)) P each = tt
-made_each (Some (explain optimisers expr)) P each = tt
+made_each (Some (explain optimisers engines expr)) P each = tt
 
 -- what holds of each holds of the first
 pub first_of : (paths : List (List ℕ)) (P : List ℕ → Type 0) → ((path : List ℕ) → P path) → IfFirst paths P
@@ -83,11 +84,11 @@ explained_is (unplanned refusal is) P p0 p1 = p1
 -- the status of a report
 pub report_is : (words : List (List ℕ)) (found : List ℕ → Option (List ℕ) → Type 0) (report : Report) → IsReport words found report → (P : ℕ → Type 0) → P 0 → P 1 → P 2 → P 3 → P 6 → P report.status
 report_is words found report (misused none) P p0 p1 p2 p3 p6 = p2
-report_is words found report (tested choices paths files last is seen) P p0 p1 p2 p3 p6 = last_is files last P p0 p1 p3 p6
-report_is words found report (queried choices grid instant path expr said is q) P p0 p1 p2 p3 p6 = query_is q P p0 p1 p3 p6
-report_is words found report (worked choices series files last is seen) P p0 p1 p2 p3 p6 = last_is files last P p0 p1 p3 p6
+report_is words found report (tested choices engines paths files last is seen) P p0 p1 p2 p3 p6 = last_is files last P p0 p1 p3 p6
+report_is words found report (queried choices engines grid instant path expr said is q) P p0 p1 p2 p3 p6 = query_is q P p0 p1 p3 p6
+report_is words found report (worked choices engines series files last is seen) P p0 p1 p2 p3 p6 = last_is files last P p0 p1 p3 p6
 report_is words found report (formatted expr said is f) P p0 p1 p2 p3 p6 = formatted_is f P p0 p1
-report_is words found report (explained optimisers expr said is f) P p0 p1 p2 p3 p6 = explained_is f P p0 p1
+report_is words found report (explained optimisers engines expr said is f) P p0 p1 p2 p3 p6 = explained_is f P p0 p1
 
 -- ---- reports over the files that are told
 
@@ -100,12 +101,12 @@ module _ (f g : List ℕ → Option (List ℕ) → Type 0) (some : (path bytes :
 
   pub report_so : (words : List (List ℕ)) (report : Report) → ((path : List ℕ) → f path None → report.status ≡ 3 → g path None) → IsReport words f report → IsReport words g report
   report_so words report none (misused h) = misused h
-  report_so words report none (tested choices paths files last is seen) =
-      tested choices paths files last is (sees_so f g some choices.closed paths files last (λ path h at. none path h (ap (last_status files) at)) seen)
-  report_so words report none (queried choices grid instant path expr said is q) = queried choices grid instant path expr said is (query_so none q)
-  report_so words report none (worked choices series files last is seen) = worked choices series files last is seen
+  report_so words report none (tested choices engines paths files last is seen) =
+      tested choices engines paths files last is (sees_so f g some choices.closed paths files last (λ path h at. none path h (ap (last_status files) at)) seen)
+  report_so words report none (queried choices engines grid instant path expr said is q) = queried choices engines grid instant path expr said is (query_so none q)
+  report_so words report none (worked choices engines series files last is seen) = worked choices engines series files last is seen
   report_so words report none (formatted expr said is f) = formatted expr said is f
-  report_so words report none (explained optimisers expr said is f) = explained optimisers expr said is f
+  report_so words report none (explained optimisers engines expr said is f) = explained optimisers engines expr said is f
 
 -- ---- what was seen
 
@@ -150,18 +151,18 @@ told_some files sound path bytes h = h.if_some
 
 pub is_report : (words : List (List ℕ)) (found : List ℕ → Option (List ℕ) → Type 0) (idle : Type 0) (report : Report) → ReportsWords words found idle report → IsReport words found report
 is_report words found idle report (Misused none rests) = misused none
-is_report words found idle report (Tested choices paths said is f) = subst (IsReport words found) (sym f.is) (tested choices paths f.files f.last is f.seen)
-is_report words found idle report (Queries choices grid instant path expr said is q) = queried choices grid instant path expr said is q.is
-is_report words found idle report (Works choices series said is w) = subst (IsReport words found) (sym w.is) (worked choices series w.files w.last is w.seen)
+is_report words found idle report (Tested choices engines paths said is f) = subst (IsReport words found) (sym f.is) (tested choices engines paths f.files f.last is f.seen)
+is_report words found idle report (Queries choices engines grid instant path expr said is q) = queried choices engines grid instant path expr said is q.is
+is_report words found idle report (Works choices engines series said is w) = subst (IsReport words found) (sym w.is) (worked choices engines series w.files w.last is w.seen)
 is_report words found idle report (Formats expr said is f) = formatted expr said is f
-is_report words found idle report (Explains optimisers expr said is f) = explained optimisers expr said is f
+is_report words found idle report (Explains optimisers engines expr said is f) = explained optimisers engines expr said is f
 
 -- the files of words that ask for such
-named : (words : List (List ℕ)) (wish : Option Wish) → asked words ≡ wish → files_asked wish ≡ files_of words
+named : (words : List (List ℕ)) (wish : Option Wish) → asked 0 words ≡ wish → files_asked wish ≡ files_of words
 named words wish is = ap files_asked (sym is)
 
 -- and their edge
-edged : (words : List (List ℕ)) (wish : Option Wish) → asked words ≡ wish → closed_asked wish ≡ closed_of words
+edged : (words : List (List ℕ)) (wish : Option Wish) → asked 0 words ≡ wish → closed_asked wish ≡ closed_of words
 edged words wish is = ap closed_asked (sym is)
 
 module _ (words : List (List ℕ)) (idle : Type 0) (before now : Option (List ℕ)) (status : ℕ) where
@@ -176,16 +177,16 @@ module _ (words : List (List ℕ)) (idle : Type 0) (before now : Option (List �
   never_four found report P h r four = never_cut found report P h r (subst (IsOneOf (4 ∷ 7 ∷ [])) (sym four) refl)
 
   -- 2
-  pub misuse_is : (found : List ℕ → Option (List ℕ) → Type 0) (report : Report) → ReportsWords words found idle report → Reports before now status report → status ≡ 2 → (asked words ≡ None) × (now ≡ appended before usage)
+  pub misuse_is : (found : List ℕ → Option (List ℕ) → Type 0) (report : Report) → ReportsWords words found idle report → Reports before now status report → status ≡ 2 → (asked 0 words ≡ None) × (now ≡ appended before usage)
   misuse_is found report (Misused none rests) r two = (none, r.text_is)
-  misuse_is found report (Tested choices paths said is f) r two =
+  misuse_is found report (Tested choices engines paths said is f) r two =
       absurd (last_is f.files f.last (λ n. n ≡ 2 → ⊥) (λ e. omega (arith, e)) (λ e. omega (arith, e)) (λ e. omega (arith, e)) (λ e. omega (arith, e)) (sym (ap (λ (x : Report). x.status) f.is) ∙ sym r.status_is ∙ two))
-  misuse_is found report (Queries choices grid instant path expr said is q) r two =
+  misuse_is found report (Queries choices engines grid instant path expr said is q) r two =
       absurd (query_is q.is (λ n. n ≡ 2 → ⊥) (λ e. omega (arith, e)) (λ e. omega (arith, e)) (λ e. omega (arith, e)) (λ e. omega (arith, e)) (sym r.status_is ∙ two))
-  misuse_is found report (Works choices series said is w) r two =
+  misuse_is found report (Works choices engines series said is w) r two =
       absurd (last_is w.files w.last (λ n. n ≡ 2 → ⊥) (λ e. omega (arith, e)) (λ e. omega (arith, e)) (λ e. omega (arith, e)) (λ e. omega (arith, e)) (sym (ap (λ (x : Report). x.status) w.is) ∙ sym r.status_is ∙ two))
   misuse_is found report (Formats expr said is f) r two = absurd (formatted_is f (λ n. n ≡ 2 → ⊥) (λ e. omega (arith, e)) (λ e. omega (arith, e)) (sym r.status_is ∙ two))
-  misuse_is found report (Explains optimisers expr said is f) r two = absurd (explained_is f (λ n. n ≡ 2 → ⊥) (λ e. omega (arith, e)) (λ e. omega (arith, e)) (sym r.status_is ∙ two))
+  misuse_is found report (Explains optimisers engines expr said is f) r two = absurd (explained_is f (λ n. n ≡ 2 → ⊥) (λ e. omega (arith, e)) (λ e. omega (arith, e)) (sym r.status_is ∙ two))
 
   module _ (found : List ℕ → Option (List ℕ) → Type 0) where
     -- 6
@@ -218,21 +219,21 @@ module _ (words : List (List ℕ)) (idle : Type 0) (before now : Option (List �
         let ends = none_left closed (Just (workload_text series)) later more end none seen in
         absurd (verdict_status (all_failed files == 0) (λ n. n ≡ 6 → ⊥) (λ e. omega (arith, e)) (λ e. omega (arith, e)) (sym (ap (last_status files) ends) ∙ six))
 
-    workload_refused : (choices : Choices) (series : ℕ) (report : Report) → asked words ≡ Some (workload choices series) → ReportsWorkload choices.closed series idle report → Reports before now status report → status ≡ 6 → IsRefused words found before now
-    workload_refused choices series report is w r six =
+    workload_refused : (choices : Choices) (engines : List Labels) (series : ℕ) (report : Report) → asked 0 words ≡ Some (workload choices engines series) → ReportsWorkload choices.closed series idle report → Reports before now status report → status ≡ 6 → IsRefused words found before now
+    workload_refused choices engines series report is w r six =
         let whole = subst (Reports before now status) w.is r in
         let why = script_refused choices.closed series (workload_path ∷ []) w.files w.last refl w.seen (sym whole.status_is ∙ six) in
-        makes choices series why.0 is why.1 (whole.text_is ∙ ap (λ (l : List ℕ). appended before (loaded_text series ++ l)) why.2)
+        makes choices engines series why.0 is why.1 (whole.text_is ∙ ap (λ (l : List ℕ). appended before (loaded_text series ++ l)) why.2)
 
     pub refusal_is : (report : Report) → ReportsWords words found idle report → Reports before now status report → status ≡ 6 → IsRefused words found before now
     refusal_is report (Misused none rests) r six = absurd (omega (arith, r.status_is, six))
-    refusal_is report (Tested choices paths said is f) r six =
-        files_refused choices.closed paths f.files f.last (edged words (Some (test choices paths)) is) (named words (Some (test choices paths)) is) f.seen (subst (Reports before now status) f.is r) six
-    refusal_is report (Queries choices grid instant path expr said is q) r six =
-        query_refused_is choices.closed path expr grid instant said (named words (Some (query choices (moments_in grid instant) path expr)) is) q.is r six
-    refusal_is report (Works choices series said is w) r six = workload_refused choices series said is w r six
+    refusal_is report (Tested choices engines paths said is f) r six =
+        files_refused choices.closed paths f.files f.last (edged words (Some (test choices engines paths)) is) (named words (Some (test choices engines paths)) is) f.seen (subst (Reports before now status) f.is r) six
+    refusal_is report (Queries choices engines grid instant path expr said is q) r six =
+        query_refused_is choices.closed path expr grid instant said (named words (Some (query choices engines (moments_in grid instant) path expr)) is) q.is r six
+    refusal_is report (Works choices engines series said is w) r six = workload_refused choices engines series said is w r six
     refusal_is report (Formats expr said is f) r six = absurd (formatted_is f (λ n. n ≡ 6 → ⊥) (λ e. omega (arith, e)) (λ e. omega (arith, e)) (sym r.status_is ∙ six))
-    refusal_is report (Explains optimisers expr said is f) r six = absurd (explained_is f (λ n. n ≡ 6 → ⊥) (λ e. omega (arith, e)) (λ e. omega (arith, e)) (sym r.status_is ∙ six))
+    refusal_is report (Explains optimisers engines expr said is f) r six = absurd (explained_is f (λ n. n ≡ 6 → ⊥) (λ e. omega (arith, e)) (λ e. omega (arith, e)) (sym r.status_is ∙ six))
 
     -- 3
     files_gone : (closed : Bool) (paths : List (List ℕ)) (files : List JudgedFile) (last : Last) → closed ≡ closed_of words → paths ≡ files_of words → Sees closed found paths files last → Reports before now status (report_of files last) → status ≡ 3
@@ -262,13 +263,13 @@ module _ (words : List (List ℕ)) (idle : Type 0) (before now : Option (List �
 
     pub gone_is : (report : Report) → ReportsWords words found idle report → Reports before now status report → status ≡ 3 → IsGone (closed_of words) (files_of words) found before now
     gone_is report (Misused none rests) r three = absurd (omega (arith, r.status_is, three))
-    gone_is report (Tested choices paths said is f) r three =
-        files_gone choices.closed paths f.files f.last (edged words (Some (test choices paths)) is) (named words (Some (test choices paths)) is) f.seen (subst (Reports before now status) f.is r) three
-    gone_is report (Queries choices grid instant path expr said is q) r three =
-        query_gone_is choices.closed path expr grid instant said (named words (Some (query choices (moments_in grid instant) path expr)) is) q.is r three
-    gone_is report (Works choices series said is w) r three = absurd (script_there choices.closed series (workload_path ∷ []) w.files w.last refl w.seen (sym (ap (λ (x : Report). x.status) w.is) ∙ sym r.status_is ∙ three))
+    gone_is report (Tested choices engines paths said is f) r three =
+        files_gone choices.closed paths f.files f.last (edged words (Some (test choices engines paths)) is) (named words (Some (test choices engines paths)) is) f.seen (subst (Reports before now status) f.is r) three
+    gone_is report (Queries choices engines grid instant path expr said is q) r three =
+        query_gone_is choices.closed path expr grid instant said (named words (Some (query choices engines (moments_in grid instant) path expr)) is) q.is r three
+    gone_is report (Works choices engines series said is w) r three = absurd (script_there choices.closed series (workload_path ∷ []) w.files w.last refl w.seen (sym (ap (λ (x : Report). x.status) w.is) ∙ sym r.status_is ∙ three))
     gone_is report (Formats expr said is f) r three = absurd (formatted_is f (λ n. n ≡ 3 → ⊥) (λ e. omega (arith, e)) (λ e. omega (arith, e)) (sym r.status_is ∙ three))
-    gone_is report (Explains optimisers expr said is f) r three = absurd (explained_is f (λ n. n ≡ 3 → ⊥) (λ e. omega (arith, e)) (λ e. omega (arith, e)) (sym r.status_is ∙ three))
+    gone_is report (Explains optimisers engines expr said is f) r three = absurd (explained_is f (λ n. n ≡ 3 → ⊥) (λ e. omega (arith, e)) (λ e. omega (arith, e)) (sym r.status_is ∙ three))
 
     -- nothing was evaluated
     not_all : (files : List JudgedFile) (last : Last) → IsOneOf (2 ∷ 3 ∷ 6 ∷ []) (last_status files last) → last ≡ All → ⊥
@@ -278,19 +279,19 @@ module _ (words : List (List ℕ)) (idle : Type 0) (before now : Option (List �
 
     pub idle_is : (report : Report) → ReportsWords words found idle report → Reports before now status report → IsOneOf (2 ∷ 3 ∷ 6 ∷ []) status → length (files_of words) ≤ 1 → idle
     idle_is report (Misused none rests) r one few = rests
-    idle_is report (Tested choices paths said is f) r one few =
+    idle_is report (Tested choices engines paths said is f) r one few =
         let told = subst (IsOneOf (2 ∷ 3 ∷ 6 ∷ [])) (r.status_is ∙ ap (λ (x : Report). x.status) f.is) one in
-        let short = subst (λ (ps : List (List ℕ)). length ps ≤ 1) (sym (named words (Some (test choices paths)) is)) few in
+        let short = subst (λ (ps : List (List ℕ)). length ps ≤ 1) (sym (named words (Some (test choices engines paths)) is)) few in
         f.rests (alone choices.closed found paths f.files f.last short (not_all f.files f.last told) f.seen)
-    idle_is report (Queries choices grid instant path expr said is q) r one few =
+    idle_is report (Queries choices engines grid instant path expr said is q) r one few =
         let told = subst (IsOneOf (2 ∷ 3 ∷ 6 ∷ [])) r.status_is one in
         q.rests (query_is q.is (λ n. IsOneOf (2 ∷ 3 ∷ 6 ∷ []) n → IsOneOf (3 ∷ 6 ∷ []) n) (λ e. absurd (cc)) (λ e. absurd (cc)) (λ e. refl) (λ e. refl) told)
-    idle_is report (Works choices series said is w) r one few =
+    idle_is report (Works choices engines series said is w) r one few =
         let told = subst (IsOneOf (2 ∷ 3 ∷ 6 ∷ [])) (r.status_is ∙ ap (λ (x : Report). x.status) w.is) one in
         w.rests (alone choices.closed (Just (workload_text series)) (workload_path ∷ []) w.files w.last (omega arith) (not_all w.files w.last told) w.seen)
     idle_is report (Formats expr said is f) r one few =
         absurd (formatted_is f (λ n. IsOneOf (2 ∷ 3 ∷ 6 ∷ []) n → ⊥) (λ e. cc) (λ e. cc) (subst (IsOneOf (2 ∷ 3 ∷ 6 ∷ [])) r.status_is one))
-    idle_is report (Explains optimisers expr said is f) r one few =
+    idle_is report (Explains optimisers engines expr said is f) r one few =
         absurd (explained_is f (λ n. IsOneOf (2 ∷ 3 ∷ 6 ∷ []) n → ⊥) (λ e. cc) (λ e. cc) (subst (IsOneOf (2 ∷ 3 ∷ 6 ∷ [])) r.status_is one))
 
   module _ (sound : Type 0) where
@@ -348,16 +349,16 @@ module _ (words : List (List ℕ)) (idle : Type 0) (before now : Option (List �
       stops : (report : Report) → ReportsWords words Over idle report → Reports before now status report → (path : List ℕ) → Contains (files_of words) path → IsUnrun (files path) → IsOneOf (3 ∷ 4 ∷ 6 ∷ 7 ∷ []) status
       stops report (Misused none rests) r path among unrun =
           let nowhere = subst (λ (ps : List (List ℕ)). Contains ps path) (sym (named words None none)) among in absurd (omega (arith, nowhere.1))
-      stops report (Works choices series said is w) r path among unrun =
-          let nowhere = subst (λ (ps : List (List ℕ)). Contains ps path) (sym (named words (Some (workload choices series)) is)) among in absurd (omega (arith, nowhere.1))
+      stops report (Works choices engines series said is w) r path among unrun =
+          let nowhere = subst (λ (ps : List (List ℕ)). Contains ps path) (sym (named words (Some (workload choices engines series)) is)) among in absurd (omega (arith, nowhere.1))
       stops report (Formats expr said is f) r path among unrun =
           let nowhere = subst (λ (ps : List (List ℕ)). Contains ps path) (sym (named words (Some (format expr)) is)) among in absurd (omega (arith, nowhere.1))
-      stops report (Explains optimisers expr said is f) r path among unrun =
-          let nowhere = subst (λ (ps : List (List ℕ)). Contains ps path) (sym (named words (Some (explain optimisers expr)) is)) among in absurd (omega (arith, nowhere.1))
-      stops report (Tested choices paths said is f) r path among unrun =
-          files_stop choices.closed paths f.files f.last f.seen (r.status_is ∙ ap (λ (x : Report). x.status) f.is) path (subst (λ (ps : List (List ℕ)). Contains ps path) (sym (named words (Some (test choices paths)) is)) among) unrun
-      stops report (Queries choices grid instant file expr said is q) r path among unrun =
-          query_stops choices.closed file expr grid instant said q.is r.status_is path (subst (λ (ps : List (List ℕ)). Contains ps path) (sym (named words (Some (query choices (moments_in grid instant) file expr)) is)) among) unrun
+      stops report (Explains optimisers engines expr said is f) r path among unrun =
+          let nowhere = subst (λ (ps : List (List ℕ)). Contains ps path) (sym (named words (Some (explain optimisers engines expr)) is)) among in absurd (omega (arith, nowhere.1))
+      stops report (Tested choices engines paths said is f) r path among unrun =
+          files_stop choices.closed paths f.files f.last f.seen (r.status_is ∙ ap (λ (x : Report). x.status) f.is) path (subst (λ (ps : List (List ℕ)). Contains ps path) (sym (named words (Some (test choices engines paths)) is)) among) unrun
+      stops report (Queries choices engines grid instant file expr said is q) r path among unrun =
+          query_stops choices.closed file expr grid instant said q.is r.status_is path (subst (λ (ps : List (List ℕ)). Contains ps path) (sym (named words (Some (query choices engines (moments_in grid instant) file expr)) is)) among) unrun
 
       -- nothing was evaluated where the first file can't be run
       files_idle : (closed : Bool) (paths : List (List ℕ)) (report : Report) → ReportsFiles closed Over paths idle report → IfFirst paths (λ path. IsUnrun (files path) → IsOneOf (3 ∷ 6 ∷ []) status → idle)
@@ -366,15 +367,15 @@ module _ (words : List (List ℕ)) (idle : Type 0) (before now : Option (List �
 
       idle_first : (report : Report) → ReportsWords words Over idle report → Reports before now status report → IfFirst (files_of words) (λ path. IsUnrun (files path) → IsOneOf (3 ∷ 6 ∷ []) status → idle)
       idle_first report (Misused none rests) r = first_of (files_of words) (λ path. IsUnrun (files path) → IsOneOf (3 ∷ 6 ∷ []) status → idle) (λ path unrun one. rests)
-      idle_first report (Works choices series said is w) r =
-          subst (λ (ps : List (List ℕ)). IfFirst ps (λ path. IsUnrun (files path) → IsOneOf (3 ∷ 6 ∷ []) status → idle)) (named words (Some (workload choices series)) is) tt
+      idle_first report (Works choices engines series said is w) r =
+          subst (λ (ps : List (List ℕ)). IfFirst ps (λ path. IsUnrun (files path) → IsOneOf (3 ∷ 6 ∷ []) status → idle)) (named words (Some (workload choices engines series)) is) tt
       idle_first report (Formats expr said is f) r =
           subst (λ (ps : List (List ℕ)). IfFirst ps (λ path. IsUnrun (files path) → IsOneOf (3 ∷ 6 ∷ []) status → idle)) (named words (Some (format expr)) is) tt
-      idle_first report (Explains optimisers expr said is f) r =
-          subst (λ (ps : List (List ℕ)). IfFirst ps (λ path. IsUnrun (files path) → IsOneOf (3 ∷ 6 ∷ []) status → idle)) (named words (Some (explain optimisers expr)) is) tt
-      idle_first report (Tested choices paths said is f) r =
-          subst (λ (ps : List (List ℕ)). IfFirst ps (λ path. IsUnrun (files path) → IsOneOf (3 ∷ 6 ∷ []) status → idle)) (named words (Some (test choices paths)) is) (files_idle choices.closed paths said f)
-      idle_first report (Queries choices grid instant file expr said is q) r =
+      idle_first report (Explains optimisers engines expr said is f) r =
+          subst (λ (ps : List (List ℕ)). IfFirst ps (λ path. IsUnrun (files path) → IsOneOf (3 ∷ 6 ∷ []) status → idle)) (named words (Some (explain optimisers engines expr)) is) tt
+      idle_first report (Tested choices engines paths said is f) r =
+          subst (λ (ps : List (List ℕ)). IfFirst ps (λ path. IsUnrun (files path) → IsOneOf (3 ∷ 6 ∷ []) status → idle)) (named words (Some (test choices engines paths)) is) (files_idle choices.closed paths said f)
+      idle_first report (Queries choices engines grid instant file expr said is q) r =
           first_of (files_of words) (λ path. IsUnrun (files path) → IsOneOf (3 ∷ 6 ∷ []) status → idle) (λ path unrun one. q.rests (subst (IsOneOf (3 ∷ 6 ∷ [])) r.status_is one))
 
       -- a first file that isn't there
@@ -401,16 +402,16 @@ module _ (words : List (List ℕ)) (idle : Type 0) (before now : Option (List �
 
       missing : (report : Report) → ReportsWords words Over idle report → Reports before now status report → IfFirst (files_of words) (λ path. files path ≡ None → IsOneOf (3 ∷ 4 ∷ 7 ∷ []) status)
       missing report (Misused none rests) r = subst (λ (ps : List (List ℕ)). IfFirst ps (λ path. files path ≡ None → IsOneOf (3 ∷ 4 ∷ 7 ∷ []) status)) (named words None none) tt
-      missing report (Works choices series said is w) r =
-          subst (λ (ps : List (List ℕ)). IfFirst ps (λ path. files path ≡ None → IsOneOf (3 ∷ 4 ∷ 7 ∷ []) status)) (named words (Some (workload choices series)) is) tt
+      missing report (Works choices engines series said is w) r =
+          subst (λ (ps : List (List ℕ)). IfFirst ps (λ path. files path ≡ None → IsOneOf (3 ∷ 4 ∷ 7 ∷ []) status)) (named words (Some (workload choices engines series)) is) tt
       missing report (Formats expr said is f) r =
           subst (λ (ps : List (List ℕ)). IfFirst ps (λ path. files path ≡ None → IsOneOf (3 ∷ 4 ∷ 7 ∷ []) status)) (named words (Some (format expr)) is) tt
-      missing report (Explains optimisers expr said is f) r =
-          subst (λ (ps : List (List ℕ)). IfFirst ps (λ path. files path ≡ None → IsOneOf (3 ∷ 4 ∷ 7 ∷ []) status)) (named words (Some (explain optimisers expr)) is) tt
-      missing report (Tested choices paths said is f) r =
-          subst (λ (ps : List (List ℕ)). IfFirst ps (λ path. files path ≡ None → IsOneOf (3 ∷ 4 ∷ 7 ∷ []) status)) (named words (Some (test choices paths)) is) (files_missing choices.closed paths said f r.status_is)
-      missing report (Queries choices grid instant file expr said is q) r =
-          subst (λ (ps : List (List ℕ)). IfFirst ps (λ path. files path ≡ None → IsOneOf (3 ∷ 4 ∷ 7 ∷ []) status)) (named words (Some (query choices (moments_in grid instant) file expr)) is)
+      missing report (Explains optimisers engines expr said is f) r =
+          subst (λ (ps : List (List ℕ)). IfFirst ps (λ path. files path ≡ None → IsOneOf (3 ∷ 4 ∷ 7 ∷ []) status)) (named words (Some (explain optimisers engines expr)) is) tt
+      missing report (Tested choices engines paths said is f) r =
+          subst (λ (ps : List (List ℕ)). IfFirst ps (λ path. files path ≡ None → IsOneOf (3 ∷ 4 ∷ 7 ∷ []) status)) (named words (Some (test choices engines paths)) is) (files_missing choices.closed paths said f r.status_is)
+      missing report (Queries choices engines grid instant file expr said is q) r =
+          subst (λ (ps : List (List ℕ)). IfFirst ps (λ path. files path ≡ None → IsOneOf (3 ∷ 4 ∷ 7 ∷ []) status)) (named words (Some (query choices engines (moments_in grid instant) file expr)) is)
           (query_missing choices.closed file expr grid instant said q.is r.status_is)
 
     pub outside_told : (told : Option (List ℕ → Option (List ℕ))) (report : Report) → ReportsWords words (IsFound told sound) idle report → Reports before now status report
@@ -438,27 +439,27 @@ module _ (words : List (List ℕ)) (idle : Type 0) (before now : Option (List �
       let made : j.bytes ≡ workload_text series = let h = j.is_found in cc in
       absurd (subst IsNoScript (sym made) never j.kept j.script j.is_run)
 
-  made_so : (wish : Option Wish) (series : ℕ) (P : List ℕ → Type 0) → asked words ≡ wish → ((choices : Choices) (series : ℕ) → wish ≡ Some (workload choices series) → P (workload_text series)) → IfMade wish P
+  made_so : (wish : Option Wish) (series : ℕ) (P : List ℕ → Type 0) → asked 0 words ≡ wish → ((choices : Choices) (engines : List Labels) (series : ℕ) → wish ≡ Some (workload choices engines series) → P (workload_text series)) → IfMade wish P
   made_so None series P is each = tt
-  made_so (Some (test choices paths)) series P is each = tt
-  made_so (Some (query choices moments path expr)) series P is each = tt
-  made_so (Some (workload choices count)) series P is each = each choices count refl
+  made_so (Some (test choices engines paths)) series P is each = tt
+  made_so (Some (query choices engines moments path expr)) series P is each = tt
+  made_so (Some (workload choices engines count)) series P is each = each choices engines count refl
   made_so (Some (format expr)) series P is each = tt
-  made_so (Some (explain optimisers expr)) series P is each = tt
+  made_so (Some (explain optimisers engines expr)) series P is each = tt
 
-  stops_made : (found : List ℕ → Option (List ℕ) → Type 0) (report : Report) (chosen : Choices) (series : ℕ) → ReportsWords words found idle report → Reports before now status report → asked words ≡ Some (workload chosen series)
+  stops_made : (found : List ℕ → Option (List ℕ) → Type 0) (report : Report) (chosen : Choices) (sets : List Labels) (series : ℕ) → ReportsWords words found idle report → Reports before now status report → asked 0 words ≡ Some (workload chosen sets series)
       → IsNoScript (workload_text series) → IsOneOf (4 ∷ 6 ∷ 7 ∷ []) status
-  stops_made found report chosen series (Misused none rests) r is never = absurd (cc)
-  stops_made found report chosen series (Tested choices paths said tests f) r is never = absurd (cc)
-  stops_made found report chosen series (Queries choices grid instant path expr said queries q) r is never = absurd (cc)
-  stops_made found report chosen series (Formats expr said formats f) r is never = absurd (cc)
-  stops_made found report chosen series (Explains optimisers expr said asks f) r is never = absurd (cc)
-  stops_made found report chosen series (Works choices count said works w) r is never =
+  stops_made found report chosen sets series (Misused none rests) r is never = absurd (cc)
+  stops_made found report chosen sets series (Tested choices engines paths said tests f) r is never = absurd (cc)
+  stops_made found report chosen sets series (Queries choices engines grid instant path expr said queries q) r is never = absurd (cc)
+  stops_made found report chosen sets series (Formats expr said formats f) r is never = absurd (cc)
+  stops_made found report chosen sets series (Explains optimisers engines expr said asks f) r is never = absurd (cc)
+  stops_made found report chosen sets series (Works choices engines count said works w) r is never =
       let same : series ≡ count = cc in
       let six = script_stops choices.closed count (workload_path ∷ []) w.files w.last refl w.seen (subst (λ (n : ℕ). IsNoScript (workload_text n)) same never) in
       subst (IsOneOf (4 ∷ 6 ∷ 7 ∷ [])) (sym (r.status_is ∙ ap (λ (x : Report). x.status) w.is ∙ six)) refl
 
   pub made_is : (found : List ℕ → Option (List ℕ) → Type 0) (report : Report) → ReportsWords words found idle report → Reports before now status report
-      → IfMade (asked words) (λ text. IsNoScript text → IsOneOf (4 ∷ 6 ∷ 7 ∷ []) status)
+      → IfMade (asked 0 words) (λ text. IsNoScript text → IsOneOf (4 ∷ 6 ∷ 7 ∷ []) status)
   made_is found report h r =
-      made_so (asked words) 0 (λ text. IsNoScript text → IsOneOf (4 ∷ 6 ∷ 7 ∷ []) status) refl (λ chosen series is never. stops_made found report chosen series h r is never)
+      made_so (asked 0 words) 0 (λ text. IsNoScript text → IsOneOf (4 ∷ 6 ∷ 7 ∷ []) status) refl (λ chosen sets series is never. stops_made found report chosen sets series h r is never)

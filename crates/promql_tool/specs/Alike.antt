@@ -2,6 +2,7 @@
 use Rattle.std.specs.Prelude.{◌≡◌, ℕ, List, Option, None, Some}
 use Rattle.ticks.specs.Moments.{Moments}
 use Rattle.tool_words.specs.Asked.{Wish, explain, format, query, test, workload}
+use Rattle.tool_words.specs.Engines.{Labels}
 use Rattle.tool_words.specs.declared.asked.Choices.{Choices}
 use Rattle.tool_words.specs.declared.asked.Optimisers.{Optimisers}
 
@@ -9,8 +10,8 @@ use Rattle.tool_words.specs.declared.asked.Optimisers.{Optimisers}
 -- rewrites of plans, but of a plan that is printed.
 pub data AskAlike : Option Wish → Option Wish → Type 0 where
   misused : AskAlike None None
-  tests : (one other : Choices) (paths : List (List ℕ)) → one.closed ≡ other.closed → AskAlike (Some (test one paths)) (Some (test other paths))
-  queries : (one other : Choices) (moments : Moments) (path expr : List ℕ) → one.closed ≡ other.closed → AskAlike (Some (query one moments path expr)) (Some (query other moments path expr))
-  workloads : (one other : Choices) (series : ℕ) → one.closed ≡ other.closed → AskAlike (Some (workload one series)) (Some (workload other series))
+  tests : (one other : Choices) (engines : List Labels) (paths : List (List ℕ)) → one.closed ≡ other.closed → AskAlike (Some (test one engines paths)) (Some (test other engines paths))
+  queries : (one other : Choices) (engines : List Labels) (moments : Moments) (path expr : List ℕ) → one.closed ≡ other.closed → AskAlike (Some (query one engines moments path expr)) (Some (query other engines moments path expr))
+  workloads : (one other : Choices) (engines : List Labels) (series : ℕ) → one.closed ≡ other.closed → AskAlike (Some (workload one engines series)) (Some (workload other engines series))
   formats : (expr : List ℕ) → AskAlike (Some (format expr)) (Some (format expr))
-  explains : (optimisers : Optimisers) (expr : List ℕ) → AskAlike (Some (explain optimisers expr)) (Some (explain optimisers expr))
+  explains : (optimisers : Optimisers) (engines : List Labels) (expr : List ℕ) → AskAlike (Some (explain optimisers engines expr)) (Some (explain optimisers engines expr))

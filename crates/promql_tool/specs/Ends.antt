@@ -3,6 +3,7 @@ use Rattle.std.specs.Prelude.{◌≡◌, ◌==◌, ℕ, Bool, List, [], ◌∷�
 use Rattle.std.specs.List.{list_any}
 use Rattle.edge_io.specs.Written.{appended, WroteFront}
 use Rattle.tool_words.specs.Asked.{Wish, asked, test, workload}
+use Rattle.tool_words.specs.Engines.{Labels}
 use Rattle.tool_words.specs.declared.asked.Choices.{Choices}
 use Rattle.promql_tool.specs.Files.{Begins, Gone, JudgedFile, Refused, Sees, files_text}
 use Rattle.promql_tool.specs.Found.{Just}
@@ -26,7 +27,7 @@ pub record Reports (before now : Option (List ℕ)) (status : ℕ) (report : Rep
 pub data IsRefused (words : List (List ℕ)) (found : List ℕ → Option (List ℕ) → Type 0) (before now : Option (List ℕ)) : Type 0 where
   refuses : (files : List JudgedFile) (path : List ℕ) (refusal : Refusal) → Sees (closed_of words) found (files_of words) files (Refused path refusal)
       → now ≡ appended before (files_text files ++ refusal_text path refusal) → IsRefused words found before now
-  makes : (choices : Choices) (series : ℕ) (refusal : Refusal) → asked words ≡ Some (workload choices series) → IsRefusedFor (workload_text series) refusal
+  makes : (choices : Choices) (engines : List Labels) (series : ℕ) (refusal : Refusal) → asked 0 words ≡ Some (workload choices engines series) → IsRefusedFor (workload_text series) refusal
       → now ≡ appended before (loaded_text series ++ refusal_text workload_path refusal) → IsRefused words found before now
 
 -- A file isn't there. The lines of the files before it were written, and then its fault.
@@ -48,7 +49,7 @@ IfFirst (path ∷ paths) IsSuch = IsSuch path
 
 -- the script of a workload is such, if the words ask for one
 abbrev pub IfMade : Option Wish → (List ℕ → Type 0) → Type 0
-IfMade (Some (workload choices series)) IsSuch = IsSuch (workload_text series)
+IfMade (Some (workload choices engines series)) IsSuch = IsSuch (workload_text series)
 IfMade _ IsSuch = Unit {0}
 
 -- A run that was cut off: nothing was written, or a front of a report, or a front of what a run over files writes at first; of a
@@ -56,6 +57,6 @@ IfMade _ IsSuch = Unit {0}
 pub data IsCut (words : List (List ℕ)) (found : List ℕ → Option (List ℕ) → Type 0) (before now : Option (List ℕ)) : Type 0 where
   unwritten : now ≡ before → IsCut words found before now
   reporting : (report : Report) → IsReport words found report → WroteFront before now report.text → IsCut words found before now
-  judging : (choices : Choices) (paths : List (List ℕ)) (text : List ℕ) → asked words ≡ Some (test choices paths) → Begins choices.closed found paths text → WroteFront before now text → IsCut words found before now
-  working : (choices : Choices) (series : ℕ) (text : List ℕ) → asked words ≡ Some (workload choices series) → Begins choices.closed (Just (workload_text series)) (workload_path ∷ []) text → WroteFront before now (loaded_text series ++ text)
+  judging : (choices : Choices) (engines : List Labels) (paths : List (List ℕ)) (text : List ℕ) → asked 0 words ≡ Some (test choices engines paths) → Begins choices.closed found paths text → WroteFront before now text → IsCut words found before now
+  working : (choices : Choices) (engines : List Labels) (series : ℕ) (text : List ℕ) → asked 0 words ≡ Some (workload choices engines series) → Begins choices.closed (Just (workload_text series)) (workload_path ∷ []) text → WroteFront before now (loaded_text series ++ text)
       → IsCut words found before now

@@ -8,6 +8,7 @@ use Rattle.edge_io.specs.declared.sink.SinkFail.TheVariants as sinks
 use Rattle.ticks.specs.declared.grid.Grid.{Grid}
 use Rattle.ticks.specs.Moments.{moments_in}
 use Rattle.tool_words.specs.Asked.{asked, query, test}
+use Rattle.tool_words.specs.Engines.{Labels}
 use Rattle.tool_words.specs.declared.asked.Choices.{Choices}
 use Rattle.promql_tool.specs.Ends.{IsOneOf}
 use Rattle.promql_tool.specs.Files.{IsJudged, JudgedFile, all_failed, all_passed, files_text}
@@ -55,7 +56,7 @@ pub data ReachesFiles {L : Type 0} (fetch : L → List ℕ → L → Type 0) (cl
 pub data Reaches {L : Type 0} (fetch : L → List ℕ → L → Type 0) (words : List (List ℕ)) (found : List ℕ → Option (List ℕ) → Type 0) (library_before library_now : L) (before now : Option (List ℕ)) (idle : Type 0) (status : ℕ) : Type 0 where
   no_file : files_of words ≡ [] → library_now ≡ library_before → Reaches fetch words found library_before library_now before now idle status
   no_memory : status ≡ 7 → library_now ≡ library_before → now ≡ before → Reaches fetch words found library_before library_now before now idle status
-  one_file : (choices : Choices) (grid : Grid) (instant : Bool) (path expr : List ℕ) → asked words ≡ Some (query choices (moments_in grid instant) path expr) → fetch library_before path library_now
+  one_file : (choices : Choices) (engines : List Labels) (grid : Grid) (instant : Bool) (path expr : List ℕ) → asked 0 words ≡ Some (query choices engines (moments_in grid instant) path expr) → fetch library_before path library_now
       → Reaches fetch words found library_before library_now before now idle status
-  files : (choices : Choices) (paths : List (List ℕ)) → asked words ≡ Some (test choices paths) → ReachesFiles fetch choices.closed found paths library_before library_now before now idle status
+  files : (choices : Choices) (engines : List Labels) (paths : List (List ℕ)) → asked 0 words ≡ Some (test choices engines paths) → ReachesFiles fetch choices.closed found paths library_before library_now before now idle status
       → Reaches fetch words found library_before library_now before now idle status

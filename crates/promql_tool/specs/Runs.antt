@@ -18,6 +18,7 @@ use Rattle.test_runner.specs.declared.fault.RunnerFault.TheVariants as runner
 use Rattle.test_runner.specs.declared.totals.Totals.{Totals}
 use Rattle.ticks.specs.declared.grid.Grid.{Grid}
 use Rattle.tool_words.specs.Asked.{asked, explain, format, query, test, workload}
+use Rattle.tool_words.specs.Engines.{Labels}
 use Rattle.tool_words.specs.declared.asked.Choices.{Choices}
 use Rattle.tool_words.specs.declared.asked.Optimisers.{Optimisers}
 use Rattle.ticks.specs.Moments.{moments_in}
@@ -190,13 +191,13 @@ pub data IsCutWorkload (closed : Bool) (series : ℕ) (before now : Option (List
 
 -- a report of words, with what is known of the counters
 pub data ReportsWords (words : List (List ℕ)) (found : List ℕ → Option (List ℕ) → Type 0) (idle : Type 0) : Report → Type 0 where
-  Misused : asked words ≡ None → idle → ReportsWords words found idle usage_report
-  Tested : (choices : Choices) (paths : List (List ℕ)) (report : Report) → asked words ≡ Some (test choices paths) → ReportsFiles choices.closed found paths idle report → ReportsWords words found idle report
-  Queries : (choices : Choices) (grid : Grid) (instant : Bool) (path expr : List ℕ) (report : Report) → asked words ≡ Some (query choices (moments_in grid instant) path expr) → ReportsQuery choices.closed found path expr grid instant idle report
+  Misused : asked 0 words ≡ None → idle → ReportsWords words found idle usage_report
+  Tested : (choices : Choices) (engines : List Labels) (paths : List (List ℕ)) (report : Report) → asked 0 words ≡ Some (test choices engines paths) → ReportsFiles choices.closed found paths idle report → ReportsWords words found idle report
+  Queries : (choices : Choices) (engines : List Labels) (grid : Grid) (instant : Bool) (path expr : List ℕ) (report : Report) → asked 0 words ≡ Some (query choices engines (moments_in grid instant) path expr) → ReportsQuery choices.closed found path expr grid instant idle report
       → ReportsWords words found idle report
-  Works : (choices : Choices) (series : ℕ) (report : Report) → asked words ≡ Some (workload choices series) → ReportsWorkload choices.closed series idle report → ReportsWords words found idle report
-  Formats : (expr : List ℕ) (report : Report) → asked words ≡ Some (format expr) → Formatted expr report → ReportsWords words found idle report
-  Explains : (optimisers : Optimisers) (expr : List ℕ) (report : Report) → asked words ≡ Some (explain optimisers expr) → Explained (rewrites_in optimisers) expr report → ReportsWords words found idle report
+  Works : (choices : Choices) (engines : List Labels) (series : ℕ) (report : Report) → asked 0 words ≡ Some (workload choices engines series) → ReportsWorkload choices.closed series idle report → ReportsWords words found idle report
+  Formats : (expr : List ℕ) (report : Report) → asked 0 words ≡ Some (format expr) → Formatted expr report → ReportsWords words found idle report
+  Explains : (optimisers : Optimisers) (engines : List Labels) (expr : List ℕ) (report : Report) → asked 0 words ≡ Some (explain optimisers engines expr) → Explained (rewrites_in optimisers) expr report → ReportsWords words found idle report
 
 -- the report that a page is
 abbrev pub page_report : Page → Report

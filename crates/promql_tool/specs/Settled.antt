@@ -99,8 +99,8 @@ IsPlannedOnce rewrites expr = (a b : Outline) → IsPlannedSo rewrites expr a �
 -- that is printed.
 abbrev pub IsSettled : Option Wish → (List ℕ → Option (List ℕ)) → Type 0
 IsSettled None files = Unit {0}
-IsSettled (Some (test choices paths)) files = AllByRecursion (ComesToOne choices.closed (Have files)) paths
-IsSettled (Some (query choices moments path expr)) files = IsAnsweredOnce choices.closed moments (Have files) path expr
-IsSettled (Some (workload choices series)) files = ComesToOne choices.closed (Just (workload_text series)) workload_path
+IsSettled (Some (test choices engines paths)) files = AllByRecursion (ComesToOne choices.closed (Have files)) paths
+IsSettled (Some (query choices engines moments path expr)) files = IsAnsweredOnce choices.closed moments (Have files) path expr
+IsSettled (Some (workload choices engines series)) files = ComesToOne choices.closed (Just (workload_text series)) workload_path
 IsSettled (Some (format expr)) files = IsReadOnce expr
-IsSettled (Some (explain optimisers expr)) files = IsPlannedOnce (rewrites_in optimisers) expr
+IsSettled (Some (explain optimisers engines expr)) files = IsPlannedOnce (rewrites_in optimisers) expr

@@ -12,6 +12,7 @@ use Rattle.ticks.specs.Moments.{moments_in}
 use Rattle.ticks.specs.Works.{Counts}
 use Rattle.ticks.specs.declared.grid.Grid.{Grid}
 use Rattle.tool_words.specs.Asked.{asked, query, test, workload}
+use Rattle.tool_words.specs.Engines.{Labels}
 use Rattle.tool_words.specs.declared.asked.Choices.{Choices}
 use Rattle.promql_tool.specs.Found.{Just}
 use Rattle.promql_tool.specs.Reading.{IsReadAs}
@@ -52,8 +53,8 @@ pub data QuerySpends (options : Options) (found : List ℕ → Option (List ℕ)
 -- Words spend nothing, or what the files, the query or the script of the workload do that they ask for.
 pub data WordsSpend (words : List (List ℕ)) (found : List ℕ → Option (List ℕ) → Type 0) (before after : Counts) : Type 0 where
   no_evaluation : after ≡ before → WordsSpend words found before after
-  tests : (choices : Choices) (paths : List (List ℕ)) → asked words ≡ Some (test choices paths) → FilesSpend (engine_options choices) found paths before after → WordsSpend words found before after
-  queries : (choices : Choices) (grid : Grid) (instant : Bool) (path expr : List ℕ) → asked words ≡ Some (query choices (moments_in grid instant) path expr)
+  tests : (choices : Choices) (engines : List Labels) (paths : List (List ℕ)) → asked 0 words ≡ Some (test choices engines paths) → FilesSpend (engine_options choices) found paths before after → WordsSpend words found before after
+  queries : (choices : Choices) (engines : List Labels) (grid : Grid) (instant : Bool) (path expr : List ℕ) → asked 0 words ≡ Some (query choices engines (moments_in grid instant) path expr)
       → QuerySpends (engine_options choices) found path expr grid before after → WordsSpend words found before after
-  works : (choices : Choices) (series : ℕ) → asked words ≡ Some (workload choices series) → FileSpends (engine_options choices) (Just (workload_text series)) workload_path before after
+  works : (choices : Choices) (engines : List Labels) (series : ℕ) → asked 0 words ≡ Some (workload choices engines series) → FileSpends (engine_options choices) (Just (workload_text series)) workload_path before after
       → WordsSpend words found before after

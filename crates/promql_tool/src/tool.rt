@@ -68,7 +68,7 @@ fn run_words<L: Library, S: Sink, W: Ledger>(
 ) -> Result<Status, SinkFail>
     ensures fetched { FetchesFront L.fetches (files_of (map string_bytes words.now)) library.old library.new }
     ensures reached { Reaches L.fetches (map string_bytes words.now) (IsFound (L.told library.old) (L.sound library.old)) library.old library.new (S.written out.old) (S.written out.new) (work.new ≡ work.old) (status_of result) }
-    ensures unevaluated { AsksToPrint (asked (map string_bytes words.now)) → work.new ≡ work.old }
+    ensures unevaluated { AsksToPrint (asked 0 (map string_bytes words.now)) → work.new ≡ work.old }
     ensures told { L.told library.new ≡ L.told library.old }
     ensures library_sound { L.sound library.old → L.sound library.new }
     ensures gone { IfOk result (λ status. status.0 ≡ 3 → Rose (L.faults library.old) (L.faults library.new)) }
@@ -80,9 +80,10 @@ fn run_words<L: Library, S: Sink, W: Ledger>(
     ensures never { S.sound out.old → IsErrOf result SinkFail.Failed → ⊥ }
     ensures bounded { WordsSpend (map string_bytes words.now) (IsFound (L.told library.old) (L.sound library.old)) work.old work.new }
 {
-    match read_words(alloc, words)? {
+    // There are no boxes of engines, so that no words declare any.
+    match read_words(alloc, words, 0)? {
         None => print_usage(out),
-        Some(Asked::Test { choices, files }) => {
+        Some(Asked::Test { choices, files, .. }) => {
             let options = options_of(choices);
             run_files(alloc, files.as_slice(), &options, library, out, work)
         }
@@ -93,6 +94,7 @@ fn run_words<L: Library, S: Sink, W: Ledger>(
                 instant,
                 file,
                 expr,
+                ..
             },
         ) => {
             let options = options_of(choices);
@@ -104,14 +106,18 @@ fn run_words<L: Library, S: Sink, W: Ledger>(
             };
             run_query(alloc, file.as_str(), question, library, out, work)
         }
-        Some(Asked::Workload { choices, count }) => {
+        Some(Asked::Workload { choices, count, .. }) => {
             let options = options_of(choices);
             run_workload(alloc, count, &options, out, work)
         }
         Some(Asked::Format { expr }) => run_format(alloc, expr.as_str(), out),
-        Some(Asked::Explain { optimisers, expr }) => {
-            run_explain(alloc, optimisers, expr.as_str(), out)
-        }
+        Some(
+            Asked::Explain {
+                optimisers,
+                expr,
+                ..
+            },
+        ) => { run_explain(alloc, optimisers, expr.as_str(), out) }
     }
 }
 
@@ -156,8 +162,8 @@ pub fn run_tool<L: Library, S: Sink, W: Ledger>(
     ensures sink_sound { S.sound out.old → S.sound out.new }
 
     // 2: exactly where the words are no command; then the usage line is written.
-    ensures usage { result.0 ≡ 2 → (asked (map string_bytes words.now) ≡ None) × (S.written out.new ≡ appended (S.written out.old) usage) }
-    ensures words { asked (map string_bytes words.now) ≡ None → IsOneOf (2 ∷ 4 ∷ 7 ∷ []) result.0 }
+    ensures usage { result.0 ≡ 2 → (asked 0 (map string_bytes words.now) ≡ None) × (S.written out.new ≡ appended (S.written out.old) usage) }
+    ensures words { asked 0 (map string_bytes words.now) ≡ None → IsOneOf (2 ∷ 4 ∷ 7 ∷ []) result.0 }
 
     // 6: a file of the words is refused; then its refusal is printed behind the verdicts of the files before it, and no more. Or
     // the script of a workload is; then its refusal is printed behind how much it loads.
@@ -165,7 +171,7 @@ pub fn run_tool<L: Library, S: Sink, W: Ledger>(
         IsRefused (map string_bytes words.now) (IsFound (L.told library.old) (L.sound library.old)) (S.written out.old) (S.written out.new) }
     ensures outside { IfSome (L.told library.old) (λ files. (path : List ℕ) → Contains (files_of (map string_bytes words.now)) path →
         IsUnrun (files path) → IsOneOf (3 ∷ 4 ∷ 6 ∷ 7 ∷ []) result.0) }
-    ensures made { IfMade (asked (map string_bytes words.now)) (λ text. IsNoScript text → IsOneOf (4 ∷ 6 ∷ 7 ∷ []) result.0) }
+    ensures made { IfMade (asked 0 (map string_bytes words.now)) (λ text. IsNoScript text → IsOneOf (4 ∷ 6 ∷ 7 ∷ []) result.0) }
 
     // Where the words are no command, or the only file isn't there or is refused, nothing was evaluated; nor where the
     // first one is so.
@@ -174,7 +180,7 @@ pub fn run_tool<L: Library, S: Sink, W: Ledger>(
         IsUnrun (files path) → IsOneOf (3 ∷ 6 ∷ []) result.0 → work.new ≡ work.old)) }
 
     // Of an expression that is printed, or its plan, nothing is evaluated.
-    ensures unevaluated { AsksToPrint (asked (map string_bytes words.now)) → work.new ≡ work.old }
+    ensures unevaluated { AsksToPrint (asked 0 (map string_bytes words.now)) → work.new ≡ work.old }
 
     // The counters rise by at most what the plans of all evaluations cost, each over the samples that stand then.
     ensures bounded { WordsSpend (map string_bytes words.now) (IsFound (L.told library.old) (L.sound library.old)) work.old work.new }

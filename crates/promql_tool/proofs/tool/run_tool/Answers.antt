@@ -38,7 +38,7 @@ returns-in-Ok-clause-made g c = let e = c.in-Ok.ensures.ends in made_is _ _ _ _ 
 pub returns-in-Err-clause-made : goal.returns-in-Err-clause-made
 returns-in-Err-clause-made g c =
     let is = cut_status c.in-Err.cause c.cut_status.result.0 (IsOneOf (4 ∷ 6 ∷ 7 ∷ [])) c.cut_status.ensures.failed c.cut_status.ensures.memory refl refl in
-    made_each (asked (map string_bytes c.args.words.now)) (λ text. IsNoScript text → IsOneOf (4 ∷ 6 ∷ 7 ∷ []) c.cut_status.result.0) (λ text never. is)
+    made_each (asked 0 (map string_bytes c.args.words.now)) (λ text. IsNoScript text → IsOneOf (4 ∷ 6 ∷ 7 ∷ []) c.cut_status.result.0) (λ text never. is)
 
 pub returns-in-Ok-clause-idle : goal.returns-in-Ok-clause-idle
 returns-in-Ok-clause-idle g c = let e = c.in-Ok.ensures.ends in idle_is _ _ _ _ _ _ e.0 e.1 e.2

@@ -24,14 +24,14 @@ returns-in-Some-Test-clause-ends g c =
     let words = map string_bytes c.args.words.now in
     let found = IsFound (g.L.Library.told c.args.library.now) (g.L.Library.sound c.args.library.now) in
     let wish = rw (c.in-Some-Test.is, c.in-Some-Test.field-0-is) at c.in_ok-read_words.ensures.wish in
-    let is : asked words ≡ Some (test c.in-Some-Test.choices c.as_slice.result.now) = sym wish ∙ ap (λ (paths : List (List ℕ)). Some (test c.in-Some-Test.choices paths)) (sym c.as_slice.ensures) in
-    files_end words c.in-Some-Test.choices found (g.S.Sink.written c.args.out.now) (g.S.Sink.written c.run_files.new.out) _ c.as_slice.result.now c.run_files.result is (rw c.options_of-options.ensures at c.run_files.ensures.ends)
+    let is : asked 0 words ≡ Some (test c.in-Some-Test.choices c.in-Some-Test.engines c.as_slice.result.now) = sym wish ∙ ap (λ (paths : List (List ℕ)). Some (test c.in-Some-Test.choices c.in-Some-Test.engines paths)) (sym c.as_slice.ensures) in
+    files_end words c.in-Some-Test.choices c.in-Some-Test.engines found (g.S.Sink.written c.args.out.now) (g.S.Sink.written c.run_files.new.out) _ c.as_slice.result.now c.run_files.result is (rw c.options_of-options.ensures at c.run_files.ensures.ends)
 
 pub returns-in-Some-Query-clause-fetched : goal.returns-in-Some-Query-clause-fetched
 returns-in-Some-Query-clause-fetched g c =
     let wish = rw (c.in-Some-Query.is, c.in-Some-Query.field-0-is) at c.in_ok-read_words.ensures.wish in
     let moments = moments_in c.in-Some-Query.grid c.in-Some-Query.instant in
-    let named = ap (λ (path : List ℕ). files_asked (Some (query c.in-Some-Query.choices moments path c.in-Some-Query.expr))) c.as_str-in-Some-Query.ensures ∙ ap files_asked wish in
+    let named = ap (λ (path : List ℕ). files_asked (Some (query c.in-Some-Query.choices c.in-Some-Query.engines moments path c.in-Some-Query.expr))) c.as_str-in-Some-Query.ensures ∙ ap files_asked wish in
     one_fetched _ g.L.Library.fetches _ c.as_str-in-Some-Query.result.now c.args.library.now c.run_query.new.library named c.run_query.ensures.fetched
 
 pub returns-in-Some-Query-clause-ends : goal.returns-in-Some-Query-clause-ends
@@ -44,24 +44,24 @@ returns-in-Some-Query-clause-ends g c =
     let instant = c.in-Some-Query.instant in
     let moments = moments_in grid instant in
     let wish = rw (c.in-Some-Query.is, c.in-Some-Query.field-0-is) at c.in_ok-read_words.ensures.wish in
-    let is : asked words ≡ Some (query c.in-Some-Query.choices moments path expr) =
-    sym wish ∙ ap (λ (p : List ℕ). Some (query c.in-Some-Query.choices moments p c.in-Some-Query.expr)) (sym c.as_str-in-Some-Query.ensures) ∙ ap (λ (e : List ℕ). Some (query c.in-Some-Query.choices moments path e)) (sym c.as_str.ensures) in
-    query_end words c.in-Some-Query.choices found (g.S.Sink.written c.args.out.now) (g.S.Sink.written c.run_query.new.out) _ grid instant path expr is c.run_query.result (rw c.options_of-options-in-Some-Query.ensures at c.run_query.ensures.ends)
+    let is : asked 0 words ≡ Some (query c.in-Some-Query.choices c.in-Some-Query.engines moments path expr) =
+    sym wish ∙ ap (λ (p : List ℕ). Some (query c.in-Some-Query.choices c.in-Some-Query.engines moments p c.in-Some-Query.expr)) (sym c.as_str-in-Some-Query.ensures) ∙ ap (λ (e : List ℕ). Some (query c.in-Some-Query.choices c.in-Some-Query.engines moments path e)) (sym c.as_str.ensures) in
+    query_end words c.in-Some-Query.choices c.in-Some-Query.engines found (g.S.Sink.written c.args.out.now) (g.S.Sink.written c.run_query.new.out) _ grid instant path expr is c.run_query.result (rw c.options_of-options-in-Some-Query.ensures at c.run_query.ensures.ends)
 
 pub returns-in-Some-Workload-clause-ends : goal.returns-in-Some-Workload-clause-ends
 returns-in-Some-Workload-clause-ends g c =
     let words = map string_bytes c.args.words.now in
     let found = IsFound (g.L.Library.told c.args.library.now) (g.L.Library.sound c.args.library.now) in
     let wish = rw (c.in-Some-Workload.is, c.in-Some-Workload.field-0-is) at c.in_ok-read_words.ensures.wish in
-    let is : asked words ≡ Some (workload c.in-Some-Workload.choices c.in-Some-Workload.count) = sym wish in
-    workload_end words c.in-Some-Workload.choices found (g.S.Sink.written c.args.out.now) (g.S.Sink.written c.run_workload.new.out) _ c.in-Some-Workload.count c.run_workload.result is (rw c.options_of-options-in-Some-Workload.ensures at c.run_workload.ensures.ends)
+    let is : asked 0 words ≡ Some (workload c.in-Some-Workload.choices c.in-Some-Workload.engines c.in-Some-Workload.count) = sym wish in
+    workload_end words c.in-Some-Workload.choices c.in-Some-Workload.engines found (g.S.Sink.written c.args.out.now) (g.S.Sink.written c.run_workload.new.out) _ c.in-Some-Workload.count c.run_workload.result is (rw c.options_of-options-in-Some-Workload.ensures at c.run_workload.ensures.ends)
 
 pub returns-in-Some-Format-clause-ends : goal.returns-in-Some-Format-clause-ends
 returns-in-Some-Format-clause-ends g c =
     let words = map string_bytes c.args.words.now in
     let found = IsFound (g.L.Library.told c.args.library.now) (g.L.Library.sound c.args.library.now) in
     let wish = rw (c.in-Some-Format.is, c.in-Some-Format.field-0-is) at c.in_ok-read_words.ensures.wish in
-    let is : asked words ≡ Some (format c.as_str-in-Some-Format.result.now) = sym wish ∙ ap (λ (e : List ℕ). Some (format e)) (sym c.as_str-in-Some-Format.ensures) in
+    let is : asked 0 words ≡ Some (format c.as_str-in-Some-Format.result.now) = sym wish ∙ ap (λ (e : List ℕ). Some (format e)) (sym c.as_str-in-Some-Format.ensures) in
     format_end words found (g.S.Sink.written c.args.out.now) (g.S.Sink.written c.run_format.new.out) _ c.as_str-in-Some-Format.result.now c.run_format.result is c.run_format.ensures.ends
 
 pub returns-in-Some-Explain-clause-ends : goal.returns-in-Some-Explain-clause-ends
@@ -70,8 +70,8 @@ returns-in-Some-Explain-clause-ends g c =
     let found = IsFound (g.L.Library.told c.args.library.now) (g.L.Library.sound c.args.library.now) in
     let optimisers = c.in-Some-Explain.optimisers in
     let wish = rw (c.in-Some-Explain.is, c.in-Some-Explain.field-0-is) at c.in_ok-read_words.ensures.wish in
-    let is : asked words ≡ Some (explain optimisers c.as_str-in-Some-Explain.result.now) = sym wish ∙ ap (λ (e : List ℕ). Some (explain optimisers e)) (sym c.as_str-in-Some-Explain.ensures) in
-    explain_end words found (g.S.Sink.written c.args.out.now) (g.S.Sink.written c.run_explain.new.out) _ optimisers c.as_str-in-Some-Explain.result.now c.run_explain.result is c.run_explain.ensures.ends
+    let is : asked 0 words ≡ Some (explain optimisers c.in-Some-Explain.engines c.as_str-in-Some-Explain.result.now) = sym wish ∙ ap (λ (e : List ℕ). Some (explain optimisers c.in-Some-Explain.engines e)) (sym c.as_str-in-Some-Explain.ensures) in
+    explain_end words found (g.S.Sink.written c.args.out.now) (g.S.Sink.written c.run_explain.new.out) _ optimisers c.in-Some-Explain.engines c.as_str-in-Some-Explain.result.now c.run_explain.result is c.run_explain.ensures.ends
 
 pub returns-in_err-read_words-clause-reached : goal.returns-in_err-read_words-clause-reached
 returns-in_err-read_words-clause-reached g c =
@@ -87,8 +87,8 @@ pub returns-in-Some-Test-clause-reached : goal.returns-in-Some-Test-clause-reach
 returns-in-Some-Test-clause-reached g c =
     let words = map string_bytes c.args.words.now in
     let wish = rw (c.in-Some-Test.is, c.in-Some-Test.field-0-is) at c.in_ok-read_words.ensures.wish in
-    let is : asked words ≡ Some (test c.in-Some-Test.choices c.as_slice.result.now) = sym wish ∙ ap (λ (paths : List (List ℕ)). Some (test c.in-Some-Test.choices paths)) (sym c.as_slice.ensures) in
-    files c.in-Some-Test.choices c.as_slice.result.now is (rw c.options_of-options.ensures at c.run_files.ensures.reached)
+    let is : asked 0 words ≡ Some (test c.in-Some-Test.choices c.in-Some-Test.engines c.as_slice.result.now) = sym wish ∙ ap (λ (paths : List (List ℕ)). Some (test c.in-Some-Test.choices c.in-Some-Test.engines paths)) (sym c.as_slice.ensures) in
+    files c.in-Some-Test.choices c.in-Some-Test.engines c.as_slice.result.now is (rw c.options_of-options.ensures at c.run_files.ensures.reached)
 
 pub returns-in-Some-Query-clause-reached : goal.returns-in-Some-Query-clause-reached
 returns-in-Some-Query-clause-reached g c =
@@ -99,9 +99,9 @@ returns-in-Some-Query-clause-reached g c =
     let instant = c.in-Some-Query.instant in
     let moments = moments_in grid instant in
     let wish = rw (c.in-Some-Query.is, c.in-Some-Query.field-0-is) at c.in_ok-read_words.ensures.wish in
-    let is : asked words ≡ Some (query c.in-Some-Query.choices moments path expr) =
-    sym wish ∙ ap (λ (p : List ℕ). Some (query c.in-Some-Query.choices moments p c.in-Some-Query.expr)) (sym c.as_str-in-Some-Query.ensures) ∙ ap (λ (e : List ℕ). Some (query c.in-Some-Query.choices moments path e)) (sym c.as_str.ensures) in
-    one_file c.in-Some-Query.choices grid instant path expr is c.run_query.ensures.fetched
+    let is : asked 0 words ≡ Some (query c.in-Some-Query.choices c.in-Some-Query.engines moments path expr) =
+    sym wish ∙ ap (λ (p : List ℕ). Some (query c.in-Some-Query.choices c.in-Some-Query.engines moments p c.in-Some-Query.expr)) (sym c.as_str-in-Some-Query.ensures) ∙ ap (λ (e : List ℕ). Some (query c.in-Some-Query.choices c.in-Some-Query.engines moments path e)) (sym c.as_str.ensures) in
+    one_file c.in-Some-Query.choices c.in-Some-Query.engines grid instant path expr is c.run_query.ensures.fetched
 
 pub returns-in-Some-Workload-clause-reached : goal.returns-in-Some-Workload-clause-reached
 returns-in-Some-Workload-clause-reached g c =
@@ -144,8 +144,8 @@ returns-in-Some-Test-clause-bounded g c =
     let words = map string_bytes c.args.words.now in
     let found = IsFound (g.L.Library.told c.args.library.now) (g.L.Library.sound c.args.library.now) in
     let wish = rw (c.in-Some-Test.is, c.in-Some-Test.field-0-is) at c.in_ok-read_words.ensures.wish in
-    let is : asked words ≡ Some (test c.in-Some-Test.choices c.as_slice.result.now) = sym wish ∙ ap (λ (paths : List (List ℕ)). Some (test c.in-Some-Test.choices paths)) (sym c.as_slice.ensures) in
-    tests c.in-Some-Test.choices c.as_slice.result.now is
+    let is : asked 0 words ≡ Some (test c.in-Some-Test.choices c.in-Some-Test.engines c.as_slice.result.now) = sym wish ∙ ap (λ (paths : List (List ℕ)). Some (test c.in-Some-Test.choices c.in-Some-Test.engines paths)) (sym c.as_slice.ensures) in
+    tests c.in-Some-Test.choices c.in-Some-Test.engines c.as_slice.result.now is
     (subst (λ (o : Options). FilesSpend o found c.as_slice.result.now c.args.work.now c.run_files.new.work) c.options_of-options.ensures c.run_files.ensures.bounded)
 
 pub returns-in-Some-Query-clause-bounded : goal.returns-in-Some-Query-clause-bounded
@@ -158,16 +158,16 @@ returns-in-Some-Query-clause-bounded g c =
     let instant = c.in-Some-Query.instant in
     let moments = moments_in grid instant in
     let wish = rw (c.in-Some-Query.is, c.in-Some-Query.field-0-is) at c.in_ok-read_words.ensures.wish in
-    let is : asked words ≡ Some (query c.in-Some-Query.choices moments path expr) =
-    sym wish ∙ ap (λ (p : List ℕ). Some (query c.in-Some-Query.choices moments p c.in-Some-Query.expr)) (sym c.as_str-in-Some-Query.ensures) ∙ ap (λ (e : List ℕ). Some (query c.in-Some-Query.choices moments path e)) (sym c.as_str.ensures) in
-    queries c.in-Some-Query.choices grid instant path expr is
+    let is : asked 0 words ≡ Some (query c.in-Some-Query.choices c.in-Some-Query.engines moments path expr) =
+    sym wish ∙ ap (λ (p : List ℕ). Some (query c.in-Some-Query.choices c.in-Some-Query.engines moments p c.in-Some-Query.expr)) (sym c.as_str-in-Some-Query.ensures) ∙ ap (λ (e : List ℕ). Some (query c.in-Some-Query.choices c.in-Some-Query.engines moments path e)) (sym c.as_str.ensures) in
+    queries c.in-Some-Query.choices c.in-Some-Query.engines grid instant path expr is
     (subst (λ (o : Options). QuerySpends o found path expr grid c.args.work.now c.run_query.new.work) c.options_of-options-in-Some-Query.ensures c.run_query.ensures.bounded)
 
 pub returns-in-Some-Workload-clause-bounded : goal.returns-in-Some-Workload-clause-bounded
 returns-in-Some-Workload-clause-bounded g c =
     let series = c.in-Some-Workload.count in
     let wish = rw (c.in-Some-Workload.is, c.in-Some-Workload.field-0-is) at c.in_ok-read_words.ensures.wish in
-    works c.in-Some-Workload.choices series (sym wish)
+    works c.in-Some-Workload.choices c.in-Some-Workload.engines series (sym wish)
     (subst (λ (o : Options). FileSpends o (Just (workload_text series)) workload_path c.args.work.now c.run_workload.new.work) c.options_of-options-in-Some-Workload.ensures c.run_workload.ensures.bounded)
 
 pub returns-in-Some-Format-clause-bounded : goal.returns-in-Some-Format-clause-bounded
