@@ -7,7 +7,7 @@ use std::test::Fail;
 use tool_words::engines_by;
 
 // Each line is what a list declares, set by set and each with a semicolon, or `refused`, or `taken`, and behind a `|` the list, or
-// words that stand for a long one.
+// words that stand for a long one. There are four boxes.
 const LISTS: &str = r##"
 {region="eu"};|region=eu
 {region="eu"};{region="us"};|region=eu;region=us
@@ -39,6 +39,8 @@ refused|a=1,a=1
 refused|a=1;a=1
 refused|a=1,b=2;b=2,a=1
 refused|a=1;a=2;a=1
+refused|a=1;a=2;a=3;a=4;a=5
+refused|a=1;a=1;a=1;a=1;a=1
 refused|a=1;b=1
 refused|a=1;a=2,b=1
 refused|a=1,b=1;a=2
@@ -100,7 +102,7 @@ fn told(alloc: Global, engines: Option<Items<Labels>>) -> Result<Vec<u8>, AllocE
 fn declares(alloc: Global, row: &str) -> Result<bool, Fail> {
     let (wanted, words) = row.split_once('|').ok_or("a row without a list")?;
     let list = list_of(alloc, words)?;
-    let text = told(alloc, engines_by(alloc, list.as_str())?)?;
+    let text = told(alloc, engines_by(alloc, list.as_str(), 4)?)?;
     let is_refused = text.as_slice() == "refused".as_bytes();
     Ok(if wanted == "taken" {
         !is_refused
@@ -111,5 +113,5 @@ fn declares(alloc: Global, row: &str) -> Result<bool, Fail> {
 
 #[test]
 fn lists_declare_engines(rt: HostRuntime) -> Result<(), Fail> {
-    rows_hold(rt.alloc(), LISTS, 41, declares)
+    rows_hold(rt.alloc(), LISTS, 43, declares)
 }

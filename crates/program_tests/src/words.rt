@@ -1,12 +1,15 @@
 use crate::rows::rows_hold;
+use holders::{Items, Text};
+use label_set::Labels;
 use std::alloc::{AllocError, Global};
 use std::test::Fail;
+use ticks::Grid;
 use tool_words::{
     Asked, Choices, Optimisers, batches_are_asked_for, commands_are_simple, edges_are_asked_for,
     read_words, words_say_what_they_spell,
 };
 
-// Each line is what is asked for, and then the words, each behind a `|`. Times are in milliseconds.
+// Each line is what is asked for, and then the words, each behind a `|`. Times are in milliseconds. There are no boxes of engines.
 const ROWS: &str = "refused
 refused|
 refused|--
@@ -322,7 +325,81 @@ refused|explain|--opts=all|--opts=all|x
 refused|explain|--edges|v2|x
 refused|explain|--batch=1|x
 refused|explain|--at=1|x
-refused|Explain|x";
+refused|Explain|x
+refused|workload|--engines=g=0|7
+refused|explain|--engines|r=eu|x
+refused|format|--engines=r=eu|x
+refused|promqltest|--engines|a=1|--opts|none|a";
+
+// The same, where there are two boxes of engines.
+const TWO_BOXES: &str = "over region=eu test <a>|promqltest|--engines|region=eu|a
+over region=eu;region=us test <a> <b>|promqltest|a|--engines=region=eu;region=us|b
+over a=1,b=2;a=1,b=3 test <a>|promqltest|--engines|b=2,a=1;a=1,b=3|a
+over a=x=y test <a>|promqltest|--engines|a=x=y|a
+over a==1 test <a>|promqltest|--engines=a==1|a
+over a = 1 test <a>|promqltest|--engines|a = 1|a
+over a=-1 test <-x>|promqltest|--engines|a=-1|--|-x
+over -a=1 test <a>|promqltest|--engines=-a=1|a
+over größe=日 test <a>|promqltest|--engines|größe=日|a
+closed by 3 without sort,propagate,merge,trim,avg,remote over a=1;a=2 test <a>|promqltest|--opts|none|--edges|v2|--engines|a=1;a=2|--batch|3|a
+test <a>|promqltest|a
+test <a=1>|promqltest|a=1
+test <--engines=a=1>|promqltest|--|--engines=a=1
+refused|promqltest|--engines|a=1;a=2;a=3|a
+refused|promqltest|--engines|a=1;a=1;a=1|a
+refused|promqltest|--engines|a=1;a=1|a
+refused|promqltest|--engines|a=1,b=2;b=2,a=1|a
+refused|promqltest|--engines|a=1;b=1|a
+refused|promqltest|--engines|a=1;a=1,b=2|a
+refused|promqltest|--engines||a
+refused|promqltest|--engines=|a
+refused|promqltest|--engines|;|a
+refused|promqltest|--engines|a=1;|a
+refused|promqltest|--engines|;a=1|a
+refused|promqltest|--engines|a=1,|a
+refused|promqltest|--engines|,a=1|a
+refused|promqltest|--engines|a|a
+refused|promqltest|--engines|a=|a
+refused|promqltest|--engines|=1|a
+refused|promqltest|--engines==1|a
+refused|promqltest|--engines|a=1,a=2|a
+refused|promqltest|--engines|__name__=x|a
+refused|promqltest|--engines|a=1,__name__=x|a
+refused|promqltest|--engines|-a=1|a
+refused|promqltest|--engines|a=1|--engines|a=1|a
+refused|promqltest|--engines=a=1|a|--engines=a=2
+refused|promqltest|--engines|a=1|--opts|x|a
+refused|promqltest|--engines|a=1
+refused|promqltest|a|--engines
+refused|promqltest|--engine|a=1|a
+refused|promqltest|--Engines|a=1|a
+over r=eu query 0 to 0 by 1 at once: <f> <e>|query|--engines|r=eu|f|e
+over r=eu;r=us query 0 to 60000 by 30000: <f> <e>|query|--from|0|--to|1m|--engines=r=eu;r=us|--step|30s|f|e
+query 0 to 0 by 1 at once: <f> <e>|query|f|e
+query 0 to 0 by 1 at once: <f> <--engines=a=1>|query|f|--|--engines=a=1
+refused|query|--engines|a=1;a=2;a=3|f|e
+refused|query|--engines|a=1;a=1|f|e
+refused|query|--engines=|f|e
+refused|query|--engines|a=1|f|e|--engines|a=1
+refused|query|--engines|a=1|--at|1|--from|0|f|e
+refused|query|--engines|a=1|f
+over g=0;g=1 workload 7|workload|--engines|g=0;g=1|7
+over g=0 workload 7|workload|7|--engines=g=0
+workload 7|workload|7
+refused|workload|--engines|g=0;g=1;g=2|7
+refused|workload|--engines|g=0;g=0|7
+refused|workload|--engines|g=0|0
+refused|workload|--engines|7
+over r=eu;r=us explain <x>|explain|--engines|r=eu;r=us|x
+without sort,merge,trim,remote over r=eu explain <x>|explain|x|--engines=r=eu|--opts|avg,propagate
+explain <x>|explain|x
+explain <--engines>|explain|--|--engines
+refused|explain|--engines|r=eu;r=us;r=ap|x
+refused|explain|--engines|r|x
+refused|explain|--engines|r=eu
+format <x>|format|x
+refused|format|--engines|r=eu|x
+refused|format|--engines=r=eu|x";
 
 /// The optimisers that aren't chosen.
 fn left_out(alloc: Global, optimisers: Optimisers) -> Result<String, AllocError> {
@@ -357,46 +434,100 @@ fn chosen(alloc: Global, choices: Choices) -> Result<String, AllocError> {
     }
 }
 
-fn told(alloc: Global, asked: Option<Asked>) -> Result<String, AllocError> {
+/// The labels of an engine, as a set of `--engines`.
+fn set_told(alloc: Global, labels: &Labels) -> Result<String, AllocError> {
+    let mut text = String::new(alloc);
+    for i in 0..labels.len() {
+        let (name, value) = labels.pair(i);
+        let comma = if i == 0 { "" } else { "," };
+        text.push_str(format!(in alloc; "{comma}{name}={value}")?.as_str())?;
+    }
+    Ok(text)
+}
+
+/// The engines that are declared, if there are any.
+fn over(alloc: Global, engines: Items<Labels>) -> Result<String, AllocError> {
+    let mut text = String::new(alloc);
+    for labels in engines.as_slice() {
+        text.push_str(if text.is_empty() { "over " } else { ";" })?;
+        text.push_str(set_told(alloc, labels)?.as_str())?;
+    }
+    if !text.is_empty() {
+        text.push_str(" ")?;
+    }
+    Ok(text)
+}
+
+/// What is chosen for evaluations, and the engines that they are over.
+fn front(alloc: Global, choices: Choices, engines: Items<Labels>) -> Result<String, AllocError> {
+    let (chosen, over) = (chosen(alloc, choices)?, over(alloc, engines)?);
+    format!(in alloc; "{chosen}{over}")
+}
+
+fn files_told(alloc: Global, front: String, files: Items<Text>) -> Result<String, AllocError> {
+    let mut text = front;
+    text.push_str("test")?;
+    for file in files.as_slice() {
+        let file = file.as_str();
+        text.push_str(format!(in alloc; " <{file}>")?.as_str())?;
+    }
+    Ok(text)
+}
+
+fn instants_told(alloc: Global, grid: Grid, instant: bool) -> Result<String, AllocError> {
+    let kind = if instant { " at once" } else { "" };
+    let (start, end, step) = (grid.start.0, grid.end.0, grid.step.0);
+    format!(in alloc; "{start} to {end} by {step}{kind}")
+}
+
+fn explain_told(
+    alloc: Global,
+    optimisers: Optimisers,
+    engines: Items<Labels>,
+    expr: Text,
+) -> Result<String, AllocError> {
+    let (without, over) = (left_out(alloc, optimisers)?, over(alloc, engines)?);
+    let expr = expr.as_str();
+    format!(in alloc; "{without}{over}explain <{expr}>")
+}
+
+fn told(alloc: Global, asked: Asked) -> Result<String, AllocError> {
     match asked {
-        None => String::from_str(alloc, "refused"),
-        Some(Asked::Test { choices, files }) => {
-            let mut text = chosen(alloc, choices)?;
-            text.push_str("test")?;
-            for file in files.as_slice() {
-                let file = file.as_str();
-                text.push_str(format!(in alloc; " <{file}>")?.as_str())?;
-            }
-            Ok(text)
-        }
-        Some(
-            Asked::Query {
-                choices,
-                grid,
-                instant,
-                file,
-                expr,
-            },
-        ) => {
-            let chosen = chosen(alloc, choices)?;
-            let kind = if instant { " at once" } else { "" };
-            let (start, end, step) = (grid.start.0, grid.end.0, grid.step.0);
+        Asked::Test {
+            choices,
+            engines,
+            files,
+        } => files_told(alloc, front(alloc, choices, engines)?, files),
+        Asked::Query {
+            choices,
+            engines,
+            grid,
+            instant,
+            file,
+            expr,
+        } => {
+            let front = front(alloc, choices, engines)?;
+            let instants = instants_told(alloc, grid, instant)?;
             let (file, expr) = (file.as_str(), expr.as_str());
-            format!(in alloc; "{chosen}query {start} to {end} by {step}{kind}: <{file}> <{expr}>")
+            format!(in alloc; "{front}query {instants}: <{file}> <{expr}>")
         }
-        Some(Asked::Workload { choices, count }) => {
-            let chosen = chosen(alloc, choices)?;
-            format!(in alloc; "{chosen}workload {count}")
+        Asked::Workload {
+            choices,
+            engines,
+            count,
+        } => {
+            let front = front(alloc, choices, engines)?;
+            format!(in alloc; "{front}workload {count}")
         }
-        Some(Asked::Format { expr }) => {
+        Asked::Format { expr } => {
             let expr = expr.as_str();
             format!(in alloc; "format <{expr}>")
         }
-        Some(Asked::Explain { optimisers, expr }) => {
-            let without = left_out(alloc, optimisers)?;
-            let (without, expr) = (without.as_str(), expr.as_str());
-            format!(in alloc; "{without}explain <{expr}>")
-        }
+        Asked::Explain {
+            optimisers,
+            engines,
+            expr,
+        } => explain_told(alloc, optimisers, engines, expr),
     }
 }
 
@@ -408,10 +539,22 @@ fn words_of(alloc: Global, listed: &str) -> Result<Vec<String>, AllocError> {
     Ok(words)
 }
 
-fn asks(alloc: Global, row: &str) -> Result<bool, Fail> {
+/// Whether the words of a row ask for what it says, where there are so many boxes.
+fn asks(alloc: Global, row: &str, boxes: u32) -> Result<bool, Fail> {
     let words = words_of(alloc, row)?;
-    let text = told(alloc, read_words(alloc, &words)?)?;
+    let text = match read_words(alloc, &words, boxes)? {
+        Some(asked) => told(alloc, asked)?,
+        None => String::from_str(alloc, "refused")?,
+    };
     Ok(Some(text.as_str()) == row.split('|').next())
+}
+
+fn asks_without_boxes(alloc: Global, row: &str) -> Result<bool, Fail> {
+    asks(alloc, row, 0)
+}
+
+fn asks_over_two(alloc: Global, row: &str) -> Result<bool, Fail> {
+    asks(alloc, row, 2)
 }
 
 #[test]
@@ -420,5 +563,6 @@ fn words_ask(rt: HostRuntime) -> Result<(), Fail> {
     words_say_what_they_spell();
     edges_are_asked_for();
     batches_are_asked_for();
-    rows_hold(rt.alloc(), ROWS, 316, asks)
+    rows_hold(rt.alloc(), ROWS, 320, asks_without_boxes)?;
+    rows_hold(rt.alloc(), TWO_BOXES, 68, asks_over_two)
 }
