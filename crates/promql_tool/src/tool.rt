@@ -83,18 +83,24 @@ fn run_words<L: Library, S: Sink, W: Ledger>(
     // There are no boxes of engines, so that no words declare any.
     match read_words(alloc, words, 0)? {
         None => print_usage(out),
-        Some(Asked::Test { choices, files, .. }) => {
+        Some(
+            Asked::Test {
+                choices,
+                engines,
+                files,
+            },
+        ) => {
             let options = options_of(choices);
             run_files(alloc, files.as_slice(), &options, library, out, work)
         }
         Some(
             Asked::Query {
                 choices,
+                engines,
                 grid,
                 instant,
                 file,
                 expr,
-                ..
             },
         ) => {
             let options = options_of(choices);
@@ -106,7 +112,13 @@ fn run_words<L: Library, S: Sink, W: Ledger>(
             };
             run_query(alloc, file.as_str(), question, library, out, work)
         }
-        Some(Asked::Workload { choices, count, .. }) => {
+        Some(
+            Asked::Workload {
+                choices,
+                engines,
+                count,
+            },
+        ) => {
             let options = options_of(choices);
             run_workload(alloc, count, &options, out, work)
         }
@@ -114,8 +126,8 @@ fn run_words<L: Library, S: Sink, W: Ledger>(
         Some(
             Asked::Explain {
                 optimisers,
+                engines,
                 expr,
-                ..
             },
         ) => { run_explain(alloc, optimisers, expr.as_str(), out) }
     }
