@@ -67,3 +67,7 @@ AreOpened span kept es fs requests places =
 -- the asks of each gather are of its request's engines, in their order
 abbrev pub AskTheirEngines : List Request → List Place → Type 0
 AskTheirEngines requests places = (k : ℕ) (r : Request) (place : Place) → slice_get requests k ≡ Some r → slice_get places k ≡ Some place → engines_of place.asks ≡ r.engines
+
+-- what is asked of each gather's engines is what its request says
+abbrev pub AskTheirRequests : List Request → List Place → Type 0
+AskTheirRequests requests places = (k : ℕ) (r : Request) (place : Place) → slice_get requests k ≡ Some r → slice_get places k ≡ Some place → place.gather.ask ≡ ask_of r

@@ -2,15 +2,17 @@
 ghost use Rattle.exchange.specs.Asked.{AreAsked, AreOwed, MayOpen};
 ghost use Rattle.exchange.specs.Calls.{AskStays, Each, Grows, HasSameAsks};
 ghost use Rattle.exchange.specs.Faults.{Blames, Faulted, IsAskedAt, IsAskedFor, IsNoStray};
-ghost use Rattle.exchange.specs.Opened.{AskTheirEngines};
+ghost use Rattle.exchange.specs.Opened.{AskTheirEngines, AskTheirRequests};
 ghost use Rattle.exchange.specs.Requests.{AreRising};
 ghost use Rattle.exchange.specs.Standing.{AllStand, AllTell, GivesSteps, IsApartFrom, LendsAt, MayAdvance, Progress, gone_on};
 ghost use Rattle.exchange.specs.declared.place.Asking.{Asking};
 ghost use Rattle.exchange.specs.declared.place.Place.{Place};
 ghost use Rattle.op_gather.specs.Histories.{is_ready, steps_at};
+ghost use Rattle.op_gather.specs.Joined.{AreInside};
 ghost use Rattle.remote_api.specs.Seen.{KeepsStrays};
 ghost use Rattle.remote_api.specs.Strays.{AsksInTimes};
 ghost use Rattle.std.specs.Prelude.{◌≡◌, ◌++◌, ◌<◌, ◌≤◌, ◌↔◌, ◌∷◌, ℕ, List, [], Some, IfOk, IsTrue, OnErr, OnOk, length, map, slice_get, slice_set, true};
+ghost use Rattle.step_table.specs.declared.cells.PartKind.TheVariants as part;
 ghost use Rattle.step_table.specs.declared.cells.StepCells.{StepCells};
 ghost use Rattle.ticks.specs.declared.moment.Ms.{Ms};
 
@@ -117,6 +119,7 @@ impl Exchange {
         ensures stand { (ps : List Progress) → AreOwed span.now patterns.old (map (λ b. seen b) engines.old) self.old.requests ps → OnOk result (AllStand patterns.old (map (λ b. seen b) engines.new) self.new.places ps) }
         ensures asked { OnOk result (AreAsked span.now patterns.old self.old.requests (map (λ b. seen b) engines.old) (map (λ b. seen b) engines.new)) }
         ensures asks { OnOk result (AskTheirEngines self.old.requests self.new.places) }
+        ensures gathers { OnOk result (AskTheirRequests self.old.requests self.new.places) }
         ensures calm { Each KeepsStrays (map (λ b. seen b) engines.old) (map (λ b. seen b) engines.new) }
         ensures grown { Each Grows (map (λ b. seen b) engines.old) (map (λ b. seen b) engines.new) }
         ensures fault { Faulted result (map (λ b. seen b) engines.old) (map (λ b. seen b) engines.new) }
@@ -154,8 +157,10 @@ impl Exchange {
             → OnOk result ((steps : List StepCells) × GivesSteps (map (λ b. seen b) engines.old) place.asks p steps × LendsAt self.new.places gather p.kind t steps) }
         ensures told { (ps : List Progress) (p : Progress) (place : Place) (t : Ms) → AllStand patterns.old (map (λ b. seen b) engines.old) self.old.places ps → slice_get ps gather ≡ Some p → slice_get self.old.places gather ≡ Some place → slice_get p.all p.taken ≡ Some t → AllTell place.asks (map (λ b. seen b) engines.old)
             → OnOk result (LendsAt self.new.places gather p.kind t (steps_at p.taken p.owed)) }
+        ensures inside { (one : Place) → slice_get self.new.places gather ≡ Some one → one.gather.ask.kind ≡ part.Windows → OnOk result (AreInside one.gather.ask one.gather.windows) }
         ensures others { (k : ℕ) → (k ≡ gather → ⊥) → slice_get self.new.places k ≡ slice_get self.old.places k }
         ensures asks { (place one : Place) → slice_get self.old.places gather ≡ Some place → slice_get self.new.places gather ≡ Some one → one.asks ≡ place.asks }
+        ensures same_ask { (k : ℕ) (place one : Place) → slice_get self.old.places k ≡ Some place → slice_get self.new.places k ≡ Some one → one.gather.ask ≡ place.gather.ask }
         ensures idle { (place : Place) → slice_get self.old.places gather ≡ Some place → is_ready place.gather ≡ true → engines.new ≡ engines.old }
         ensures unasked { (place : Place) → slice_get self.old.places gather ≡ Some place → is_ready place.gather ≡ true → courier.new ≡ courier.old }
         ensures alone { (place : Place) (b : Asking) → slice_get self.old.places gather ≡ Some place → IsApartFrom place.asks b → OnOk result (AskStays b (map (λ b. seen b) engines.old) (map (λ b. seen b) engines.new)) }

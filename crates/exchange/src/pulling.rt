@@ -4,10 +4,11 @@ ghost use Rattle.exchange.specs.Faults.{Blames, Faulted, IsAskedAt};
 ghost use Rattle.exchange.specs.Standing.{AllTell, GivesSteps, Going, IsApartFrom, PlaceStands, Progress, gone_on, rooms};
 ghost use Rattle.exchange.specs.declared.place.Asking.{Asking};
 ghost use Rattle.op_gather.specs.Histories.{is_ready, steps_at};
-ghost use Rattle.op_gather.specs.Joined.{LendsJoined};
+ghost use Rattle.op_gather.specs.Joined.{AreInside, LendsJoined};
 ghost use Rattle.op_gather.specs.Queues.{has_room};
 ghost use Rattle.remote_api.specs.Seen.{EngineSeen, HasPulled, KeepsStrays, MayPull};
 ghost use Rattle.std.specs.Prelude.{◌≡◌, ◌<◌, ◌≤◌, ◌^◌, ℕ, List, [], Some, true, IfOk, OnOk, length, map, slice_get};
+ghost use Rattle.step_table.specs.declared.cells.PartKind.TheVariants as part;
 ghost use Rattle.step_table.specs.declared.cells.StepCells.{StepCells};
 ghost use Rattle.ticks.specs.declared.moment.Ms.{Ms};
 
@@ -81,6 +82,7 @@ fn turn(
     ensures blame { Blames (IsAskedAt place.old.asks) result }
     ensures less { OnOk result (rooms place.new.gather.queues < rooms place.old.gather.queues) }
     ensures asks { place.new.asks ≡ place.old.asks }
+    ensures same_ask { place.new.gather.ask ≡ place.old.gather.ask }
     ensures same { patterns.new ≡ patterns.old }
     ensures len { length engines.new ≡ length engines.old }
 {
@@ -134,6 +136,7 @@ fn fill<C: Courier>(
     ensures fault { Faulted result (map (λ b. seen b) engines.old) (map (λ b. seen b) engines.new) }
     ensures blame { Blames (IsAskedAt place.old.asks) result }
     ensures asks { place.new.asks ≡ place.old.asks }
+    ensures same_ask { place.new.gather.ask ≡ place.old.gather.ask }
     ensures same { patterns.new ≡ patterns.old }
     ensures len { length engines.new ≡ length engines.old }
 {
@@ -168,6 +171,7 @@ pub(crate) fn advance_place<C: Courier>(
         → OnOk result ((steps : List StepCells) × GivesSteps (map (λ b. seen b) engines.old) place.old.asks p steps × LendsJoined p.kind t steps place.new.gather.lent place.new.gather.windows) }
     ensures told { (p : Progress) (t : Ms) → PlaceStands patterns.old (map (λ b. seen b) engines.old) place.old p → slice_get p.all p.taken ≡ Some t → AllTell place.old.asks (map (λ b. seen b) engines.old)
         → OnOk result (LendsJoined p.kind t (steps_at p.taken p.owed) place.new.gather.lent place.new.gather.windows) }
+    ensures inside { place.new.gather.ask.kind ≡ part.Windows → OnOk result (AreInside place.new.gather.ask place.new.gather.windows) }
     ensures idle { is_ready place.old.gather ≡ true → engines.new ≡ engines.old }
     ensures unasked { is_ready place.old.gather ≡ true → courier.new ≡ courier.old }
     ensures alone { (b : Asking) → IsApartFrom place.old.asks b → OnOk result (AskStays b (map (λ b. seen b) engines.old) (map (λ b. seen b) engines.new)) }
@@ -177,6 +181,7 @@ pub(crate) fn advance_place<C: Courier>(
     ensures fault { Faulted result (map (λ b. seen b) engines.old) (map (λ b. seen b) engines.new) }
     ensures blame { Blames (IsAskedAt place.old.asks) result }
     ensures asks { place.new.asks ≡ place.old.asks }
+    ensures same_ask { place.new.gather.ask ≡ place.old.gather.ask }
     ensures same { patterns.new ≡ patterns.old }
     ensures len { length engines.new ≡ length engines.old }
 {

@@ -1,9 +1,10 @@
 //! What several engines deliver, joined step by step.
 ghost use Rattle.op_gather.specs.Histories.{Refuses, Stands, is_ready, refusal_of, refusal_of_fault, steps_at};
-ghost use Rattle.op_gather.specs.Joined.{LendsJoined};
+ghost use Rattle.op_gather.specs.Joined.{AreInside, LendsJoined};
 ghost use Rattle.op_gather.specs.Queues.{ended as ended_of, fed, has_room, nothing_of};
 ghost use Rattle.remote_api.specs.Strays.{AsksInTimes, early_end, stray_of};
 ghost use Rattle.std.specs.Prelude.{◌≡◌, ◌++◌, ◌<◌, ◌+◌, ℕ, List, [], Some, false, true, IfOk, OnErr, OnOk, drop, length, replicate, slice_get, slice_set};
+ghost use Rattle.step_table.specs.declared.cells.PartKind.TheVariants as part;
 ghost use Rattle.step_table.specs.declared.cells.StepCells.{StepCells};
 ghost use Rattle.ticks.specs.Listed.{IsListed};
 ghost use Rattle.ticks.specs.declared.moment.Ms.{Ms};
@@ -213,6 +214,7 @@ impl Gather {
         requires ready { is_ready self.old ≡ true }
         ensures joined { (all : List Ms) (dones : List (List StepCells)) (taken : ℕ) (t : Ms) → Stands self.old all dones taken → slice_get all taken ≡ Some t
             → OnOk result (LendsJoined self.old.ask.kind t (steps_at taken dones) self.new.lent self.new.windows) }
+        ensures inside { (all : List Ms) (dones : List (List StepCells)) (taken : ℕ) → Stands self.old all dones taken → self.old.ask.kind ≡ part.Windows → OnOk result (AreInside self.old.ask self.new.windows) }
         ensures stands { (all : List Ms) (dones : List (List StepCells)) (taken : ℕ) → Stands self.old all dones taken → OnOk result (Stands self.new all dones (taken + 1)) }
         ensures going { OnOk result (self.new.spent ≡ false) }
         ensures spent { OnErr result (self.new.spent ≡ true) }
