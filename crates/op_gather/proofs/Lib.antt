@@ -1,6 +1,7 @@
 mod AsSets
 mod Following
 mod Grouping
+mod Inside
 mod LoneWindows
 mod Merging
 mod NoEngine

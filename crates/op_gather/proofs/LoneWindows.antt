@@ -84,25 +84,36 @@ windows_are ask e (step ∷ steps) a =
 
 -- ---- the windows of all engines
 
-window_more : (o : Option WindowRow) (ws : List WindowRow) → IfSome o IsWindow → AllByRecursion IsWindow ws → AllByRecursion IsWindow (cons_option o ws)
-window_more None ws h a = a
-window_more (Some w) ws h a = (h, a)
+abbrev pub HasRow : (WindowRow → Type 0) → CellRow → Type 0
+HasRow P row = IfSome (window_under row.labels row.cell) P
 
-rows_each : (rows : List CellRow) → AllByRecursion IsWindowRow rows → AllByRecursion IsWindow (filter_map (λ (row : CellRow). window_under row.labels row.cell) rows)
-rows_each [] a = tt
-rows_each (row ∷ rows) a = window_more (window_under row.labels row.cell) (filter_map (λ (row : CellRow). window_under row.labels row.cell) rows) a.0 (rows_each rows a.1)
+-- what holds of the windows in the cells of each step holds of all windows
+module _ (P : WindowRow → Type 0) where
+  window_more : (o : Option WindowRow) (ws : List WindowRow) → IfSome o P → AllByRecursion P ws → AllByRecursion P (cons_option o ws)
+  window_more None ws h a = a
+  window_more (Some w) ws h a = (h, a)
 
-cells_each : (steps : List StepCells) → AllByRecursion AreWindowCells steps → AllByRecursion IsWindowRow (all_cells steps)
-cells_each [] a = tt
-cells_each (step ∷ steps) a = both_of IsWindowRow step.rows (all_cells steps) a.0 (cells_each steps a.1)
+  rows_each : (rows : List CellRow) → AllByRecursion (HasRow P) rows → AllByRecursion P (filter_map (λ (row : CellRow). window_under row.labels row.cell) rows)
+  rows_each [] a = tt
+  rows_each (row ∷ rows) a = window_more (window_under row.labels row.cell) (filter_map (λ (row : CellRow). window_under row.labels row.cell) rows) a.0 (rows_each rows a.1)
 
--- marks that are made sets change no windows
+  cells_each : (steps : List StepCells) → AllByRecursion (λ (step : StepCells). AllByRecursion (HasRow P) step.rows) steps → AllByRecursion (HasRow P) (all_cells steps)
+  cells_each [] a = tt
+  cells_each (step ∷ steps) a = both_of (HasRow P) step.rows (all_cells steps) a.0 (cells_each steps a.1)
+
+  pub windows_hold : (steps : List StepCells) → AllByRecursion (λ (step : StepCells). AllByRecursion (HasRow P) step.rows) steps → AllByRecursion P (windows_in steps)
+  windows_hold steps a = rows_each (all_cells steps) (cells_each steps a)
+
+  -- marks that are made sets change no windows
+  pub sets_hold : (steps : List StepCells) → AllByRecursion (λ (step : StepCells). AllByRecursion (HasRow P) step.rows) steps → AllByRecursion (λ (step : StepCells). AllByRecursion (HasRow P) step.rows) (map with_sets steps)
+  sets_hold [] a = tt
+  sets_hold (step ∷ steps) a = (a.0, sets_hold steps a.1)
+
 pub sets_windows : (steps : List StepCells) → AllByRecursion AreWindowCells steps → AllByRecursion AreWindowCells (map with_sets steps)
-sets_windows [] a = tt
-sets_windows (step ∷ steps) a = (a.0, sets_windows steps a.1)
+sets_windows steps a = sets_hold IsWindow steps a
 
 pub windows_each : (steps : List StepCells) → AllByRecursion AreWindowCells steps → AllByRecursion IsWindow (windows_in steps)
-windows_each steps a = rows_each (all_cells steps) (cells_each steps a)
+windows_each steps a = windows_hold IsWindow steps a
 
 -- ---- those that are alone
 
@@ -175,9 +186,12 @@ module _ (ws : List WindowRow) where
   unfolding gathered
   lone_sorted = sorted_lone (names_among (keyed_by labels_in ws)) (names_sorted (keyed_by labels_in ws))
 
-  pub lone_windows : AllByRecursion IsWindow ws → AllByRecursion IsWindow (lone_by labels_in ws)
+  pub all_alone : (P : WindowRow → Type 0) → AllByRecursion P ws → AllByRecursion P (lone_by labels_in ws)
   unfolding gathered
-  lone_windows a = lone_hold IsWindow (names_among (keyed_by labels_in ws)) a
+  all_alone P a = lone_hold P (names_among (keyed_by labels_in ws)) a
+
+  pub lone_windows : AllByRecursion IsWindow ws → AllByRecursion IsWindow (lone_by labels_in ws)
+  lone_windows a = all_alone IsWindow a
 
 -- ---- what is put into a buffer
 

@@ -1,12 +1,15 @@
 use Rattle.std.proofs.Common.{◌≡◌, ◌∙◌, ◌<◌, ◌≤◌, ◌^◌, ◌+◌, List, length, map, sym, ap, subst, arith, true, Some}
 use Rattle.std.specs.Prelude.{is_some}
 use Rattle.std.specs.List.{AllZip, filter_map, list_all}
+use Rattle.step_table.specs.declared.cells.PartKind.{PartKind}
+use Rattle.step_table.specs.declared.cells.PartKind.TheVariants.{Windows}
 use Rattle.step_table.specs.declared.cells.StepCells.{StepCells}
 use Rattle.ticks.specs.declared.moment.Ms.{Ms}
 use Rattle.op_gather.specs.Histories.{AreWell, Gathering, QueueStands, Stands, is_ready, steps_at}
-use Rattle.op_gather.specs.Joined.{LendsJoined}
+use Rattle.op_gather.specs.Joined.{AreInside, LendsJoined}
 use Rattle.op_gather.specs.Queues.{head_of, popped}
 use Rattle.op_gather.specs.declared.queue.Queue.{Queue}
+use Rattle.op_gather.proofs.Inside.{StandAt, lent_inside, taken_stand}
 use Rattle.op_gather.proofs.Sound.{heads_few, heads_well, popped_all_sound}
 use Rattle.op_gather.proofs.Standing.{all_popped, both_true, heads_are}
 use Rattle.op_gather.proofs.gather.Gather.take.Goals as goal
@@ -53,3 +56,14 @@ returns-clause-stands c all dones taken s =
           (record { instant = c.after-self-inside.ensures.instant; later = c.after-self-inside.ensures.later; least = c.after-self-inside.ensures.least; none = c.after-self-inside.ensures.none });
       queues = subst (AllZip (QueueStands all (taken + 1)) dones) (sym rest) (all_popped all taken dones c.self.inside.queues both.1 st.queues);
     }
+
+pub returns-clause-inside : goal.returns-clause-inside
+returns-clause-inside c all dones taken s kind =
+    let st : Stands _ all dones taken = subst (λ g. Stands g all dones taken) (sym c.self.view_is) s in
+    let own : c.in_ok-heads.heads ≡ filter_map head_of c.self.inside.queues = c.in_ok-heads.ensures.heads ∙ ap (filter_map head_of) c.replace-queues.ensures.value in
+    let heads : c.in_ok-heads.heads ≡ steps_at taken dones = own ∙ heads_are all taken dones c.self.inside.queues st.queues in
+    let asked : c.self.inside.ask.kind ≡ Windows = ap (λ (g : Gathering). g.ask.kind) c.self.view_is ∙ kind in
+    let well : AreWell c.self.inside.ask c.in_ok-heads.heads = subst (AreWell c.self.inside.ask) (sym own) (heads_well c.self.inside.ask c.self.inside.queues c.self.invariant.each) in
+    let at : StandAt c.in-Some.at c.in_ok-heads.heads = subst (StandAt c.in-Some.at) (sym heads) (taken_stand c.in-Some.at all taken (sym st.next ∙ c.in-Some.is) dones c.self.inside.queues st.queues) in
+    let lent = subst (λ (k : PartKind). LendsJoined k c.in-Some.at c.in_ok-heads.heads c.join.new.buffer c.join.new.windows) asked c.in_ok-join.ensures in
+    subst (λ (g : Gathering). AreInside g.ask c.join.new.windows) c.self.view_is (lent_inside c.in-Some.at c.self.inside.ask c.in_ok-heads.heads c.join.new.windows asked well at lent)
