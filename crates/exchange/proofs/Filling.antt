@@ -5,15 +5,17 @@ use Rattle.std.specs.List.{list_any}
 use Rattle.std.proofs.lemmas.Bool.{false≢true}
 use Rattle.std.proofs.lemmas.List.{map-append}
 use Rattle.op_gather.specs.Histories.{Gathering, QueueStands, Stands, is_ready, steps_at}
-use Rattle.op_gather.specs.Joined.{LendsJoined}
+use Rattle.op_gather.specs.Joined.{AreInside, LendsJoined}
 use Rattle.op_gather.specs.Laws.{RoomIsLeft}
 use Rattle.op_gather.specs.Queues.{has_room}
 use Rattle.op_gather.specs.declared.queue.Queue.{Queue}
 use Rattle.promql_type.specs.Replacements.{Kept}
 use Rattle.remote_api.specs.Seen.{AskSeen, EngineSeen}
+use Rattle.remote_api.specs.declared.asks.Ask.{Ask}
 use Rattle.step_batch.specs.Lent.{Lent}
 use Rattle.step_batch.specs.LentWindows.{WindowsAt}
 use Rattle.step_table.specs.declared.cells.PartKind.{PartKind}
+use Rattle.step_table.specs.declared.cells.PartKind.TheVariants.{Windows}
 use Rattle.step_table.specs.declared.cells.StepCells.{StepCells}
 use Rattle.ticks.specs.declared.moment.Ms.{Ms}
 use Rattle.exchange.specs.declared.place.Asking.{Asking}
@@ -138,6 +140,9 @@ lends kind like t steps lent windows e h = subst (λ k. LendsJoined k t steps le
 
 pub lends_told : (kind like : PartKind) (t : Ms) (steps told : List StepCells) (lent : Lent) (windows : WindowsAt) → kind ≡ like → steps ≡ told → LendsJoined kind t steps lent windows → LendsJoined like t told lent windows
 lends_told kind like t steps told lent windows e f h = subst (λ l. LendsJoined like t l lent windows) f (lends kind like t steps lent windows e h)
+
+pub inside_after : (old new : Ask) (windows : WindowsAt) → new ≡ old → (old.kind ≡ Windows → AreInside old windows) → new.kind ≡ Windows → AreInside new windows
+inside_after old new windows e h k = subst (λ (z : Ask). AreInside z windows) (sym e) (h (ap (λ (z : Ask). z.kind) (sym e) ∙ k))
 
 pub all_tell : (asks new : List Asking) (es : List EngineSeen) → new ≡ asks → AllTell asks es → AllTell new es
 all_tell asks new es e h = subst (λ l. AllTell l es) (sym e) h

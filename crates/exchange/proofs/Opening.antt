@@ -21,7 +21,7 @@ use Rattle.exchange.specs.declared.place.Place.{Place}
 use Rattle.exchange.specs.declared.request.Request.{Request}
 use Rattle.exchange.specs.Asked.{AreAsked, AreOwed, IsAskFor, IsOwed, MayRequest, is_among, owed_by, owed_over, requests_of}
 use Rattle.exchange.specs.Calls.{Each, Grows}
-use Rattle.exchange.specs.Opened.{AreBehind, AreOpened, AskTheirEngines, AskedOnce, GainsAsk, IsAskedOnce, IsMade, IsOpened, engines_of}
+use Rattle.exchange.specs.Opened.{AreBehind, AreOpened, AskTheirEngines, AskTheirRequests, AskedOnce, GainsAsk, IsAskedOnce, IsMade, IsOpened, engines_of}
 use Rattle.exchange.specs.Requests.{IsRequest, ask_of}
 use Rattle.exchange.specs.Standing.{AllStand, Apart, AreApart, AskAt, JudgeAlike, PlaceStands, Progress}
 use Rattle.exchange.proofs.Alike.{asks_alike}
@@ -251,3 +251,7 @@ all_opened_by span kept es fs lent own seen places new ps a b n size opened apar
 pub asks_theirs_by : (span : Grid) (kept : Kept) (es fs : List EngineSeen) (lent own seen : List Request) (places new : List Place) → lent ≡ own → own ≡ seen → new ≡ places → AreOpened span kept es fs lent places → AskTheirEngines seen new
 asks_theirs_by span kept es fs lent own seen places new a b n opened k r place r_at place_at =
     (opened k r place (ap (λ l. slice_get l k) (a ∙ b) ∙ r_at) (ap (λ l. slice_get l k) (sym n) ∙ place_at)).numbers
+
+pub requests_theirs_by : (span : Grid) (kept : Kept) (es fs : List EngineSeen) (lent own seen : List Request) (places new : List Place) → lent ≡ own → own ≡ seen → new ≡ places → AreOpened span kept es fs lent places → AskTheirRequests seen new
+requests_theirs_by span kept es fs lent own seen places new a b n opened k r place r_at place_at =
+    (opened k r place (ap (λ l. slice_get l k) (a ∙ b) ∙ r_at) (ap (λ l. slice_get l k) (sym n) ∙ place_at)).ask

@@ -3,10 +3,11 @@ use Rattle.std.proofs.Common.{◌≡◌, ◌∙◌, ℕ, ◌<◌, List, length, 
 use Rattle.std.proofs.lemmas.Bool.{cases_eq}
 use Rattle.std.proofs.lemmas.List.{length-set}
 use Rattle.op_gather.specs.Histories.{steps_at}
-use Rattle.op_gather.specs.Joined.{LendsJoined}
+use Rattle.op_gather.specs.Joined.{AreInside, LendsJoined}
 use Rattle.promql_type.specs.Replacements.{Kept}
 use Rattle.remote_api.specs.Seen.{EngineSeen}
 use Rattle.std.specs.Prelude.{Ok, Err, OnOk, Result}
+use Rattle.step_table.specs.declared.cells.PartKind.TheVariants.{Windows}
 use Rattle.step_table.specs.declared.cells.StepCells.{StepCells}
 use Rattle.ticks.specs.declared.moment.Ms.{Ms}
 use Rattle.exchange.specs.declared.place.Asking.{Asking}
@@ -69,6 +70,23 @@ pub asks_own : (own seen : List Place) (k : ℕ) (place old new one : Place) →
 asks_own own seen k place old new one e at place_at one_at asks =
     let here : one ≡ new = same_at (slice_set own k new) k one new one_at (get_set_same own k new (get_within own k old at)) in
     ap (λ (x : Place). x.asks) here ∙ asks ∙ ap (λ (x : Place). x.asks) (sym (place_same own seen k place old e at place_at))
+
+-- the gather at each place keeps its ask, where that at one place does
+pub same_ask_own : (own seen : List Place) (i k : ℕ) (place old new one : Place) → own ≡ seen → slice_get own i ≡ Some old → slice_get seen k ≡ Some place → slice_get (slice_set own i new) k ≡ Some one → new.gather.ask ≡ old.gather.ask
+    → one.gather.ask ≡ place.gather.ask
+same_ask_own own seen i k place old new one e at place_at one_at same = ⊎_elim
+    (λ here.
+    let new_at : slice_get (slice_set own i new) i ≡ Some one = ap (slice_get (slice_set own i new)) (sym here) ∙ one_at in
+    let is_new : one ≡ new = same_at (slice_set own i new) i one new new_at (get_set_same own i new (get_within own i old at)) in
+    let is_old : place ≡ old = place_same own seen i place old e at (ap (slice_get seen) (sym here) ∙ place_at) in
+    ap (λ (x : Place). x.gather.ask) is_new ∙ same ∙ ap (λ (x : Place). x.gather.ask) (sym is_old))
+    (λ other. ap (λ (x : Place). x.gather.ask) (same_at own k one place (sym (get_set_other own i k new other) ∙ one_at) (ap (λ l. slice_get l k) e ∙ place_at)))
+    (cases_eq k i)
+
+pub inside_own : {T E : Type 0} (own : List Place) (k : ℕ) (old new one : Place) (r : Result T E) → slice_get own k ≡ Some old → slice_get (slice_set own k new) k ≡ Some one
+    → (new.gather.ask.kind ≡ Windows → OnOk r (AreInside new.gather.ask new.gather.windows)) → one.gather.ask.kind ≡ Windows → OnOk r (AreInside one.gather.ask one.gather.windows)
+inside_own own k old new one r at one_at =
+    subst (λ (z : Place). z.gather.ask.kind ≡ Windows → OnOk r (AreInside z.gather.ask z.gather.windows)) (same_at (slice_set own k new) k new one (get_set_same own k new (get_within own k old at)) one_at)
 
 on_ok : {T E : Type 0} (r : Result T E) (P Q : Type 0) → (P → Q) → OnOk r P → OnOk r Q
 on_ok (Ok x) P Q f h = f h

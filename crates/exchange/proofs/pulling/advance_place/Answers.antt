@@ -1,6 +1,6 @@
 use Rattle.std.proofs.Common.{refl}
 use Rattle.exchange.proofs.Lists.{map_length}
-use Rattle.exchange.proofs.Filling.{all_tell, gives, gives_before, lends, lends_told, place_taken, still_tell, told_steps}
+use Rattle.exchange.proofs.Filling.{all_tell, gives, gives_before, inside_after, lends, lends_told, place_taken, still_tell, told_steps}
 use Rattle.exchange.proofs.pulling.advance_place.Goals as goal
 
 pub returns-in-Ok-take-clause-stands : goal.returns-in-Ok-take-clause-stands
@@ -26,3 +26,9 @@ returns-in-Ok-take-clause-told g c = λ p t s at tell.
 
 pub take-requires-clause-going : goal.take-requires-clause-going
 take-requires-clause-going g c = (c.in-Ok.ensures.stands c.requires.stands.0 c.requires.stands.1).going
+
+pub returns-in-Ok-take-clause-inside : goal.returns-in-Ok-take-clause-inside
+returns-in-Ok-take-clause-inside g c = λ kind.
+    let p = c.requires.stands.0 in
+    let n = c.in-Ok.ensures.stands p c.requires.stands.1 in
+    inside_after _ _ c.take.new.self.windows c.take.ensures.ask (c.in-Ok-take.ensures.inside p.all n.dones p.taken n.stands) kind

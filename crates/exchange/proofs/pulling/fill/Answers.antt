@@ -34,6 +34,7 @@ loop-alloc-preserved g c = record {
   asked = same_asks_trans _ _ _ c.loop-alloc.invariant.asked c.in-Ok-turn.ensures.asked;
   grown = grown_trans _ _ _ c.loop-alloc.invariant.grown c.turn.ensures.grown;
   asks = c.turn.ensures.asks ∙ c.loop-alloc.invariant.asks;
+  same_ask = c.turn.ensures.same_ask ∙ c.loop-alloc.invariant.same_ask;
   idle = λ r. absurd (never c.loop-alloc.place.gather c.args.place.now.gather (c.loop-alloc.invariant.idle r).1 r (sym c.ready.ensures ∙ c.loop-alloc-test.true));
   same = c.turn.ensures.same ∙ c.loop-alloc.invariant.same;
   len = c.turn.ensures.len ∙ c.loop-alloc.invariant.len;

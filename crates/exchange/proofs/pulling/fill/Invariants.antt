@@ -14,6 +14,7 @@ invariant-loop-alloc g l = (let es = map (λ b. (goal.Engine-dyn g (b.vtable, b.
   asked : Each HasSameAsks es fs;
   grown : Each Grows es fs;
   asks : l.place.asks ≡ l.initial.place.asks;
+  same_ask : l.place.gather.ask ≡ l.initial.place.gather.ask;
   idle : is_ready l.initial.place.gather ≡ true → (l.engines ≡ l.initial.engines) × (l.place.gather ≡ l.initial.place.gather) × (l.courier ≡ l.initial.courier);
   same : l.patterns ≡ l.initial.patterns;
   len : length l.engines ≡ length l.initial.engines;

@@ -6,7 +6,7 @@ use Rattle.exchange.specs.Faults.{Blames, IsAskedAt}
 use Rattle.exchange.specs.Standing.{IsApartFrom}
 use Rattle.exchange.specs.declared.place.Place.{Place}
 use Rattle.exchange.proofs.Lists.{get_set_other}
-use Rattle.exchange.proofs.Places.{all_own, asks_own, gone_on_own, lends_own, lends_told_own, place_same, place_stands_own, place_within_own}
+use Rattle.exchange.proofs.Places.{all_own, asks_own, gone_on_own, inside_own, lends_own, lends_told_own, place_same, place_stands_own, place_within_own, same_ask_own}
 use Rattle.exchange.proofs.exchange.Exchange.advance.Goals as goal
 
 pub index_mut-place-requires : goal.index_mut-place-requires
@@ -116,3 +116,23 @@ returns-clause-asks g c =
     let at : slice_get own c.args.gather ≡ Some old = slice_get_read own (length own) c.args.gather old refl within c.index_mut-place.ensures.value in
     let new = c.advance_place.new.place in
     λ place one place_at one_at. asks_own own c.args.self.now.places c.args.gather place old new one e at place_at one_at c.advance_place.ensures.asks
+
+pub returns-clause-same_ask : goal.returns-clause-same_ask
+returns-clause-same_ask g c =
+    let own = c.self.inside.places.items in
+    let e : own ≡ c.args.self.now.places = ap (λ (x : Exchanging). x.places) c.self.view_is in
+    let within : c.args.gather < length own = place_within_own c.args.gather _ _ own c.args.self.now.places e c.requires in
+    let old = c.index_mut-place.result.now in
+    let at : slice_get own c.args.gather ≡ Some old = slice_get_read own (length own) c.args.gather old refl within c.index_mut-place.ensures.value in
+    let new = c.advance_place.new.place in
+    λ k place one place_at one_at. same_ask_own own c.args.self.now.places c.args.gather k place old new one e at place_at one_at c.advance_place.ensures.same_ask
+
+pub returns-clause-inside : goal.returns-clause-inside
+returns-clause-inside g c =
+    let own = c.self.inside.places.items in
+    let e : own ≡ c.args.self.now.places = ap (λ (x : Exchanging). x.places) c.self.view_is in
+    let within : c.args.gather < length own = place_within_own c.args.gather _ _ own c.args.self.now.places e c.requires in
+    let old = c.index_mut-place.result.now in
+    let at : slice_get own c.args.gather ≡ Some old = slice_get_read own (length own) c.args.gather old refl within c.index_mut-place.ensures.value in
+    let new = c.advance_place.new.place in
+    λ one one_at kind. inside_own own c.args.gather old new one c.advance_place.result at one_at c.advance_place.ensures.inside kind

@@ -1,7 +1,7 @@
 use Rattle.std.proofs.Common.{◌∙◌, sym, ap, slice_get}
 use Rattle.exchange.specs.Exchanging.{Exchanging}
 use Rattle.exchange.proofs.Owing.{all_owed_by}
-use Rattle.exchange.proofs.Opening.{all_opened_by, asks_theirs_by}
+use Rattle.exchange.proofs.Opening.{all_opened_by, asks_theirs_by, requests_theirs_by}
 use Rattle.exchange.proofs.exchange.Exchange.open.Goals as goal
 
 pub open_places-requires-clause-may : goal.open_places-requires-clause-may
@@ -19,3 +19,6 @@ returns-in-Err-clause-owed g c = all_owed_by c.args.span.now c.args.patterns.now
 
 pub returns-in-Ok-clause-asks : goal.returns-in-Ok-clause-asks
 returns-in-Ok-clause-asks g c = asks_theirs_by c.args.span.now c.args.patterns.now _ _ c.as_slice.result.now c.self.inside.requests c.args.self.now.requests c.in-Ok.places c.into_vec.result.items c.as_slice.ensures (ap (λ (x : Exchanging). x.requests) c.self.view_is) c.into_vec.ensures c.in-Ok.ensures.opened
+
+pub returns-in-Ok-clause-gathers : goal.returns-in-Ok-clause-gathers
+returns-in-Ok-clause-gathers g c = requests_theirs_by c.args.span.now c.args.patterns.now _ _ c.as_slice.result.now c.self.inside.requests c.args.self.now.requests c.in-Ok.places c.into_vec.result.items c.as_slice.ensures (ap (λ (x : Exchanging). x.requests) c.self.view_is) c.into_vec.ensures c.in-Ok.ensures.opened
