@@ -114,6 +114,8 @@ module _ (e : Local) (place most : ℕ) (one : OwnAsk) (here : slice_get e.asks 
   gave steps next gives well =
       let new = with_asks (slice_set e.asks place (went_on (length steps) next one)) e in
       let left = no_stray (asked_of e.samples one) one.part one.ask (drop one.given (times_of one)) steps gives.0 gives.1 well in
+      let none : (all : List Ms) → IsListed one.ask.walk all → stray_of one.ask (drop one.given all) steps ≡ None =
+          λ all listed. ap (λ (ts : List Ms). stray_of one.ask (drop one.given ts) steps) (lists one.ask.walk all (times_of one) listed allowed.times) ∙ left in
       record {
         faults = no_faults _ e new (no_error pulled.Frame fail.Failed);
         holding = refl;
@@ -121,10 +123,8 @@ module _ (e : Local) (place most : ℕ) (one : OwnAsk) (here : slice_get e.asks 
           asks = map-set own e.asks place (went_on (length steps) next one) ∙ ap (slice_set (map own e.asks) place) (ask_after e.samples one steps next);
           going = refl;
           gives = gives;
-          stray = λ all listed. subst (λ (s : Option Stray). CountsStray s (seen_of e) (seen_of new))
-              (sym (ap (λ (ts : List Ms). stray_of one.ask (drop one.given ts) steps) (lists one.ask.walk all (times_of one) listed allowed.times) ∙ left))
-              (record { strays = refl; stray = refl });
-          true_to_form = record { strays = refl; stray = refl };
+          stray = λ all listed. subst (λ (s : Option Stray). CountsStray s (seen_of e) (seen_of new)) (sym (none all listed)) (record { strays = refl; stray = refl });
+          true_to_form = none;
         });
         unstrayed = tt;
         failed = λ p. absurd (no_error pulled.Frame fail.Failed p);
@@ -135,6 +135,8 @@ module _ (e : Local) (place most : ℕ) (one : OwnAsk) (here : slice_get e.asks 
   pub ended : one.next ≡ None → HasPulled place most [] (Ok pulled.End) (seen_of e) (seen_of e)
   ended done =
       let none = all_dropped one.given (times_of one) (past (times_of one) one.given (sym allowed.next ∙ done)) in
+      let no_end : (all : List Ms) → IsListed one.ask.walk all → early_end (drop one.given all) ≡ None =
+          λ all listed. ap (λ (ts : List Ms). early_end (drop one.given ts)) (lists one.ask.walk all (times_of one) listed allowed.times) ∙ ap early_end none in
       record {
         faults = no_faults _ e e (no_error pulled.End fail.Failed);
         holding = refl;
@@ -142,10 +144,8 @@ module _ (e : Local) (place most : ℕ) (one : OwnAsk) (here : slice_get e.asks 
           asks = sym (same_set (map own e.asks) place (own one) (there ∙ ap Some (sym (same_ask a there))));
           going = refl;
           gives = (ap (owed (asked_of e.samples one) one.part) none, refl);
-          stray = λ all listed. subst (λ (s : Option Stray). CountsStray s (seen_of e) (seen_of e))
-              (sym (ap (λ (ts : List Ms). early_end (drop one.given ts)) (lists one.ask.walk all (times_of one) listed allowed.times) ∙ ap early_end none))
-              (record { strays = refl; stray = refl });
-          true_to_form = record { strays = refl; stray = refl };
+          stray = λ all listed. subst (λ (s : Option Stray). CountsStray s (seen_of e) (seen_of e)) (sym (no_end all listed)) (record { strays = refl; stray = refl });
+          true_to_form = no_end;
         });
         unstrayed = tt;
         failed = λ p. absurd (no_error pulled.End fail.Failed p);

@@ -99,17 +99,19 @@ failed_before i es fs gs l g h =
     let y = before_each Grows es fs i h.e l g h.e_at in
     record { e = y.0; f = h.f; e_at = y.1; f_at = h.f_at; rose = rose_before y.0.faults h.e.faults h.f.faults y.2.faults h.rose; unsound = λ s. h.unsound (y.2.sound s) }
 
-strayed_before : (i : ℕ) (one : _) (es fs gs : List EngineSeen) → length fs ≡ length es → Each KeepsStrays es fs → HasStrayed i one fs gs → HasStrayed i one es gs
-strayed_before i one es fs gs l g h =
-    let y = before_each KeepsStrays es fs i h.e l g h.e_at in
-    record { e = y.0; f = h.f; e_at = y.1; f_at = h.f_at; rose = subst (λ n. Rose n h.f.strays) y.2.strays h.rose; last = h.last }
+strayed_before : (i : ℕ) (one : _) (es fs gs : List EngineSeen) → length fs ≡ length es → Each Grows es fs → Each KeepsStrays es fs → HasStrayed i one fs gs → HasStrayed i one es gs
+strayed_before i one es fs gs l g c h =
+    let y = before_each KeepsStrays es fs i h.e l c h.e_at in
+    let z = g i y.0 y.1 in
+    let same : z.0 ≡ h.e = some_same z.0 h.e (sym z.1 ∙ h.e_at) in
+    record { e = y.0; f = h.f; e_at = y.1; f_at = h.f_at; rose = subst (λ n. Rose n h.f.strays) y.2.strays h.rose; last = h.last; untold = λ t. h.untold (ap (λ (x : EngineSeen). is_some x.holding) (sym same) ∙ ap is_some z.2.holding ∙ t) }
 
 pub faulted_before : {T : Type 0} (r : Result T RunFault) (es fs gs : List EngineSeen) → length fs ≡ length es → Each Grows es fs → Each KeepsStrays es fs → Faulted r fs gs → Faulted r es gs
 faulted_before (Ok x) es fs gs l g c h = h
 faulted_before (Err run.Memory) es fs gs l g c h = h
 faulted_before (Err (run.EngineFault j)) es fs gs l g c h = failed_before j es fs gs l g h
-faulted_before (Err (run.OutOfStep j expected got)) es fs gs l g c h = strayed_before j _ es fs gs l c h
-faulted_before (Err (run.WrongCell j at)) es fs gs l g c h = strayed_before j _ es fs gs l c h
+faulted_before (Err (run.OutOfStep j expected got)) es fs gs l g c h = strayed_before j _ es fs gs l g c h
+faulted_before (Err (run.WrongCell j at)) es fs gs l g c h = strayed_before j _ es fs gs l g c h
 
 pub faulted_from : {B T : Type 0} (f : B → EngineSeen) (bs cs ds : List B) (r : Result T RunFault) → length cs ≡ length bs → Each Grows (map f bs) (map f cs) → Each KeepsStrays (map f bs) (map f cs) → Faulted r (map f cs) (map f ds) → Faulted r (map f bs) (map f ds)
 faulted_from f bs cs ds r l g c h = faulted_before r (map f bs) (map f cs) (map f ds) (map_length f cs bs l) g c h

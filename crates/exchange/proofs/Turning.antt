@@ -191,10 +191,17 @@ module _ (kept : Kept) (es fs : List EngineSeen) (place : Place) (p : Progress) 
       subst (λ o. CountsStray o i.e f_now) (pulled_same pull i.asked.one.ask place.gather.ask i.asked.one.given i.done p.all steps i.asked.alike i.asked.given)
       (given.stray p.all (subst (λ w. IsListed w p.all) (sym i.asked.walk) listed))
 
+  -- one that tells gives none
+  no_stray_of_one : IsListed place.gather.ask.walk p.all → (one : Stray) → stray_pulled pull place.gather.ask (drop (length i.done) p.all) steps ≡ Some one → Tells i.e → ⊥
+  no_stray_of_one listed one e told =
+      let none = if_tells i.e.holding _ given.true_to_form told p.all (subst (λ w. IsListed w p.all) (sym i.asked.walk) listed) in
+      let clash : Some one ≡ None = sym e ∙ sym (pulled_same pull i.asked.one.ask place.gather.ask i.asked.one.given i.done p.all steps i.asked.alike i.asked.given) ∙ none in
+      absurd (cc)
+
   pub strayed : IsListed place.gather.ask.walk p.all → (one : Stray) → stray_pulled pull place.gather.ask (drop (length i.done) p.all) steps ≡ Some one → HasStrayed a.engine one es fs
   strayed listed one e =
       let c = subst (λ o. CountsStray o i.e f_now) e (counts listed) in
-      record { e = i.e; f = f_now; e_at = i.e_at; f_at = f_at; rose = c.0; last = c.1 }
+      record { e = i.e; f = f_now; e_at = i.e_at; f_at = f_at; rose = c.0; last = c.1; untold = λ told. no_stray_of_one listed one e told }
 
   pub calm : IsListed place.gather.ask.walk p.all → stray_pulled pull place.gather.ask (drop (length i.done) p.all) steps ≡ None → Each KeepsStrays es fs
   calm listed e j d at = ⊎_elim

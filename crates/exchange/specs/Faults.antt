@@ -10,6 +10,7 @@ use Rattle.exchange.specs.declared.fault.RunFault.{RunFault}
 use Rattle.exchange.specs.declared.fault.RunFault.TheVariants as run
 use Rattle.exchange.specs.declared.place.Asking.{Asking}
 use Rattle.exchange.specs.declared.request.Request.{Request}
+use Rattle.exchange.specs.Standing.{Tells}
 
 -- what is told of an engine whose delivery a gather refused
 abbrev pub fault_of : ℕ → GatherRefusal → RunFault
@@ -26,7 +27,7 @@ pub record HasFailed (i : ℕ) (es fs : List EngineSeen) : Type 0 where
   pub rose : Rose e.faults f.faults
   pub unsound : e.sound ≡ true → ⊥
 
--- the strays of an engine rose, and this is the last one
+-- the strays of an engine rose, and this is the last one; it doesn't tell what it holds
 pub record HasStrayed (i : ℕ) (one : Stray) (es fs : List EngineSeen) : Type 0 where
   pub e : EngineSeen
   pub f : EngineSeen
@@ -34,6 +35,7 @@ pub record HasStrayed (i : ℕ) (one : Stray) (es fs : List EngineSeen) : Type 0
   pub f_at : slice_get fs i ≡ Some f
   pub rose : Rose e.strays f.strays
   pub last : f.stray ≡ Some one
+  pub untold : Tells e → ⊥
 
 -- a fault is answered only where the engine that it names has failed, or has strayed just so; memory may run out at any time
 abbrev pub Faulted : {T : Type 0} → Result T RunFault → List EngineSeen → List EngineSeen → Type 0

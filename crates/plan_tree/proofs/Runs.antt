@@ -1,5 +1,5 @@
 -- What calls one after another make of engines.
-use Rattle.std.proofs.Common.{◌≡◌, ◌∙◌, ℕ, ◌<◌, ◌≤◌, true, List, Option, length, slice_get, refl, subst, sym, arith, Some}
+use Rattle.std.proofs.Common.{◌≡◌, ◌∙◌, ℕ, ◌<◌, ◌≤◌, true, List, Option, length, slice_get, refl, ap, subst, sym, arith, Some}
 use Rattle.std.specs.Prelude.{Ok, Err, Result, IfErr, OnOk, IsErrAnd, is_some, ⊤}
 use Rattle.edge_io.specs.Causes.{Rose}
 use Rattle.exchange.specs.Calls.{Each, Grows, HasSameAsks}
@@ -56,17 +56,19 @@ failed_before i es fs gs l g h =
     let y = before_each Grows es fs i h.e l g h.e_at in
     record { e = y.0; f = h.f; e_at = y.1; f_at = h.f_at; rose = rose_before y.0.faults h.e.faults h.f.faults y.2.faults h.rose; unsound = λ s. h.unsound (y.2.sound s) }
 
-strayed_before : (i : ℕ) (one : Stray) (es fs gs : List EngineSeen) → length fs ≡ length es → Each KeepsStrays es fs → HasStrayed i one fs gs → HasStrayed i one es gs
-strayed_before i one es fs gs l g h =
-    let y = before_each KeepsStrays es fs i h.e l g h.e_at in
-    record { e = y.0; f = h.f; e_at = y.1; f_at = h.f_at; rose = subst (λ n. Rose n h.f.strays) y.2.strays h.rose; last = h.last }
+strayed_before : (i : ℕ) (one : Stray) (es fs gs : List EngineSeen) → length fs ≡ length es → Each Grows es fs → Each KeepsStrays es fs → HasStrayed i one fs gs → HasStrayed i one es gs
+strayed_before i one es fs gs l g c h =
+    let y = before_each KeepsStrays es fs i h.e l c h.e_at in
+    let z = g i y.0 y.1 in
+    let same : z.0 ≡ h.e = some_same z.0 h.e (sym z.1 ∙ h.e_at) in
+    record { e = y.0; f = h.f; e_at = y.1; f_at = h.f_at; rose = subst (λ n. Rose n h.f.strays) y.2.strays h.rose; last = h.last; untold = λ t. h.untold (ap (λ (x : EngineSeen). is_some x.holding) (sym same) ∙ ap is_some z.2.holding ∙ t) }
 
 faulted_before : {T : Type 0} (r : Result T RunFault) (es fs gs : List EngineSeen) → length fs ≡ length es → Each Grows es fs → Each KeepsStrays es fs → Faulted r fs gs → Faulted r es gs
 faulted_before (Ok x) es fs gs l g c h = h
 faulted_before (Err run.Memory) es fs gs l g c h = h
 faulted_before (Err (run.EngineFault j)) es fs gs l g c h = failed_before j es fs gs l g h
-faulted_before (Err (run.OutOfStep j expected got)) es fs gs l g c h = strayed_before j _ es fs gs l c h
-faulted_before (Err (run.WrongCell j at)) es fs gs l g c h = strayed_before j _ es fs gs l c h
+faulted_before (Err (run.OutOfStep j expected got)) es fs gs l g c h = strayed_before j _ es fs gs l g c h
+faulted_before (Err (run.WrongCell j at)) es fs gs l g c h = strayed_before j _ es fs gs l g c h
 
 -- ---- a run
 

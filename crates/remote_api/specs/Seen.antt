@@ -216,13 +216,13 @@ abbrev pub GivesOwed : ℕ → Pulled → List StepCells → AskSeen → Type 0
 GivesOwed most pulled.Frame steps one = (steps ≡ take (length steps) one.left) × (1 ≤ length steps) × (length steps ≤ most)
 GivesOwed most pulled.End steps one = (one.left ≡ []) × (steps ≡ [])
 
--- what a pull of an ask gave
+-- what a pull of an ask gave; an engine that tells gives no stray
 pub record HasGiven (place most : ℕ) (pull : Pulled) (steps : List StepCells) (old new : EngineSeen) (one : AskSeen) : Type 0 where
   pub asks : new.asks ≡ slice_set old.asks place (after_pull pull steps one)
   pub going : new.spent ≡ old.spent
   pub gives : IfSome old.holding (λ _. GivesOwed most pull steps one)
   pub stray : (all : List Ms) → IsListed one.ask.walk all → CountsStray (stray_pulled pull one.ask (drop one.given all) steps) old new
-  pub true_to_form : IfSome old.holding (λ _. KeepsStrays old new)
+  pub true_to_form : IfSome old.holding (λ _. (all : List Ms) → IsListed one.ask.walk all → stray_pulled pull one.ask (drop one.given all) steps ≡ None)
 
 pub record HasPulled (place most : ℕ) (steps : List StepCells) (result : Result Pulled EngineFail) (old new : EngineSeen) : Type 0 where
   pub faults : HasFaults (IsErrOf result fail.Failed) old new
