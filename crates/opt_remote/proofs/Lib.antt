@@ -7,5 +7,7 @@ mod Numbers
 mod Onces
 mod Parts
 mod Rebuilt
+mod Served
 mod Stamped
+mod Stores
 mod Types

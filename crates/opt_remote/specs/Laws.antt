@@ -1,12 +1,15 @@
 -- What is true of a plan whose selectors engines are asked for. (This project's own.)
-use Rattle.std.specs.Prelude.{◌≡◌, ℕ, true, List}
-use Rattle.promql_meaning.specs.Selecting.{Asked}
+use Rattle.std.specs.Prelude.{◌≡◌, ℕ, ℤ, true, List}
+use Rattle.promql_meaning.specs.Selecting.{AllSeries, Asked}
 use Rattle.promql_type.specs.Replacements.{Kept}
+use Rattle.logical_plan.specs.PlanMeaning.{plan_meaning}
 use Rattle.logical_plan.specs.PlanTypes.{IsTyped, typing}
 use Rattle.logical_plan.specs.Steadiness.{OncesAreSteady}
 use Rattle.logical_plan.specs.Validity.{IsValid}
 use Rattle.logical_plan.specs.declared.nodes.Plan.{Plan}
 use Rattle.plan_rewrite.specs.Rebuilding.{KeepsMeaning, rebuilt}
+use Rattle.plan_serving.specs.Asking.{is_rising}
+use Rattle.plan_serving.specs.Serving.{IsServedOver}
 use Rattle.opt_remote.specs.Engines.{ArePartedOver}
 use Rattle.opt_remote.specs.Gathering.{all_engines, gather_selector}
 use Rattle.opt_remote.specs.Parts.{AreAskedOf, is_gathered, parts_asked}
@@ -42,3 +45,24 @@ ValidityIsKept = (engines : List ℕ) (kept : Kept) (longest latest : ℕ) (p : 
 -- what stands under Once nodes stays the same at each instant
 abbrev pub OncesAreKept : Type 0
 OncesAreKept = (engines : List ℕ) (kept : Kept) (p : Plan) → OncesAreSteady p → OncesAreSteady (asking engines kept p)
+
+-- engines are asked in the order of their numbers
+abbrev pub RisingEngines : List ℕ → Type 0
+RisingEngines engines = is_rising engines ≡ true
+
+-- all of some are, however many they are
+abbrev pub AllEnginesRise : Type 0
+AllEnginesRise = (count : ℕ) → RisingEngines (all_engines count)
+
+-- kernels serve over engines that are asked so what they served, whatever patterns are kept
+abbrev pub GatheredPlansAreServed : Type 0
+GatheredPlansAreServed =
+    (engines : List ℕ) (kept : Kept) → RisingEngines engines → (patterns : Kept) (p : Plan) → IsServedOver patterns p → IsServedOver patterns (asking engines kept p)
+
+-- the same query over other samples in the store, while its engines hold what they held
+abbrev pub over_store : Asked → AllSeries → Asked
+over_store asked samples = record asked { samples = samples }
+
+-- a plan in which no selector is left means the same whatever samples stand in the store
+abbrev pub StoresAreNotRead : Type 0
+StoresAreNotRead = (asked : Asked) (samples : AllSeries) (p : Plan) (t : ℤ) → is_gathered p ≡ true → plan_meaning (over_store asked samples) p t ≡ plan_meaning asked p t

@@ -1,5 +1,5 @@
 //! Laws of plans whose selectors engines are asked for. The functions do nothing: each stands for what its contract says.
-ghost use Rattle.opt_remote.specs.Laws.{AllAreAsked, NoSelectorIsLeft, OncesAreKept, SelectorsKeepMeaning, TypesAreKept, ValidityIsKept};
+ghost use Rattle.opt_remote.specs.Laws.{AllAreAsked, AllEnginesRise, GatheredPlansAreServed, NoSelectorIsLeft, OncesAreKept, SelectorsKeepMeaning, StoresAreNotRead, TypesAreKept, ValidityIsKept};
 
 use logical_plan::plans_mean_their_trees;
 use parting_laws::laws::{
@@ -31,4 +31,16 @@ pub fn gathered_plans_are_kept()
     ensures types { TypesAreKept }
     ensures validity { ValidityIsKept }
     ensures onces { OncesAreKept }
+{}
+
+/// Kernels serve a plan that they served over engines still where its selectors became parts, if these engines are asked in the order
+/// of their numbers, as all of some are.
+pub fn gathered_plans_are_served()
+    ensures served { GatheredPlansAreServed }
+    ensures rising { AllEnginesRise }
+{}
+
+/// A plan in which no selector is left means the same whatever samples stand in the store.
+pub fn stores_are_not_read()
+    ensures { StoresAreNotRead }
 {}

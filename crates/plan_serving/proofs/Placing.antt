@@ -5,8 +5,11 @@ use Rattle.std.specs.Prelude.{not, ◌&&◌, ◌||◌}
 use Rattle.holders.specs.Joins.{both_of, front_of}
 use Rattle.label_set.specs.declared.rules.Rule.{Rule}
 use Rattle.match_rule.specs.Patterns.{HasItsPattern}
+use Rattle.promql_ast.specs.declared.tree.Expr.{Expr}
 use Rattle.promql_meaning.specs.Steadiness.{all_hold}
 use Rattle.promql_type.specs.Replacements.{Kept}
+use Rattle.step_table.specs.declared.cells.PartKind.{PartKind}
+use Rattle.step_table.specs.declared.cells.PartKind.TheVariants as part
 use Rattle.logical_plan.specs.declared.steadiness.Facts.{Facts}
 use Rattle.logical_plan.specs.declared.nodes.Plan.{Plan}
 use Rattle.logical_plan.specs.declared.nodes.PlanNode.{PlanNode}
@@ -16,7 +19,8 @@ use Rattle.logical_plan.specs.declared.nodes.PlanNode.TheFolds.{map-PlanNode, fo
 use Rattle.logical_plan.specs.Lowering.{planned}
 use Rattle.logical_plan.specs.Onces.{Onced, node_over as plan_over, once_node, once_of, placed_over, wrapped}
 use Rattle.logical_plan.specs.PlanFolds.{of-Number, of-Time, of-Select, of-Range, of-Subquery, of-Element, of-Stamp, of-Window, of-Absent, of-Buckets, of-Relabel, of-Sort, of-ScalarOf, of-VectorOf, of-Group, of-Pair, of-Set, of-Filter, of-Ratio, of-Once, of-Gather}
-use Rattle.logical_plan.specs.Steadiness.{is_once, is_steady, node_facts}
+use Rattle.logical_plan.specs.Steadiness.{is_once, is_steady, is_table, node_facts}
+use Rattle.plan_serving.specs.Asking.{is_range_part}
 use Rattle.plan_serving.specs.Filters.{node_unfiltered, unfiltered}
 use Rattle.plan_serving.specs.Serving.{Serving, node_serving, serving}
 use Rattle.plan_serving.specs.ServingLaws.{OncesKeepServing}
@@ -47,6 +51,12 @@ right false b e = e
 no_once : (inside : Bool) (f : Facts) → f.table ≡ false → (not inside && is_once f) ≡ true → ⊥
 no_once true f e is = absurd (false≢true is)
 no_once false f e is = absurd (false≢true (sym (ap (λ (t : Bool). t && f.selects && is_steady f) e) ∙ is))
+
+-- nor are windows that engines are asked for
+windows_apart : (kind : PartKind) (expr : Expr) → (is_range_part kind expr || false) ≡ true → is_table kind ≡ false
+windows_apart part.Rows expr e = absurd (cc)
+windows_apart part.Windows expr e = refl
+windows_apart (part.Partial f by) expr e = absurd (cc)
 
 abbrev onces_in : PlanNode → ℕ → Onced
 onces_in = fold-PlanNode (ℕ → Onced) Onced once_node (λ p. p.node p.at)
@@ -211,7 +221,7 @@ module _ (kept : Kept) where
   level (PlanNode-F.Filter p rules) at = placed (PlanNode-F.Filter p rules) at (λ e. p.1.tables (left (serving p.0).ranges (serving p.0).points (of_one (serving p.0).ranges e)))
   level (PlanNode-F.Ratio l r) at = placed (PlanNode-F.Ratio l r) at (λ e. absurd (cc))
   level (PlanNode-F.Once p) at = again p
-  level (PlanNode-F.Gather expr kind engines) at = placed (PlanNode-F.Gather expr kind engines) at (λ e. absurd (cc))
+  level (PlanNode-F.Gather expr kind engines) at = placed (PlanNode-F.Gather expr kind engines) at (λ e. windows_apart kind expr e)
 
   node_fine : (y : Layer) → IsFineNode (roll-PlanNode (plans y))
   node_fine y at =

@@ -1,6 +1,6 @@
--- Which parts kernels let engines be asked for: the rows of a selector, or of its timestamp, of engines whose numbers rise. (This project's
--- own.)
-use Rattle.std.specs.Prelude.{ℕ, ◌&&◌, nat_lt, Bool, true, List, [], ◌∷◌, is_some, Option, None, Some}
+-- Which parts kernels let engines be asked for: the rows of a selector, or of its timestamp, and the windows of a range selector, of engines
+-- whose numbers rise. (This project's own.)
+use Rattle.std.specs.Prelude.{ℕ, ◌&&◌, ◌||◌, nat_lt, Bool, true, List, [], ◌∷◌, is_some, Option, None, Some}
 use Rattle.func_table.specs.declared.table.Func.{Func}
 use Rattle.func_table.specs.declared.table.Func.TheVariants.{Timestamp}
 use Rattle.label_set.specs.declared.rules.Rule.{Rule}
@@ -10,6 +10,9 @@ use Rattle.promql_ast.specs.declared.tree.Node.TheViews.{out-Node}
 use Rattle.promql_ast.specs.declared.tree.Selector.{Selector}
 use Rattle.step_table.specs.declared.cells.PartKind.{PartKind}
 use Rattle.step_table.specs.declared.cells.PartKind.TheVariants as part
+use Rattle.ticks.specs.declared.moment.Ms.{Ms}
+
+-- ---- rows
 
 -- the selector that a node is
 abbrev pub plain_selector : {A B : Type 0} → Node-F A B → Option Selector
@@ -32,16 +35,49 @@ abbrev pub asked_selector : PartKind → Expr → Option Selector
 asked_selector part.Rows expr = selector_in (out-Node expr.node)
 asked_selector kind expr = None
 
-abbrev pub is_served_part : PartKind → Expr → Bool
-is_served_part kind expr = is_some (asked_selector kind expr)
+abbrev pub is_rows_part : PartKind → Expr → Bool
+is_rows_part kind expr = is_some (asked_selector kind expr)
 
 -- the rules of that selector
 abbrev pub rules_in : Option Selector → List Rule
 rules_in None = []
 rules_in (Some selector) = selector.rules
 
+-- ---- windows
+
+-- a selector, and how far its windows go back
+pub record RangeAsked : Type 0 where
+  pub selector : Selector
+  pub range : Ms
+
+-- the range selector that a node is
+abbrev pub range_in : {A B : Type 0} → Node-F A B → Option RangeAsked
+range_in (Node-F.Range selector range) = Some (record { selector = selector; range = range })
+range_in y = None
+
+-- the range selector whose windows engines are asked for, if it is that
+abbrev pub asked_range : PartKind → Expr → Option RangeAsked
+asked_range part.Windows expr = range_in (out-Node expr.node)
+asked_range kind expr = None
+
+abbrev pub is_range_part : PartKind → Expr → Bool
+is_range_part kind expr = is_some (asked_range kind expr)
+
+-- the rules of its selector
+abbrev pub rules_in_range : Option RangeAsked → List Rule
+rules_in_range None = []
+rules_in_range (Some asked) = asked.selector.rules
+
+-- ---- both
+
+abbrev pub is_served_part : PartKind → Expr → Bool
+is_served_part kind expr = is_rows_part kind expr || is_range_part kind expr
+
 abbrev pub asked_rules : PartKind → Expr → List Rule
+asked_rules part.Windows expr = rules_in_range (asked_range part.Windows expr)
 asked_rules kind expr = rules_in (asked_selector kind expr)
+
+-- ---- engines
 
 -- each number is below the next one
 abbrev pub is_rising : List ℕ → Bool

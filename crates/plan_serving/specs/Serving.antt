@@ -1,5 +1,6 @@
--- Which plans kernels serve: functions of windows stand over range selectors, which filters may stand over, or over subqueries, engines are
--- asked for no part, or for the rows of selectors alone, and the patterns that a plan names are kept. (This project's own.)
+-- Which plans kernels serve: functions of windows stand over range selectors, here or at engines, which filters may stand over, or over
+-- subqueries, engines are asked for no part, or for the rows of selectors and the windows of range selectors alone, and the patterns that a
+-- plan names are kept. (This project's own.)
 use Rattle.std.specs.Prelude.{◌≡◌, ◌&&◌, ◌||◌, ◌++◌, ℕ, Bool, true, false, List, [], ◌∷◌}
 use Rattle.std.specs.List.{AllByRecursion}
 use Rattle.label_set.specs.declared.rules.PatternId.{PatternId}
@@ -13,9 +14,9 @@ use Rattle.match_rule.specs.Patterns.{HaveTheirPatterns, IsWholeId}
 use Rattle.promql_ast.specs.declared.tree.Expr.{Expr}
 use Rattle.promql_type.specs.Replacements.{Kept}
 use Rattle.step_table.specs.declared.cells.PartKind.{PartKind}
-use Rattle.plan_serving.specs.Asking.{asked_rules, is_rising, is_served_part}
+use Rattle.plan_serving.specs.Asking.{asked_rules, is_range_part, is_rising, is_served_part}
 
--- Whether a plan gives the windows of a range selector, and whether those of a subquery; whether each function of windows in it stands
+-- Whether a plan gives the windows of a range selector, here or at engines, and whether those of a subquery; whether each function of windows in it stands
 -- over one of these and kernels serve the parts that engines are asked for; the rules of its selectors and filters; and the patterns of its
 -- label_replace nodes.
 pub record Serving : Type 0 where
@@ -33,7 +34,7 @@ Asks = Expr → PartKind → List ℕ → Bool
 abbrev pub asks_none : Asks
 asks_none expr kind engines = false
 
--- the rows of a selector are, or of its timestamp, of engines whose numbers rise
+-- the rows of a selector are, or of its timestamp, and the windows of a range selector, of engines whose numbers rise
 abbrev pub asks_selectors : Asks
 asks_selectors expr kind engines = is_served_part kind expr && is_rising engines
 
@@ -42,6 +43,7 @@ asks_selectors expr kind engines = is_served_part kind expr && is_rising engines
 abbrev pub node_ranges : {A : Type 0} → PlanNode-F A Serving → Bool
 node_ranges (PlanNode-F.Range rules moment range) = true
 node_ranges (PlanNode-F.Filter base rules) = base.ranges
+node_ranges (PlanNode-F.Gather expr kind engines) = is_range_part kind expr
 node_ranges _ = false
 
 abbrev pub node_points : {A : Type 0} → PlanNode-F A Serving → Bool
@@ -116,6 +118,6 @@ node_serving_over y = node_serving_by asks_selectors y
 abbrev pub serving_over : Plan → Serving
 serving_over = serving_by asks_selectors
 
--- kernels serve a plan, with these patterns, in which engines are asked for the rows of selectors alone
+-- kernels serve a plan, with these patterns, in which engines are asked for the rows of selectors and the windows of range selectors alone
 abbrev pub IsServedOver : Kept → Plan → Type 0
 IsServedOver = IsServedBy asks_selectors
