@@ -30,6 +30,7 @@ fetched_by store fed (node.Clamp' kernel p rows q low r high) = fetched_by store
 fetched_by store fed (node.Points' kernel inner_fed p inner q scalar) = fetched_by store fed scalar + fetched_by store inner_fed inner
 fetched_by store fed (node.Once' first steps p child) = fetched_by store (once first fed) child
 fetched_by store fed (node.Gather place) = 0
+fetched_by store fed (node.Windows' kernel place passed p scalar) = fetched_by store fed scalar
 
 -- a tree that was fed nothing was given nothing
 abbrev pub FreshTreesHaveFetchedNothing : Type 0

@@ -1,19 +1,21 @@
 -- What a tree of kernels is made of, and the step that it gives at an instant, by the rules of its kernels. (This project's own.)
-use Rattle.std.specs.Prelude.{◌≡◌, ◌<ℤ◌, ◌&&◌, ◌||◌, ◌++◌, ℕ, ℤ, pos, Bool, true, false, not, List, [], ◌∷◌, ⊤, Contains, IsTrue}
+use Rattle.std.specs.Prelude.{◌≡◌, ◌<ℤ◌, ◌&&◌, ◌||◌, ◌++◌, ℕ, ℤ, pos, Bool, true, false, not, List, [], ◌∷◌, Option, None, Some, ⊤, Contains, IsTrue}
 use Rattle.func_table.specs.declared.table.Window.{Window}
+use Rattle.label_set.specs.declared.rules.Rule.{Rule}
 use Rattle.op_element.specs.Rules.{element_step}
 use Rattle.op_element.specs.declared.formula.ElementRule.{ElementRule}
-use Rattle.op_labels.specs.Rules.{Kept}
+use Rattle.op_labels.specs.Rules.{Kept, filtered_windows}
 use Rattle.op_select.specs.Newest.{AreOnce, selected}
 use Rattle.op_small.specs.Rules.{small}
 use Rattle.op_small.specs.declared.rule.SmallRule.{SmallRule}
-use Rattle.op_window.specs.Rules.{takes_scalar as reads_scalar, windows_of_series}
+use Rattle.op_window.specs.Rules.{takes_scalar as reads_scalar, windows_of_lent, windows_of_series}
 use Rattle.promql_meaning.specs.Givens.{barren, no_marks}
 use Rattle.promql_meaning.specs.Meaning.{windowed_by}
 use Rattle.promql_meaning.specs.Selecting.{lookback}
 use Rattle.promql_meaning.specs.Subqueries.{points_of}
 use Rattle.sample_store.specs.Samples.{AllSeries}
 use Rattle.series_marks.specs.Reaches.{AreThere}
+use Rattle.step_batch.specs.LentWindows.{WindowsAt}
 use Rattle.step_kernels.specs.Binaries.{binary_step, takes_scalar}
 use Rattle.step_kernels.specs.Laws.{binary_keeps_scalars, unary_keeps_scalars, unary_makes_scalars}
 use Rattle.step_kernels.specs.Unaries.{reads_rows, unary_step}
@@ -28,7 +30,7 @@ use Rattle.ticks.specs.declared.walk.WalkMoment.{WalkMoment}
 use Rattle.plan_tree.specs.Worlds.{World}
 
 -- a tree without what its kernels have come to; a subquery's walk is that of its inner instants, and a gather stands for the one at
--- its place in an exchange
+-- its place in an exchange; of windows that a gather gives a function takes those that pass some rules, or all where there are none
 pub data Shape : Type 0 where
   InstantsOf : SmallRule → Shape
   SelectOf : (series : List ℕ) → WalkMoment → (stamped : Bool) → Shape
@@ -39,8 +41,14 @@ pub data Shape : Type 0 where
   PointsOf : Window → Walk → WalkMoment → (range step : Ms) → (inner scalar : Shape) → Shape
   OnceOf : (first : Ms) → (child : Shape) → Shape
   GatherOf : (place : ℕ) → Shape
+  WindowsOf : (place : ℕ) → Window → WalkMoment → (range : Ms) → Option (List Rule) → (scalar : Shape) → Shape
 
 -- ---- the rule
+
+-- the windows whose labels pass some rules, or all windows where there are none
+abbrev pub passing : Kept → Option (List Rule) → WindowsAt → WindowsAt
+passing kept None windows = windows
+passing kept (Some rules) windows = filtered_windows kept rules windows
 
 -- the step at an instant, in a world and with kept patterns
 abbrev pub rule : World → Kept → Shape → ℤ → Step
@@ -53,7 +61,9 @@ rule w kept (ClampOf one rows low high) t = element_step one (rule w kept low t)
 rule w kept (PointsOf f walk moment range step inner scalar) t =
     windowed_by f t (rule w kept scalar t) (points_of moment.closed (rule w kept inner) range step (moment_at moment t))
 rule w kept (OnceOf first child) t = rule w kept child first.0
-rule w kept (GatherOf place) t = w.gathers place t
+rule w kept (GatherOf place) t = (w.gathers place t).step
+rule w kept (WindowsOf place f moment range rules scalar) t =
+    windowed_by f t (rule w kept scalar t) (windows_of_lent (passing kept rules (w.gathers place t).windows) moment range (record { 0 = t }))
 
 -- ---- two tests
 
@@ -68,6 +78,7 @@ is_scalar (ClampOf one rows low high) = false
 is_scalar (PointsOf f walk moment range step inner scalar) = false
 is_scalar (OnceOf first child) = is_scalar child
 is_scalar (GatherOf place) = false
+is_scalar (WindowsOf place f moment range rules scalar) = false
 
 -- whether it is fed one instant at a time: a subquery and a gather are, and what reads one at the same instants
 abbrev pub is_single : Shape → Bool
@@ -80,6 +91,7 @@ is_single (ClampOf one rows low high) = is_single rows || (is_single low || is_s
 is_single (PointsOf f walk moment range step inner scalar) = true
 is_single (OnceOf first child) = false
 is_single (GatherOf place) = true
+is_single (WindowsOf place f moment range rules scalar) = true
 
 -- ---- conditions
 
@@ -98,6 +110,7 @@ StaysInTimes (ClampOf one rows low high) t = StaysInTimes rows t × StaysInTimes
 StaysInTimes (PointsOf f walk moment range step inner scalar) t = IsTime t × IsAskedOn walk moment range step t × StaysInTimes scalar t
 StaysInTimes (OnceOf first child) t = StaysInTimes child first.0
 StaysInTimes (GatherOf place) t = ⊤
+StaysInTimes (WindowsOf place f moment range rules scalar) t = IsTime t × HasTimes (moment_at moment t) range.0 × StaysInTimes scalar t
 
 -- what a tree is made of fits together: a scalar is one where it is read as such, series are in the store, and a subquery's inner
 -- instants lead to times
@@ -113,6 +126,7 @@ IsFit store (PointsOf f walk moment range step inner scalar) =
     ((u : ℤ) → IsInstant walk u → StaysInTimes inner u) × (IsTrue (reads_scalar f) → IsTrue (is_scalar scalar)) × IsFit store inner × IsFit store scalar
 IsFit store (OnceOf first child) = IsFit store child
 IsFit store (GatherOf place) = ⊤
+IsFit store (WindowsOf place f moment range rules scalar) = (IsTrue (reads_scalar f) → IsTrue (is_scalar scalar)) × IsFit store scalar
 
 -- ---- gathers
 
@@ -127,6 +141,7 @@ places_of (ClampOf one rows low high) = places_of rows ++ (places_of low ++ plac
 places_of (PointsOf f walk moment range step inner scalar) = places_of scalar ++ places_of inner
 places_of (OnceOf first child) = places_of child
 places_of (GatherOf place) = place ∷ []
+places_of (WindowsOf place f moment range rules scalar) = place ∷ places_of scalar
 
 -- a gather of the tree stands for the one at a place
 abbrev pub HasPlace : Shape → ℕ → Type 0

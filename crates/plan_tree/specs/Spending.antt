@@ -17,7 +17,7 @@ use Rattle.plan_tree.specs.declared.turns.Fed.{Fed}
 use Rattle.plan_tree.specs.Chains.{Chain}
 use Rattle.plan_tree.specs.Feeds.{fed_on, once, reached_of}
 use Rattle.plan_tree.specs.Nodes.{shape_of}
-use Rattle.plan_tree.specs.Shapes.{BinaryOf, ClampOf, GatherOf, InstantsOf, OnceOf, PointsOf, SelectOf, SeriesOf, Shape, UnaryOf}
+use Rattle.plan_tree.specs.Shapes.{BinaryOf, ClampOf, GatherOf, InstantsOf, OnceOf, PointsOf, SelectOf, SeriesOf, Shape, UnaryOf, WindowsOf}
 
 -- ---- costs
 
@@ -65,6 +65,7 @@ IsBound store at (PointsOf f walk moment range step inner scalar) =
     λ most. (times : List Ms) × IsListed walk times × IsSum (IsBound store at scalar) (IsBound store times inner) most
 IsBound store at (OnceOf first child) = IsBound store (once_at first at) child
 IsBound store at (GatherOf place) = λ most. most ≡ nothing
+IsBound store at (WindowsOf place f moment range rules scalar) = IsBound store at scalar
 
 -- the walks of all subqueries lead to times, so that each has one list
 abbrev pub HasLists : Shape → Type 0
@@ -77,6 +78,7 @@ HasLists (ClampOf one rows low high) = HasLists rows × HasLists low × HasLists
 HasLists (PointsOf f walk moment range step inner scalar) = LeadsToTimes walk × HasLists inner × HasLists scalar
 HasLists (OnceOf first child) = HasLists child
 HasLists (GatherOf place) = ⊤
+HasLists (WindowsOf place f moment range rules scalar) = HasLists scalar
 
 -- ---- counters
 
@@ -114,6 +116,7 @@ HasRead store fed (node.Points' kernel inner_fed p inner q scalar) =
     λ read. IsAlong kernel.walk inner_fed × IsSum (HasRead store fed scalar) (HasRead store inner_fed inner) read
 HasRead store fed (node.Once' first steps p child) = HasRead store (once first fed) child
 HasRead store fed (node.Gather place) = λ read. read ≡ nothing
+HasRead store fed (node.Windows' kernel place passed p scalar) = HasRead store fed scalar
 
 -- what was spent since a tree's first instant
 pub record HasSpent (store : AllSeries) (tree : Tree) (start now : Counts) : Type 0 where
@@ -133,6 +136,7 @@ IsFresh (node.Clamp' kernel p rows q low r high) = IsFresh rows × IsFresh low �
 IsFresh (node.Points' kernel inner_fed p inner q scalar) = (inner_fed ≡ None) × IsFresh inner × IsFresh scalar
 IsFresh (node.Once' first steps p child) = IsFresh child
 IsFresh (node.Gather place) = ⊤
+IsFresh (node.Windows' kernel place passed p scalar) = IsFresh scalar
 
 -- ---- what may have been read by then, where memory ran out too
 
@@ -157,6 +161,7 @@ MayRead store fed (PointsOf f walk moment range step inner scalar) =
     λ read. (inner_fed : Option Fed) × IsAlong walk inner_fed × IsSum (MayRead store fed scalar) (MayRead store inner_fed inner) read
 MayRead store fed (OnceOf first child) = MayRead store (once first fed) child
 MayRead store fed (GatherOf place) = λ read. read ≡ nothing
+MayRead store fed (WindowsOf place f moment range rules scalar) = MayRead store fed scalar
 
 -- ---- a feed
 

@@ -4,13 +4,14 @@ ghost use Rattle.exchange.specs.declared.fault.RunFault.TheVariants as run;
 ghost use Rattle.op_element.specs.Rules.{element_step};
 ghost use Rattle.op_subquery.specs.Rings.{IsReady};
 ghost use Rattle.op_window.specs.Feeds.{CanFeedStore, HasReached};
-ghost use Rattle.op_window.specs.Rules.{HasScalars, takes_scalar as reads_scalar, windows_of_series};
+ghost use Rattle.op_labels.specs.Rules.{filtered_windows};
+ghost use Rattle.op_window.specs.Rules.{HasScalars, takes_scalar as reads_scalar, windows_of_lent, windows_of_series};
 ghost use Rattle.plan_tree.specs.Feeding.{IsLending};
-ghost use Rattle.plan_tree.specs.Nodes.{IsThere, lent_by, shape_of};
-ghost use Rattle.plan_tree.specs.Shapes.{is_scalar};
+ghost use Rattle.plan_tree.specs.Nodes.{AreGiven, CanFilter, CanPass, IsThere, lent_by, rules_in, rules_of, shape_of, windows_at};
+ghost use Rattle.plan_tree.specs.Shapes.{is_scalar, passing};
 ghost use Rattle.promql_meaning.specs.Meaning.{windowed_by};
 ghost use Rattle.series_marks.specs.Reaches.{reach_all, reads_of, searches_of};
-ghost use Rattle.std.specs.Prelude.{◌≡◌, ◌+◌, ◌<◌, ◌≤◌, ◌≤ℤ◌, ◌∷◌, [], ℤ, List, Option, Some, IfErr, IsTrue, OnOk};
+ghost use Rattle.std.specs.Prelude.{◌≡◌, ◌+◌, ◌<◌, ◌≤◌, ◌≤ℤ◌, ◌∷◌, [], ℤ, List, Option, Some, IfErr, IsTrue, OnOk, length};
 ghost use Rattle.step_batch.specs.Lent.{Lent, stages};
 ghost use Rattle.step_batch.specs.LentWindows.{TimesRise};
 ghost use Rattle.step_kernels.specs.Binaries.{binary_lent, binary_rule, binary_step, takes_scalar};
@@ -23,17 +24,18 @@ ghost use Rattle.ticks.specs.declared.moment.Ms.{Ms};
 ghost use Rattle.ticks.specs.declared.walk.Walk.{Walk};
 
 use crate::copying::{name_all, repeat_all};
-use crate::feeding::{feed_binary, feed_clamp, feed_unary, lend_from, lend_scalar};
+use crate::feeding::{feed_binary, feed_clamp, feed_unary, lend_from, lend_scalar, windows_from};
 use crate::gathering::or_memory;
 use crate::node::Node;
 use crate::outside::Outside;
 use exchange::RunFault;
 use match_rule::Patterns;
 use op_element::ElementRows;
+use op_labels::Relabelled;
 use op_window::WindowRows;
 use sample_store::Store;
 use std::sync::ledger::Ledger;
-use step_batch::StepBuffer;
+use step_batch::{StepBuffer, Windows};
 use step_kernels::{Binary, Unary};
 use subquery_rows::SubqueryRows;
 use ticks::{Ms, Work};
@@ -65,6 +67,80 @@ pub(crate) fn series_fed<O: Outside, W: Ledger>(
     ensures memory { IfErr result (λ fault. fault ≡ run.Memory) }
 {
     or_memory(kernel.feed_store(store, at, &lend_scalar(scalar, outside), work))
+}
+
+/// Feeds a function of windows those that the gather at a place lends, of which those pass that a filter lets pass, if there is one,
+/// and its scalar.
+pub(crate) fn windows_fed<O: Outside>(
+    kernel: &mut WindowRows,
+    place: usize,
+    passed: &mut Option<Relabelled>,
+    scalar: &Node,
+    outside: &O,
+    patterns: &mut Patterns<'_>,
+) -> Result<(), RunFault>
+    requires there { IsThere (O.places outside.now) scalar.now }
+    requires place { place < length (O.places outside.now) }
+    requires pass { CanPass patterns.old passed.old }
+    requires given { AreGiven kernel.old (windows_at (O.places outside.now) place) }
+    requires lends { IsLending (O.places outside.now) ((windows_at (O.places outside.now) place).at ∷ []) scalar.now }
+    requires scalar { IsTrue (reads_scalar kernel.old.f) → IsTrue (is_scalar (shape_of scalar.now)) }
+    ensures f { kernel.new.f ≡ kernel.old.f }
+    ensures moment { kernel.new.moment ≡ kernel.old.moment }
+    ensures range { kernel.new.range ≡ kernel.old.range }
+    ensures rules { rules_of passed.new ≡ rules_of passed.old }
+    ensures pass { CanPass patterns.old passed.new }
+    ensures same { patterns.new ≡ patterns.old }
+    ensures lent { OnOk result ((g : ℤ → Step) → stages (lent_by (O.places outside.now) scalar.now) ≡ steps_over g ((windows_at (O.places outside.now) place).at ∷ [])
+        → stages kernel.new.buffer ≡ steps_over (λ t. windowed_by kernel.old.f t (g t) (windows_of_lent (passing patterns.old (rules_of passed.old) (windows_at (O.places outside.now) place)) kernel.old.moment kernel.old.range (record { 0 = t }))) ((windows_at (O.places outside.now) place).at ∷ [])) }
+    ensures memory { IfErr result (λ fault. fault ≡ run.Memory) }
+{
+    match passed {
+        None => given_fed(kernel, &windows_from(place, outside), scalar, outside),
+        Some(filter) => {
+            windows_passed(filter, place, outside, patterns)?;
+            given_fed(kernel, &filter.lend_windows(), scalar, outside)
+        }
+    }
+}
+
+/// Feeds a function of windows those that are lent at one instant, and its scalar.
+fn given_fed<O: Outside>(
+    kernel: &mut WindowRows,
+    windows: &Windows<'_>,
+    scalar: &Node,
+    outside: &O,
+) -> Result<(), RunFault>
+    requires there { IsThere (O.places outside.now) scalar.now }
+    requires given { AreGiven kernel.old windows.now }
+    requires lends { IsLending (O.places outside.now) (windows.now.at ∷ []) scalar.now }
+    requires scalar { IsTrue (reads_scalar kernel.old.f) → IsTrue (is_scalar (shape_of scalar.now)) }
+    ensures f { kernel.new.f ≡ kernel.old.f }
+    ensures moment { kernel.new.moment ≡ kernel.old.moment }
+    ensures range { kernel.new.range ≡ kernel.old.range }
+    ensures lent { OnOk result ((g : ℤ → Step) → stages (lent_by (O.places outside.now) scalar.now) ≡ steps_over g (windows.now.at ∷ [])
+        → stages kernel.new.buffer ≡ steps_over (λ t. windowed_by kernel.old.f t (g t) (windows_of_lent windows.now kernel.old.moment kernel.old.range (record { 0 = t }))) (windows.now.at ∷ [])) }
+    ensures memory { IfErr result (λ fault. fault ≡ run.Memory) }
+{
+    or_memory(kernel.feed_windows(windows, &lend_scalar(scalar, outside)))
+}
+
+/// Feeds a filter the windows that the gather at a place lends.
+fn windows_passed<O: Outside>(
+    filter: &mut Relabelled,
+    place: usize,
+    outside: &O,
+    patterns: &mut Patterns<'_>,
+) -> Result<(), RunFault>
+    requires place { place < length (O.places outside.now) }
+    requires can { CanFilter patterns.old filter.old }
+    ensures rule { filter.new.rule ≡ filter.old.rule }
+    ensures can { CanFilter patterns.old filter.new }
+    ensures same { patterns.new ≡ patterns.old }
+    ensures windows { OnOk result (filter.new.windows ≡ filtered_windows patterns.old (rules_in filter.old.rule) (windows_at (O.places outside.now) place)) }
+    ensures memory { IfErr result (λ fault. fault ≡ run.Memory) }
+{
+    or_memory(filter.feed_windows(&windows_from(place, outside), patterns))
 }
 
 /// Feeds a kernel of one part.

@@ -2,11 +2,11 @@
 ghost use Rattle.op_element.specs.Rules.{IsScalar, element_step};
 ghost use Rattle.plan_tree.specs.Feeding.{HasRun};
 ghost use Rattle.plan_tree.specs.Gathering.{CanTake, HasTaken};
-ghost use Rattle.plan_tree.specs.Nodes.{IsThere, lent_by, shape_of};
+ghost use Rattle.plan_tree.specs.Nodes.{IsThere, lent_by, shape_of, windows_at};
 ghost use Rattle.plan_tree.specs.Shapes.{is_scalar, rule};
 ghost use Rattle.plan_tree.specs.Worlds.{World};
 ghost use Rattle.op_labels.specs.Rules.{Kept};
-ghost use Rattle.std.specs.Prelude.{◌≡◌, ℕ, ℤ, List, IsTrue, OnOk, slice_get};
+ghost use Rattle.std.specs.Prelude.{◌≡◌, ◌<◌, ℕ, ℤ, List, IsTrue, OnOk, length, slice_get};
 ghost use Rattle.step_batch.specs.Lent.{stages};
 ghost use Rattle.step_kernels.specs.Binaries.{binary_lent, binary_rule, binary_step, takes_scalar};
 ghost use Rattle.step_kernels.specs.Unaries.{CanFeedUnary, unary_lent, unary_rule, unary_step};
@@ -21,7 +21,7 @@ use exchange::RunFault;
 use match_rule::Patterns;
 use op_element::ElementRows;
 use std::alloc::AllocError;
-use step_batch::Batch;
+use step_batch::{Batch, Windows};
 use step_kernels::laws::{few_rows_are_scalars, steps_go_over};
 use step_kernels::{Binary, Unary};
 
@@ -45,6 +45,14 @@ pub(crate) fn lend_scalar<'a, O: Outside>(node: &'a Node, outside: &'a O) -> Bat
     let batch = lend_from(node, outside);
     let _ = batch.len();
     batch
+}
+
+/// The windows that the gather at a place lends.
+pub(crate) fn windows_from<'a, O: Outside>(place: usize, outside: &'a O) -> Windows<'a>
+    requires { place < length (O.places outside.now) }
+    ensures { result ≡ windows_at (O.places outside.now) place }
+{
+    outside.exchange().lend_windows(place)
 }
 
 /// Feeds a kernel of one part. The only error is want of memory.
@@ -98,7 +106,7 @@ pub(crate) fn feed_clamp(
     kernel.feed(rows, low, high)
 }
 
-/// Takes the next step of the gather at a place, which a leaf of a tree stands for.
+/// Takes what the gather at a place gives at its next instant, which a leaf of a tree stands for or reads.
 pub(crate) fn feed_gather<O: Outside>(
     place: &mut usize,
     outside: &mut O,
@@ -107,7 +115,7 @@ pub(crate) fn feed_gather<O: Outside>(
     requires { (t : Ms) × CanTake patterns.old (O.engines outside.old) (O.places outside.old) place.old t }
     ensures leaf { place.new ≡ place.old }
     ensures taken { OnOk result ((t : Ms) (c : CanTake patterns.old (O.engines outside.old) (O.places outside.old) place.old t)
-        → HasTaken c.taken c.all c.known patterns.old (O.engines outside.new) (O.places outside.new) place.old t) }
+        → HasTaken c.place c.taken c.all c.known patterns.old (O.engines outside.new) (O.places outside.new) place.old t) }
     ensures others { (k : ℕ) → (k ≡ place.old → ⊥) → slice_get (O.places outside.new) k ≡ slice_get (O.places outside.old) k }
     ensures names { O.names outside.new ≡ O.names outside.old }
     ensures run { HasRun result (O.engines outside.old) (O.engines outside.new) }

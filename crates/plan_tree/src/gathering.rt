@@ -13,8 +13,8 @@ use remote_api::{Courier, Engine};
 use std::alloc::AllocError;
 use step_table::laws::{steps_are_well_formed, unions_are_sets};
 
-/// Takes the next step of the gather at a place, which the exchange lends then. A fault is that of `Exchange::advance`; after one the
-/// exchange may only be dropped.
+/// Takes what the gather at a place gives at its next instant, which the exchange lends then. A fault is that of `Exchange::advance`;
+/// after one the exchange may only be dropped.
 pub(crate) fn take_next<C: Courier>(
     exchange: &mut Exchange,
     place: usize,
@@ -24,7 +24,7 @@ pub(crate) fn take_next<C: Courier>(
 ) -> Result<(), RunFault>
     requires { (t : Ms) × CanTake patterns.old (map (λ b. seen b) engines.old) exchange.old.places place t }
     ensures taken { OnOk result ((t : Ms) (c : CanTake patterns.old (map (λ b. seen b) engines.old) exchange.old.places place t)
-        → HasTaken c.taken c.all c.known patterns.old (map (λ b. seen b) engines.new) exchange.new.places place t) }
+        → HasTaken c.place c.taken c.all c.known patterns.old (map (λ b. seen b) engines.new) exchange.new.places place t) }
     ensures others { (k : ℕ) → (k ≡ place → ⊥) → slice_get exchange.new.places k ≡ slice_get exchange.old.places k }
     ensures run { HasRun result (map (λ b. seen b) engines.old) (map (λ b. seen b) engines.new) }
     ensures blame { (one : Place) → slice_get exchange.old.places place ≡ Some one → Blames (IsAskedAt one.asks) result }

@@ -11,6 +11,7 @@ ghost use Rattle.std.specs.Prelude.{◌≡◌, ◌+◌, ◌∷◌, [], Some, IfO
 
 use crate::arms::{
     binary_fed, child_named, clamp_fed, inner_taken, once_fed, points_fed, series_fed, unary_fed,
+    windows_fed,
 };
 use crate::feeding::feed_gather;
 use crate::gathering::or_memory;
@@ -20,6 +21,7 @@ use crate::turns::{Fed, fed_with};
 use exchange::{Exchange, RunFault};
 use match_rule::Patterns;
 use op_element::ElementRows;
+use op_labels::Relabelled;
 use op_select::Select;
 use op_small::Small;
 use op_window::WindowRows;
@@ -81,6 +83,14 @@ pub enum Node {
     Gather {
         place: usize,
     },
+    /// A function of the windows that engines give, joined: the gather at a place of an exchange, counted from 0; the filter of rules
+    /// that they pass first, if there is one; and the scalar that the function takes. Where it takes none, any tree stands in its place.
+    Windows {
+        kernel: WindowRows,
+        place: usize,
+        passed: Option<Relabelled>,
+        scalar: Box<Node>,
+    },
 }
 
 impl Node {
@@ -99,6 +109,7 @@ impl Node {
             Node::Points { kernel, .. } => kernel.lend(),
             Node::Once { steps, .. } => steps.lend(),
             Node::Gather { place } => exchange.lend(*place),
+            Node::Windows { kernel, .. } => kernel.lend(),
         }
     }
 
@@ -108,7 +119,7 @@ impl Node {
     {
         match self {
             Node::Instants { .. } | Node::Select(_) | Node::Once { .. } => false,
-            Node::Points { .. } | Node::Gather { .. } => true,
+            Node::Points { .. } | Node::Gather { .. } | Node::Windows { .. } => true,
             Node::Series { scalar, .. } => scalar.is_single(),
             Node::Unary { rows, .. } => rows.is_single(),
             Node::Binary { rows, beside, .. } => rows.is_single() || beside.is_single(),
@@ -197,6 +208,16 @@ impl Node {
                 once_fed(steps, child, at, outside)
             }
             Node::Gather { place } => feed_gather(place, outside, patterns),
+            Node::Windows {
+                kernel,
+                place,
+                passed,
+                scalar,
+            } => {
+                scalar.feed(store, fed, at, outside, patterns, work)?;
+                feed_gather(place, outside, patterns)?;
+                windows_fed(kernel, *place, passed, scalar, outside, patterns)
+            }
         }
     }
 }

@@ -21,8 +21,7 @@ use sample_store::Store;
 use std::sync::ledger::Ledger;
 use ticks::{Ms, Work};
 
-/// What the gathers of a tree take their steps from. It is a trait since functions that call one another can't be given a list of
-/// engines.
+/// What the gathers of a tree take from. It is a trait since functions that call one another can't be given a list of engines.
 pub trait Outside {
     /// The gathers, each beside its asks.
     ghost places: { Self → List Place };
@@ -31,12 +30,12 @@ pub trait Outside {
     /// Which references it keeps, which stay the same.
     ghost names: { Self → GName × GName };
 
-    /// Takes the next step of the gather at a place, which its exchange lends then. A fault is that of `Exchange::advance`; after one
-    /// the exchange may only be dropped.
+    /// Takes what the gather at a place gives at its next instant, a step or windows, which its exchange lends then. A fault is that of
+    /// `Exchange::advance`; after one the exchange may only be dropped.
     fn take(&mut self, place: usize, patterns: &mut Patterns<'_>) -> Result<(), RunFault>
         requires { (t : Ms) × CanTake patterns.old (engines self.old) (places self.old) place t }
         ensures taken { OnOk result ((t : Ms) (c : CanTake patterns.old (engines self.old) (places self.old) place t)
-            → HasTaken c.taken c.all c.known patterns.old (engines self.new) (places self.new) place t) }
+            → HasTaken c.place c.taken c.all c.known patterns.old (engines self.new) (places self.new) place t) }
         ensures others { (k : ℕ) → (k ≡ place → ⊥) → slice_get (places self.new) k ≡ slice_get (places self.old) k }
         ensures names { names self.new ≡ names self.old }
         ensures run { HasRun result (engines self.old) (engines self.new) }
