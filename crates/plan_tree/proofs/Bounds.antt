@@ -20,7 +20,7 @@ use Rattle.plan_tree.specs.declared.node.Node.TheVariants as node
 use Rattle.plan_tree.specs.declared.turns.Fed.{Fed}
 use Rattle.plan_tree.specs.Feeds.{fed_on, once}
 use Rattle.plan_tree.specs.Laws.{FreshTreesBegin, SpendingIsBounded, TurnsAreTheWalk}
-use Rattle.plan_tree.specs.Shapes.{BinaryOf, ClampOf, GatherOf, InstantsOf, IsFit, OnceOf, PointsOf, SelectOf, SeriesOf, Shape, UnaryOf}
+use Rattle.plan_tree.specs.Shapes.{BinaryOf, ClampOf, GatherOf, InstantsOf, IsFit, OnceOf, PointsOf, SelectOf, SeriesOf, Shape, UnaryOf, WindowsOf}
 use Rattle.plan_tree.specs.Spending.{Cost, HasRead, IsAlong, IsAtMost, IsBound, IsFresh, IsSum, IsUpTo, LeafMayRead, MayRead, RisesBy, RisesFrom, both, leaf_bound, leaf_read, nothing, once_at}
 use Rattle.plan_tree.proofs.Going.{moments_rise}
 use Rattle.plan_tree.proofs.Spent.{le_same}
@@ -166,6 +166,7 @@ tree_within turns store rising times fed (PointsOf f walk moment range step inne
 tree_within turns store rising times fed (OnceOf first child) read most fit r h may bound =
     tree_within turns store rising (once_at first times) (once first fed) child read most fit (once_rises first times) (once_among first times fed h) may bound
 tree_within turns store rising times fed (GatherOf place) read most fit r h may bound = at_most_same read most may bound
+tree_within turns store rising times fed (WindowsOf place f moment range rules scalar) read most fit r h may bound = tree_within turns store rising times fed scalar read most fit.1 r h may bound
 
 pub spending_bounded : TurnsAreTheWalk → SpendingIsBounded
 spending_bounded turns store walk fed shape read most times rising fit along may listed bound = tree_within turns store rising times fed shape read most fit listed.rising (along_among turns walk times fed listed along) may bound
@@ -222,6 +223,7 @@ begun store (node.Points' kernel inner_fed p inner q scalar) h =
     }
 begun store (node.Once' first steps p child) h = let a = begun store child h in record { read = a.read; has = a.has }
 begun store (node.Gather place) h = record { read = nothing; has = refl }
+begun store (node.Windows' kernel place passed p scalar) h = let a = begun store scalar h in record { read = a.read; has = a.has }
 
 pub fresh_begin : FreshTreesBegin
 fresh_begin store tree now is fresh =

@@ -148,3 +148,4 @@ fresh_counts store (node.Points' kernel inner_fed p inner q scalar) f =
     omega (arith, a, b)
 fresh_counts store (node.Once' first steps p child) f = fresh_counts store child f
 fresh_counts store (node.Gather place) f = refl
+fresh_counts store (node.Windows' kernel place passed p scalar) f = fresh_counts store scalar f

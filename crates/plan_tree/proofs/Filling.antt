@@ -19,11 +19,13 @@ use Rattle.plan_tree.specs.declared.node.Node.TheVariants as node
 use Rattle.plan_tree.specs.declared.turns.Fed.{Fed}
 use Rattle.plan_tree.specs.Feeding.{CanFeed, CanFill, CanRepeat, GoesOn, HasFed, HasFilled, HasMade}
 use Rattle.plan_tree.specs.Feeds.{Goes, fed_on, last_of, once}
-use Rattle.plan_tree.specs.Gathering.{AreDue, CanTake, HasCome, HasTaken, HaveCome, Instants, IsFedUpTo, IsOut}
+use Rattle.plan_tree.specs.Gathering.{AreDue, AsksSteps, CanTake, HasCome, HasTaken, HaveCome, Instants, IsOut}
 use Rattle.plan_tree.specs.Laws.{MarksAreSets}
 use Rattle.plan_tree.specs.Nodes.{CanGo, IsRepeated, PointsGo, lent_by, lent_of, shape_of}
 use Rattle.plan_tree.specs.Shapes.{AreDistinct, GatherOf, IsAskedOn, IsFit, Shape, StaysInTimes, places_of, rule}
 use Rattle.plan_tree.specs.Worlds.{ArePossible, Gathers, IsGrown, Taken, world}
+use Rattle.plan_tree.proofs.Advances.{come_next, next_takes}
+use Rattle.plan_tree.proofs.Joins.{steps_given}
 use Rattle.plan_tree.proofs.Kept.{Agree, can_kept, come_kept}
 use Rattle.plan_tree.proofs.Possible.{completed, completed_are, grown_none, grown_then, possible_before}
 use Rattle.plan_tree.proofs.Rings.{next_goes, next_on, points_asked}
@@ -38,14 +40,6 @@ next_due first next walk times (Some fed) u listed n count (m, e, at) = ap (slic
 
 first_due : (first : Ms) → AreDue (first ∷ []) None (first ∷ [])
 first_due first count e = ap (slice_get (first ∷ [])) e
-
--- so many were fed once the one at a place is
-pub up_to_next : (times : List Ms) (n : ℕ) (fed : Option Fed) (t : Ms) (at : List Ms) → at ≡ t ∷ [] → slice_get times n ≡ Some t → IsFedUpTo times (n + 1) (fed_on fed at)
-up_to_next times n fed t at one e = subst (λ (ts : List Ms). IsFedUpTo times (n + 1) (fed_on fed ts)) (sym one) (by fed)
-  where
-    by : (fed : Option Fed) → IsFedUpTo times (n + 1) (fed_on fed (t ∷ []))
-    by None = (n, refl, e)
-    by (Some f) = (n, refl, e)
 
 -- ---- filling
 
@@ -229,35 +223,20 @@ once_repeats store kept es places fed first child steps all known taken out can 
 
 -- a gather takes its next step
 abbrev pub gather_takes : (store : AllSeries) (kept : Kept) (es : List EngineSeen) (places : List Place) (fed : Option Fed) (at : List Ms) (k : ℕ) → CanFeed store kept es places fed at (node.Gather k) → (u : Ms) → at ≡ u ∷ [] → CanTake kept es places k u
-gather_takes store kept es places fed at k c u one = record {
-  all = c.goes_on.all;
-  known = c.goes_on.known;
-  taken = c.goes_on.taken;
-  out = c.goes_on.out;
-  place = c.goes_on.come.place;
-  here = c.goes_on.come.here;
-  kind = c.goes_on.come.kind;
-  next = c.goes_on.come.next ∙ subst (λ (ts : List Ms). AreDue c.times fed ts) one c.due c.goes_on.come.count c.goes_on.come.fed_are;
-}
+gather_takes store kept es places fed at k c u one = next_takes AsksSteps kept es places places k c.goes_on.all c.goes_on.known c.goes_on.taken c.times fed at u one c.goes_on.come refl c.goes_on.out c.due
 
 pub gather_made : (store : AllSeries) (kept : Kept) (es fs : List EngineSeen) (places now : List Place) (fed : Option Fed) (at : List Ms) (k : ℕ) (c : CanFeed store kept es places fed at (node.Gather k)) (u : Ms) → at ≡ u ∷ [] → (place : ℕ) → place ≡ k
-    → HasTaken c.goes_on.taken c.goes_on.all c.goes_on.known kept fs now k u
+    → HasTaken c.goes_on.come.place c.goes_on.taken c.goes_on.all c.goes_on.known kept fs now k u
     → HasMade store kept fs now c.goes_on.all c.goes_on.known c.goes_on.taken c.times (fed_on fed at) at (GatherOf k) (node.Gather place)
 gather_made store kept es fs places now fed at k c u one place leaf h =
-    let along : c.goes_on.all k ≡ c.times = c.goes_on.come.along in
+    let come = come_next AsksSteps kept es places places k c.goes_on.all c.goes_on.known c.goes_on.taken c.times fed at u one c.goes_on.come now fs h in
+    let asks : AsksSteps h.place.gather.ask = subst AsksSteps (sym h.asks) c.goes_on.come.asks in
     record {
       taken = h.now;
       grown = h.grown;
       out = h.out;
-      lent = λ g p. ap (λ i. stages (lent_of (slice_get now i))) leaf ∙ ap (λ o. stages (lent_of o)) h.here ∙ h.lent g p ∙ ap (λ (ts : List Ms). steps_over (g k) ts) (sym one);
+      lent = λ g p. ap (λ i. stages (lent_of (slice_get now i))) leaf ∙ ap (λ o. stages (lent_of o)) h.here ∙ steps_given u h.place.gather.lent h.place.gather.windows h.place.gather.ask.kind (g k u.0) asks (h.lent g p)
+          ∙ ap (λ (ts : List Ms). steps_over (λ t. (g k t).step) ts) (sym one);
       can = λ g p. tt;
-      come = subst (λ i. HasCome c.goes_on.all now c.times (fed_on fed at) i) (sym leaf) (record {
-        along = along;
-        place = h.place;
-        here = h.here;
-        kind = h.kind;
-        count = h.n + 1;
-        fed_are = up_to_next c.times h.n fed u at one (ap (λ ts. slice_get ts h.n) (sym along) ∙ h.at);
-        next = h.next ∙ ap (λ ts. slice_get ts (h.n + 1)) along;
-      });
+      come = subst (λ i. HasCome AsksSteps c.goes_on.all now c.times (fed_on fed at) i) (sym leaf) come;
     }

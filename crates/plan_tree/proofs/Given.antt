@@ -16,7 +16,7 @@ use Rattle.step_table.specs.declared.cells.StepCells.{StepCells}
 use Rattle.ticks.specs.declared.grid.Grid.{Grid}
 use Rattle.ticks.specs.declared.moment.Ms.{Ms}
 use Rattle.plan_tree.specs.Asking.{cells_held, cells_of, gathered_at, gathered_by}
-use Rattle.plan_tree.specs.Gathering.{joined_step}
+use Rattle.plan_tree.specs.Gathering.{joined_of}
 use Rattle.plan_tree.proofs.Numbers.{get_within, some_same, within_get}
 
 get_of : {X Y : Type 0} (f : X → Y) (xs : List X) (n : ℕ) (x : X) → slice_get xs n ≡ Some x → slice_get (map f xs) n ≡ Some (f x)
@@ -39,11 +39,11 @@ module _ (span : Grid) (kept : Kept) (part : Part) (times : List Ms) (n : ℕ) (
 
 -- what a request's gather gives is what its engines owe, joined
 pub gathers_give : (span : Grid) (kept : Kept) (es : List EngineSeen) (requests : List Request) (ps : List Progress) → AreOwed span kept es requests ps → (k n : ℕ) (p : Progress) (t : Ms) → slice_get ps k ≡ Some p → slice_get p.all n ≡ Some t
-    → gathered_by span kept es requests k t.0 ≡ joined_step p.kind (steps_at n p.owed)
+    → gathered_by span kept es requests k t.0 ≡ joined_of p.kind t (steps_at n p.owed)
 gathers_give span kept es requests ps owes k n p t p_at t_at =
     let found = within_get requests k (subst (λ m. k < m) owes.as_many (get_within ps k p p_at)) in
     let r = found.0 in
     let o = owes.each k r p found.1 p_at in
     ap (λ (q : Option Request). gathered_at span kept es q t) found.1
-    ∙ (λ j. joined_step (sym o.kind j) (sym (owed_given span kept r.part p.all n t t_at es r.engines) j))
-    ∙ ap (λ l. joined_step p.kind (steps_at n l)) (sym o.owed)
+    ∙ (λ j. joined_of (sym o.kind j) t (sym (owed_given span kept r.part p.all n t t_at es r.engines) j))
+    ∙ ap (λ l. joined_of p.kind t (steps_at n l)) (sym o.owed)

@@ -1,3 +1,4 @@
+pub mod Advances
 pub mod Beside
 pub mod Bounds
 pub mod Chained
@@ -25,3 +26,4 @@ pub mod Spent
 pub mod Taking
 pub mod Turned
 pub mod Walked
+pub mod Windowed

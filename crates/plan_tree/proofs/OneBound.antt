@@ -4,7 +4,7 @@ use Rattle.promql_meaning.specs.Selecting.{lookback}
 use Rattle.ticks.specs.Listed.{EachWalkIsListed, ListsAreOne}
 use Rattle.ticks.specs.declared.moment.Ms.{Ms}
 use Rattle.plan_tree.specs.Laws.{EachTreeHasOneBound}
-use Rattle.plan_tree.specs.Shapes.{BinaryOf, ClampOf, GatherOf, InstantsOf, OnceOf, PointsOf, SelectOf, SeriesOf, UnaryOf}
+use Rattle.plan_tree.specs.Shapes.{BinaryOf, ClampOf, GatherOf, InstantsOf, OnceOf, PointsOf, SelectOf, SeriesOf, UnaryOf, WindowsOf}
 use Rattle.plan_tree.specs.Spending.{Cost, IsBound, IsSum, both, leaf_bound, nothing, once_at}
 
 -- there is one cost of a kind
@@ -40,3 +40,4 @@ one_bound each alone store times (PointsOf f walk moment range step inner scalar
     )
 one_bound each alone store times (OnceOf first child) h = one_bound each alone store (once_at first times) child h
 one_bound each alone store times (GatherOf place) h = known nothing
+one_bound each alone store times (WindowsOf place f moment range rules scalar) h = one_bound each alone store times scalar h

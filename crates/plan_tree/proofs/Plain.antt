@@ -50,6 +50,7 @@ none_come store at (node.Points' kernel inner_fed p inner q scalar) most all pla
     (none_come store at scalar m all places times fed (left_none xs ys e) h, inside, listed, none_come store inside inner n all places inside inner_fed (right_none xs ys e) k)
 none_come store at (node.Once' first steps p child) most all places times fed e b = none_come store (once_at first at) child most all places (first ∷ []) (once first fed) e b
 none_come store at (node.Gather place) most all places times fed e b = absurd (cc)
+none_come store at (node.Windows' kernel place passed p scalar) most all places times fed e b = absurd (cc)
 
 abbrev none_taken : Taken
 none_taken place t = None
@@ -66,7 +67,7 @@ none_out all kept es = record {
   along = λ k p e. absurd (cc);
   were = λ k t step e. absurd (cc);
   told = record {
-    sets = λ place t. no_sets;
+    sets = λ place t. record { step = no_sets; windows = no_sets };
     tell = λ k i p e f. absurd (cc);
     give = λ k n p t f. absurd (cc);
     gave = λ k t step e. absurd (cc);

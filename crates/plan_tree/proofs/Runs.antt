@@ -208,6 +208,10 @@ memory_behind x (Ok y) fault es fs e m h = absurd e
 memory_behind {S} {T} x (Err y) fault es fs e m h =
     subst (λ (z : RunFault). HasRun {T = T} (Err z) es fs) (sym (e ∙ m)) (record { gone = record { many = h.gone.many; grown = h.gone.grown; calm = tt; fault = tt }; asked = tt })
 
+pub fault_memory : {T : Type 0} (r : Result T RunFault) (fault : RunFault) → IsErrAnd r (λ e. e ≡ fault) → fault ≡ run.Memory → IfErr r (λ e. e ≡ run.Memory)
+fault_memory (Ok x) fault e m = absurd e
+fault_memory (Err x) fault e m = e ∙ m
+
 pub own_memory : {T E : Type 0} (made : Result T E) (r : Result T RunFault) → r ≡ as_run made → IfErr r (λ e. e ≡ run.Memory)
 own_memory {T} made r e = subst (λ (z : Result T RunFault). IfErr z (λ e. e ≡ run.Memory)) (sym e) (by made)
   where

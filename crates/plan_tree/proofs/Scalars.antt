@@ -1,17 +1,20 @@
 -- Scalars have one row at most, and marks are sets.
-use Rattle.std.proofs.Common.{Bool, true, false, refl, arith}
+use Rattle.std.proofs.Common.{Bool, true, false, List, Option, None, Some, refl, arith}
 use Rattle.std.specs.Prelude.{IsTrue, ◌&&◌, ◌||◌}
 use Rattle.std.specs.List.Sorted.{IsStrictlySortedBy}
+use Rattle.label_set.specs.declared.rules.Rule.{Rule}
 use Rattle.op_small.specs.Rules.{small}
-use Rattle.op_window.specs.Rules.{windows_of_series}
+use Rattle.op_labels.specs.Rules.{Kept}
+use Rattle.op_window.specs.Rules.{windows_of_lent, windows_of_series}
 use Rattle.promql_meaning.specs.Givens.{barren, no_marks}
 use Rattle.promql_meaning.specs.Subqueries.{points_of}
 use Rattle.step_kernels.specs.Laws.{BinariesKeepSets, BinariesStayScalars, ElementsKeepSets, PointsKeepSets, UnariesKeepSets, UnariesMakeScalars, UnariesStayScalars, WindowsKeepSets, binary_keeps_scalars, unary_keeps_scalars, unary_makes_scalars}
 use Rattle.step_kernels.specs.declared.unary.UnaryRule.TheVariants as unary
+use Rattle.step_batch.specs.LentWindows.{WindowsAt}
 use Rattle.step_table.specs.WellFormed.{AreSets}
 use Rattle.ticks.specs.Walks.{moment_at}
 use Rattle.plan_tree.specs.Laws.{MarksAreSets, ScalarsHaveOneRow}
-use Rattle.plan_tree.specs.Shapes.{BinaryOf, ClampOf, GatherOf, InstantsOf, OnceOf, PointsOf, SelectOf, SeriesOf, UnaryOf, is_scalar, rule}
+use Rattle.plan_tree.specs.Shapes.{BinaryOf, ClampOf, GatherOf, InstantsOf, OnceOf, PointsOf, SelectOf, SeriesOf, UnaryOf, WindowsOf, is_scalar, passing, rule}
 
 first_of : (a b : Bool) → IsTrue (a && b) → IsTrue a
 first_of true b h = refl
@@ -39,10 +42,16 @@ one_row stay both make w kept (ClampOf one rows low high) t h = absurd (cc)
 one_row stay both make w kept (PointsOf f walk moment range step inner scalar) t h = absurd (cc)
 one_row stay both make w kept (OnceOf first child) t h = one_row stay both make w kept child first.0 h
 one_row stay both make w kept (GatherOf place) t h = absurd (cc)
+one_row stay both make w kept (WindowsOf place f moment range rules scalar) t h = absurd (cc)
 
 no_sets : AreSets no_marks
 unfolding IsStrictlySortedBy
 no_sets = record { fatal = tt; notes = tt }
+
+-- windows that pass keep their marks
+passing_sets : (kept : Kept) (rules : Option (List Rule)) (windows : WindowsAt) → AreSets windows.marks → AreSets (passing kept rules windows).marks
+passing_sets kept None windows h = h
+passing_sets kept (Some rules) windows h = h
 
 pub are_sets : UnariesKeepSets → BinariesKeepSets → ElementsKeepSets → WindowsKeepSets → PointsKeepSets → MarksAreSets
 are_sets one two three four five w kept (InstantsOf small) t h = one kept (unary.Small small) t (barren no_marks) no_sets
@@ -58,4 +67,7 @@ are_sets one two three four five w kept (PointsOf f walk moment range step inner
     four f t (rule w kept scalar t) (points_of moment.closed (rule w kept inner) range step (moment_at moment t)) (are_sets one two three four five w kept scalar t h)
     (five moment.closed (rule w kept inner) range step (moment_at moment t) (λ u. are_sets one two three four five w kept inner u h))
 are_sets one two three four five w kept (OnceOf first child) t h = are_sets one two three four five w kept child first.0 h
-are_sets one two three four five w kept (GatherOf place) t h = h place t
+are_sets one two three four five w kept (GatherOf place) t h = (h place t).step
+are_sets one two three four five w kept (WindowsOf place f moment range rules scalar) t h =
+    four f t (rule w kept scalar t) (windows_of_lent (passing kept rules (w.gathers place t).windows) moment range (record { 0 = t })) (are_sets one two three four five w kept scalar t h)
+    (passing_sets kept rules (w.gathers place t).windows (h place t).windows)

@@ -17,7 +17,7 @@ use Rattle.plan_tree.specs.declared.turns.Fed.{Fed}
 use Rattle.plan_tree.specs.Chains.{Chain, IsComing}
 use Rattle.plan_tree.specs.Feeds.{Goes, fed_next, fed_on, last_of, once, reached_of}
 use Rattle.plan_tree.specs.Nodes.{shape_of}
-use Rattle.plan_tree.specs.Shapes.{BinaryOf, ClampOf, GatherOf, InstantsOf, OnceOf, PointsOf, SelectOf, SeriesOf, Shape, UnaryOf}
+use Rattle.plan_tree.specs.Shapes.{BinaryOf, ClampOf, GatherOf, InstantsOf, OnceOf, PointsOf, SelectOf, SeriesOf, Shape, UnaryOf, WindowsOf}
 use Rattle.plan_tree.specs.Spending.{Cost, FeedSpends, FillSpends, HasRead, IsAlong, IsSum, IsUpTo, LeafMayRead, MayRead, RisesFrom, Spends, both, leaf_read}
 use Rattle.plan_tree.proofs.Chained.{chain_more, end_more}
 use Rattle.plan_tree.proofs.Going.{once_end, reach_end}
@@ -73,6 +73,7 @@ may_later store a b (PointsOf f walk moment range step inner scalar) n h (own, a
     (own, along, sum_weaker (MayRead store a scalar) (MayRead store own inner) (MayRead store b scalar) (MayRead store own inner) n (λ k. may_later store a b scalar k h) (λ k m. m) sum)
 may_later store a b (OnceOf first child) n h m = may_later store (once first a) (once first b) child n (once_up first a b h) m
 may_later store a b (GatherOf place) n h m = m
+may_later store a b (WindowsOf place f moment range rules scalar) n h m = may_later store a b scalar n h m
 
 -- ---- what was read may have been read
 
@@ -95,6 +96,7 @@ read_may store fed (node.Points' kernel inner_fed p inner q scalar) n h =
     (inner_fed, h.0, sum_weaker (HasRead store fed scalar) (HasRead store inner_fed inner) (MayRead store fed (shape_of scalar)) (MayRead store inner_fed (shape_of inner)) n (λ k. read_may store fed scalar k) (λ k. read_may store inner_fed inner k) h.1)
 read_may store fed (node.Once' first steps p child) n h = read_may store (once first fed) child n h
 read_may store fed (node.Gather place) n h = h
+read_may store fed (node.Windows' kernel place passed p scalar) n h = read_may store fed scalar n h
 
 -- ---- counters
 

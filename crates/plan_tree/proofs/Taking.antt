@@ -1,6 +1,6 @@
--- A step more is taken of a gather.
+-- An instant more is taken of a gather.
 use Rattle.std.proofs.Common.{◌≡◌, ◌∙◌, ℕ, ◌+◌, ◌<◌, ◌⊎◌, ⊎_elim, inl, inr, Bool, true, List, [], ◌∷◌, length, slice_get, slice_set, refl, sym, ap, subst, arith, Some, None}
-use Rattle.std.specs.Prelude.{ℤ, ◌<ℤ◌, ◌&&◌, ◌==◌, Ok, Err, Option, Result, OnOk, IfSome, IsTrue, if◌then◌else◌}
+use Rattle.std.specs.Prelude.{ℤ, ◌<ℤ◌, ◌&&◌, ◌==◌, Ok, Err, Option, Result, OnOk, IfSome, if◌then◌else◌}
 use Rattle.std.specs.Bool.{Decides}
 use Rattle.std.specs.Ordering.{int_eq}
 use Rattle.std.proofs.lemmas.Bool.{cases_eq}
@@ -11,45 +11,43 @@ use Rattle.exchange.specs.Calls.{Each, Grows}
 use Rattle.exchange.specs.Standing.{AllStand, AllTell, GivesSteps, LendsAt, MayAdvance, PlaceStands, Progress, gone_on}
 use Rattle.exchange.specs.declared.place.Place.{Place}
 use Rattle.op_gather.specs.Histories.{steps_at}
+use Rattle.op_gather.specs.Joined.{AreInside, LendsJoined}
 use Rattle.op_labels.specs.Rules.{Kept}
 use Rattle.remote_api.specs.Seen.{EngineSeen}
-use Rattle.step_batch.specs.Lent.{stages}
 use Rattle.step_table.specs.Laws.{SettledIsWellFormed, TakenHasSets, UnionIsSet}
-use Rattle.step_table.specs.Timed.{StepAt}
 use Rattle.step_table.specs.declared.cells.PartKind.{PartKind}
+use Rattle.step_table.specs.declared.cells.PartKind.TheVariants as part
 use Rattle.step_table.specs.declared.cells.StepCells.{StepCells}
-use Rattle.step_table.specs.declared.step.Step.{Step}
-use Rattle.step_table.specs.WellFormed.{AreSets}
 use Rattle.ticks.specs.Listed.{AreRising}
 use Rattle.ticks.specs.declared.moment.Ms.{Ms}
-use Rattle.plan_tree.specs.Gathering.{CanTake, HasTaken, Instants, IsOut, IsTold, WasTaken, gives_steps, joined_step}
-use Rattle.plan_tree.specs.Worlds.{Gathers, IsGrown, Taken}
-use Rattle.plan_tree.proofs.Joins.{joined_are_sets, joined_lent}
+use Rattle.plan_tree.specs.Gathering.{CanTake, HasTaken, Instants, IsOut, IsTold, LendsGiven, WasTaken, joined_of}
+use Rattle.plan_tree.specs.Worlds.{Gathered, Gathers, HasSets, IsGrown, Taken}
+use Rattle.plan_tree.proofs.Joins.{joined_are_sets, joined_same, lends_given, windows_there}
 use Rattle.plan_tree.proofs.Numbers.{get_set_other, get_set_same, get_within, pick_cases, pick_here, pick_not, rises_at, same_at, some_same, within_get}
 use Rattle.plan_tree.proofs.Runs.{tell_on}
 
--- ---- one step more
+-- ---- one instant more
 
 abbrev is_this : ℕ → ℤ → ℕ → ℤ → Bool
 is_this k t j u = (j == k) && int_eq u t
 
--- the step of a gather at an instant, beside what was taken
-abbrev pub with_step : Taken → ℕ → ℤ → Step → Taken
-with_step taken k t step j u = if is_this k t j u then Some step else taken j u
+-- what a gather gives at an instant, beside what was taken
+abbrev pub with_given : Taken → ℕ → ℤ → Gathered → Taken
+with_given taken k t given j u = if is_this k t j u then Some given else taken j u
 
 this : (k : ℕ) (t : ℤ) (j : ℕ) (u : ℤ) → Decides (is_this k t j u) ((j ≡ k) × (u ≡ t))
 this k t j u = Decides-and (j == k) (int_eq u t) (Decides-eqb j k) (Decides-int_eq u t)
 
-module _ (taken : Taken) (k : ℕ) (t : ℤ) (step : Step) where
-  step_here : with_step taken k t step k t ≡ Some step
-  step_here = pick_here (is_this k t k t) (Some step) (taken k t) (this k t k t) (refl, refl)
+module _ (taken : Taken) (k : ℕ) (t : ℤ) (given : Gathered) where
+  given_here : with_given taken k t given k t ≡ Some given
+  given_here = pick_here (is_this k t k t) (Some given) (taken k t) (this k t k t) (refl, refl)
 
-  step_cases : (j : ℕ) (u : ℤ) (other : Step) → with_step taken k t step j u ≡ Some other → (((j ≡ k) × (u ≡ t)) × (step ≡ other)) ⊎ (taken j u ≡ Some other)
-  step_cases j u other e = pick_cases (is_this k t j u) step other (taken j u) (this k t j u) e
+  given_cases : (j : ℕ) (u : ℤ) (other : Gathered) → with_given taken k t given j u ≡ Some other → (((j ≡ k) × (u ≡ t)) × (given ≡ other)) ⊎ (taken j u ≡ Some other)
+  given_cases j u other e = pick_cases (is_this k t j u) given other (taken j u) (this k t j u) e
 
-  step_grown : ((other : Step) → taken k t ≡ Some other → ⊥) → IsGrown taken (with_step taken k t step)
-  step_grown fresh j u other e =
-      pick_not (is_this k t j u) (Some step) (taken j u) (this k t j u) (λ (a, b). fresh other ((λ i. taken (sym a i) (sym b i)) ∙ e)) ∙ e
+  given_grown : ((other : Gathered) → taken k t ≡ Some other → ⊥) → IsGrown taken (with_given taken k t given)
+  given_grown fresh j u other e =
+      pick_not (is_this k t j u) (Some given) (taken j u) (this k t j u) (λ (a, b). fresh other ((λ i. taken (sym a i) (sym b i)) ∙ e)) ∙ e
 
 -- what stands at a place of a list in which one item was written
 set_cases : {X : Type 0} (xs : List X) (i j : ℕ) (w x : X) → i < length xs → slice_get (slice_set xs i w) j ≡ Some x → ((j ≡ i) × (w ≡ x)) ⊎ (slice_get xs j ≡ Some x)
@@ -75,8 +73,8 @@ module _ (kept : Kept) (es : List EngineSeen) (places : List Place) (k : ℕ) (t
 -- ---- afterwards
 
 -- nothing was taken yet at an instant that is to come
-is_fresh : (ps : List Progress) (k : ℕ) (p : Progress) (t : Ms) (step : Step) → slice_get ps k ≡ Some p → AreRising p.all → slice_get p.all p.taken ≡ Some t → WasTaken ps k t.0 step → ⊥
-is_fresh ps k p t step at rising due w =
+is_fresh : (ps : List Progress) (k : ℕ) (p : Progress) (t : Ms) (given : Gathered) → slice_get ps k ≡ Some p → AreRising p.all → slice_get p.all p.taken ≡ Some t → WasTaken ps k t.0 given → ⊥
+is_fresh ps k p t given at rising due w =
     let same : w.p ≡ p = same_at ps k w.p p w.p_at at in
     let there : slice_get p.all w.among.n ≡ Some (record { 0 = t.0 }) = ap (λ (q : Progress). slice_get q.all w.among.n) (sym same) ∙ w.among.there in
     let early : w.among.n < p.taken = subst (λ (q : Progress). w.among.n < q.taken) same w.among.early in
@@ -96,8 +94,8 @@ module _ (ps : List Progress) (k : ℕ) (p : Progress) (at : slice_get ps k ≡ 
       (λ was. along j q was)
       (set_cases ps k j (gone_on p) q within q_at)
 
-  was_later : (j : ℕ) (u : ℤ) (step : Step) → WasTaken ps j u step → WasTaken (slice_set ps k (gone_on p)) j u step
-  was_later j u step w = ⊎_elim
+  was_later : (j : ℕ) (u : ℤ) (given : Gathered) → WasTaken ps j u given → WasTaken (slice_set ps k (gone_on p)) j u given
+  was_later j u given w = ⊎_elim
       (λ e.
       let same : w.p ≡ p = same_at ps k w.p p (ap (slice_get ps) (sym e) ∙ w.p_at) at in
       record {
@@ -113,45 +111,35 @@ module _ (ps : List Progress) (k : ℕ) (p : Progress) (at : slice_get ps k ≡ 
       (λ n. record { p = w.p; p_at = get_set_other ps k j (gone_on p) n ∙ w.p_at; among = w.among; sets = w.sets })
       (cases_eq j k)
 
-  module _ (t : Ms) (due : slice_get p.all p.taken ≡ Some t) (step : Step) (sets : AreSets step.marks) (taken : Taken) where
-    taken_here : WasTaken (slice_set ps k (gone_on p)) k t.0 step
+  module _ (t : Ms) (due : slice_get p.all p.taken ≡ Some t) (given : Gathered) (sets : HasSets given) (taken : Taken) where
+    taken_here : WasTaken (slice_set ps k (gone_on p)) k t.0 given
     taken_here = record { p = gone_on p; p_at = gone_at; among = record { n = p.taken; early = omega arith; there = due }; sets = sets }
 
-    were_taken : ((j : ℕ) (u : ℤ) (other : Step) → taken j u ≡ Some other → WasTaken ps j u other) → (j : ℕ) (u : ℤ) (other : Step) → with_step taken k t.0 step j u ≡ Some other → WasTaken (slice_set ps k (gone_on p)) j u other
+    were_taken : ((j : ℕ) (u : ℤ) (other : Gathered) → taken j u ≡ Some other → WasTaken ps j u other) → (j : ℕ) (u : ℤ) (other : Gathered) → with_given taken k t.0 given j u ≡ Some other → WasTaken (slice_set ps k (gone_on p)) j u other
     were_taken were j u other e = ⊎_elim
         (λ ((a, b), same). let here = taken_here in subst (λ n. WasTaken (slice_set ps k (gone_on p)) n u other) (sym a) (subst (λ v. WasTaken (slice_set ps k (gone_on p)) k v other) (sym b) (subst (λ s. WasTaken (slice_set ps k (gone_on p)) k t.0 s) same here)))
         (λ was. was_later j u other (were j u other was))
-        (step_cases taken k t.0 step j u other e)
+        (given_cases taken k t.0 given j u other e)
 
-    told_more : (es fs : List EngineSeen) → length fs ≡ length es → Each Grows es fs → IsTrue (gives_steps p.kind) → (gathers : Gathers) → IsTold es ps taken gathers → step ≡ joined_step p.kind (steps_at p.taken p.owed)
-        → IsTold fs (slice_set ps k (gone_on p)) (with_step taken k t.0 step) gathers
-    told_more es fs len grown kind gathers m is = record {
+    told_more : (es fs : List EngineSeen) → length fs ≡ length es → Each Grows es fs → (gathers : Gathers) → IsTold es ps taken gathers → given ≡ joined_of p.kind t (steps_at p.taken p.owed)
+        → IsTold fs (slice_set ps k (gone_on p)) (with_given taken k t.0 given) gathers
+    told_more es fs len grown gathers m is = record {
       sets = m.sets;
       tell = λ j i q f q_at f_at. tell_on es fs len grown (λ i e e_at. m.tell k i p e at e_at) i f f_at;
-      give = λ j n q u q_at u_at steps. ⊎_elim
-          (λ (e, same). subst (λ (z : Progress). gathers j u.0 ≡ joined_step z.kind (steps_at n z.owed)) same
-          (ap (λ i. gathers i u.0) e ∙ m.give k n p u at (ap (λ (z : Progress). slice_get z.all n) same ∙ u_at) (subst (λ (z : Progress). IsTrue (gives_steps z.kind)) (sym same) steps)))
-          (λ was. m.give j n q u was u_at steps)
+      give = λ j n q u q_at u_at. ⊎_elim
+          (λ (e, same). subst (λ (z : Progress). gathers j u.0 ≡ joined_of z.kind u (steps_at n z.owed)) same
+          (ap (λ i. gathers i u.0) e ∙ m.give k n p u at (ap (λ (z : Progress). slice_get z.all n) same ∙ u_at)))
+          (λ was. m.give j n q u was u_at)
           (set_cases ps k j (gone_on p) q within q_at);
       gave = λ j u other e. ⊎_elim
-          (λ ((a, b), same). (λ i. gathers (a i) (b i)) ∙ m.give k p.taken p t at due kind ∙ sym is ∙ same)
+          (λ ((a, b), same). (λ i. gathers (a i) (b i)) ∙ m.give k p.taken p t at due ∙ sym is ∙ same)
           (λ was. m.gave j u other was)
-          (step_cases taken k t.0 step j u other e);
+          (given_cases taken k t.0 given j u other e);
     }
 
 on_known : (known : Option Gathers) (P Q : Gathers → Type 0) → ((g : Gathers) → P g → Q g) → IfSome known P → IfSome known Q
 on_known None P Q f h = tt
 on_known (Some g) P Q f h = f g h
-
-head_same : (a b : StepAt) (xs ys : List StepAt) → a ∷ xs ≡ b ∷ ys → a ≡ b
-head_same a b xs ys e = cc
-
-one_step : (t : Ms) (a b : Step) (x y : List StepAt) → x ≡ record { at = t; step = a } ∷ [] → y ≡ record { at = t; step = b } ∷ [] → x ≡ y → a ≡ b
-one_step t a b x y e f s =
-    let one : StepAt = record { at = t; step = a } in
-    let two : StepAt = record { at = t; step = b } in
-    let h : one ∷ [] ≡ two ∷ [] = sym e ∙ s ∙ f in
-    ap (λ (z : StepAt). z.step) (head_same one two [] [] h)
 
 module _ (union : UnionIsSet) (settle : SettledIsWellFormed) (take_sets : TakenHasSets) (kept : Kept) (es fs : List EngineSeen) (places now : List Place) (k : ℕ) (len : length fs ≡ length es) (grown : Each Grows es fs) where
   -- what an advance tells that was made
@@ -161,9 +149,11 @@ module _ (union : UnionIsSet) (settle : SettledIsWellFormed) (take_sets : TakenH
         → (steps : List StepCells) × GivesSteps es place.asks p steps × LendsAt now k p.kind t steps
     told : (ps : List Progress) (p : Progress) (place : Place) (t : Ms) → AllStand kept es places ps → slice_get ps k ≡ Some p → slice_get places k ≡ Some place → slice_get p.all p.taken ≡ Some t → AllTell place.asks es
         → LendsAt now k p.kind t (steps_at p.taken p.owed)
+    inside : (one : Place) → slice_get now k ≡ Some one → one.gather.ask.kind ≡ part.Windows → AreInside one.gather.ask one.gather.windows
+    same_ask : (j : ℕ) (place one : Place) → slice_get places j ≡ Some place → slice_get now j ≡ Some one → one.gather.ask ≡ place.gather.ask
 
   module _ (a : Advanced) (t : Ms) (c : CanTake kept es places k t) where
-    has_taken : HasTaken c.taken c.all c.known kept fs now k t
+    has_taken : HasTaken c.place c.taken c.all c.known kept fs now k t
     has_taken =
         let ps = c.out.ps in
         let found = has_progress kept es places k t c in
@@ -171,38 +161,44 @@ module _ (union : UnionIsSet) (settle : SettledIsWellFormed) (take_sets : TakenH
         let at : slice_get ps k ≡ Some p = found.1 in
         let due : slice_get p.all p.taken ≡ Some t = is_due kept es places k t c p at in
         let old = c.out.stand.stand k c.place p c.here at in
-        let kind : IsTrue (gives_steps p.kind) = subst (λ q. IsTrue (gives_steps q)) old.kind c.kind in
         let after = a.stand ps p c.out.stand at in
-        let given = a.lent ps p c.place t c.out.stand at c.here due in
-        let step = joined_step p.kind given.0 in
-        let lends = given.2 in
-        let new = after.stand k lends.place (gone_on p) lends.place_at (gone_at ps k p at) in
-        let is : stages lends.place.gather.lent ≡ record { at = t; step = step } ∷ [] = joined_lent p.kind t given.0 lends.place.gather.lent lends.place.gather.windows kind lends.joined in
-        let sets = joined_are_sets union settle take_sets p.kind given.0 in
+        let lends = a.lent ps p c.place t c.out.stand at c.here due in
+        let given = joined_of p.kind t lends.0 in
+        let one = lends.2.place in
+        let new = after.stand k one (gone_on p) lends.2.place_at (gone_at ps k p at) in
+        let is : LendsGiven p.kind t given one.gather.lent one.gather.windows = lends_given t one.gather.lent one.gather.windows p.kind lends.0 lends.2.joined in
+        let sets = joined_are_sets union settle take_sets p.kind t lends.0 in
         record {
-          now = with_step c.taken k t.0 step;
-          grown = step_grown c.taken k t.0 step (λ other e. is_fresh ps k p t other at old.stands.listed.rising due (c.out.were k t.0 other e));
+          now = with_given c.taken k t.0 given;
+          grown = given_grown c.taken k t.0 given (λ other e. is_fresh ps k p t other at old.stands.listed.rising due (c.out.were k t.0 other e));
           out = record {
             ps = slice_set ps k (gone_on p);
             stand = after;
             along = gone_along ps k p at c.all c.out.along;
-            were = were_taken ps k p at t due step sets c.taken c.out.were;
-            told = on_known c.known (IsTold es ps c.taken) (IsTold fs (slice_set ps k (gone_on p)) (with_step c.taken k t.0 step))
+            were = were_taken ps k p at t due given sets c.taken c.out.were;
+            told = on_known c.known (IsTold es ps c.taken) (IsTold fs (slice_set ps k (gone_on p)) (with_given c.taken k t.0 given))
                 (λ g m.
-                let told = a.told ps p c.place t c.out.stand at c.here due (λ n one e one_at e_at. m.tell k one.engine p e at e_at) in
-                let same : told.place ≡ lends.place = same_at now k told.place lends.place told.place_at lends.place_at in
-                let owed = joined_lent p.kind t (steps_at p.taken p.owed) told.place.gather.lent told.place.gather.windows kind told.joined in
-                told_more ps k p at t due step sets c.taken es fs len grown kind g m
-                (one_step t step (joined_step p.kind (steps_at p.taken p.owed)) (stages lends.place.gather.lent) (stages told.place.gather.lent) is owed (ap (λ (z : Place). stages z.gather.lent) (sym same))))
+                let told = a.told ps p c.place t c.out.stand at c.here due (λ n b e b_at e_at. m.tell k b.engine p e at e_at) in
+                let same : told.place ≡ one = same_at now k told.place one told.place_at lends.2.place_at in
+                let owed : LendsJoined p.kind t (steps_at p.taken p.owed) one.gather.lent one.gather.windows =
+                    subst (λ (z : Place). LendsJoined p.kind t (steps_at p.taken p.owed) z.gather.lent z.gather.windows) same told.joined in
+                told_more ps k p at t due given sets c.taken es fs len grown g m
+                (joined_same t one.gather.lent one.gather.windows p.kind lends.0 (steps_at p.taken p.owed) lends.2.joined owed))
                 c.out.told;
           };
-          place = lends.place;
-          here = lends.place_at;
-          kind = subst (λ q. IsTrue (gives_steps q)) (sym new.kind) kind;
+          place = one;
+          here = lends.2.place_at;
+          asks = a.same_ask k c.place one c.here lends.2.place_at;
           n = p.taken;
           at = ap (λ ts. slice_get ts p.taken) (sym (c.out.along k p at)) ∙ due;
           next = new.stands.next ∙ ap (λ ts. slice_get ts (p.taken + 1)) (c.out.along k p at);
-          lent = λ g possible. is ∙ ap (λ (z : Step). record { at = t; step = z } ∷ []) (sym (possible.gave k t.0 step (step_here c.taken k t.0 step)));
+          lent = λ g possible.
+              (let gave : given ≡ g k t.0 = sym (possible.gave k t.0 given (given_here c.taken k t.0 given)) in
+              subst (λ (q : PartKind). LendsGiven q t (g k t.0) one.gather.lent one.gather.windows) (sym new.kind) (subst (λ (z : Gathered). LendsGiven p.kind t z one.gather.lent one.gather.windows) gave is));
+          windows = λ kind. record {
+            at = windows_there t one.gather.lent one.gather.windows p.kind lends.0 (sym new.kind ∙ kind) lends.2.joined;
+            inside = a.inside one lends.2.place_at kind;
+          };
         }
 
 -- the same of an answer
@@ -212,6 +208,9 @@ pub taken_on : {T E : Type 0} (union : UnionIsSet) (settle : SettledIsWellFormed
     → OnOk r ((steps : List StepCells) × GivesSteps es place.asks p steps × LendsAt now k p.kind t steps))
     → ((ps : List Progress) (p : Progress) (place : Place) (t : Ms) → AllStand kept es places ps → slice_get ps k ≡ Some p → slice_get places k ≡ Some place → slice_get p.all p.taken ≡ Some t → AllTell place.asks es
     → OnOk r (LendsAt now k p.kind t (steps_at p.taken p.owed)))
-    → OnOk r ((t : Ms) (c : CanTake kept es places k t) → HasTaken c.taken c.all c.known kept fs now k t)
-taken_on union settle take_sets kept es fs places now k len grown (Ok x) stand lent told = λ t c. has_taken union settle take_sets kept es fs places now k len grown (record { stand = stand; lent = lent; told = told }) t c
-taken_on union settle take_sets kept es fs places now k len grown (Err x) stand lent told = tt
+    → ((one : Place) → slice_get now k ≡ Some one → one.gather.ask.kind ≡ part.Windows → OnOk r (AreInside one.gather.ask one.gather.windows))
+    → ((j : ℕ) (place one : Place) → slice_get places j ≡ Some place → slice_get now j ≡ Some one → one.gather.ask ≡ place.gather.ask)
+    → OnOk r ((t : Ms) (c : CanTake kept es places k t) → HasTaken c.place c.taken c.all c.known kept fs now k t)
+taken_on union settle take_sets kept es fs places now k len grown (Ok x) stand lent told inside same_ask =
+    λ t c. has_taken union settle take_sets kept es fs places now k len grown (record { stand = stand; lent = lent; told = told; inside = inside; same_ask = same_ask }) t c
+taken_on union settle take_sets kept es fs places now k len grown (Err x) stand lent told inside same_ask = tt

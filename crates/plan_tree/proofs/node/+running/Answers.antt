@@ -1,9 +1,10 @@
-use Rattle.std.proofs.Common.{◌≡◌, ◌∙◌, ℕ, List, [], ◌∷◌, ◌++◌, ◌+◌, get_or, Option, Some, refl, sym, ap, subst, arith}
+use Rattle.std.proofs.Common.{◌≡◌, ◌∙◌, ℕ, List, [], ◌∷◌, ◌++◌, ◌+◌, ◌<◌, get_or, length, Option, Some, refl, sym, ap, subst, arith}
 use Rattle.std.specs.Prelude.{ℤ, pos, ◌||◌}
 use Rattle.std.specs.List.{AllByRecursion}
 use Rattle.op_labels.specs.Rules.{Kept}
 use Rattle.op_window.specs.Rules.{takes_scalar as reads_scalar, windows_of_series}
 use Rattle.promql_meaning.specs.Selecting.{lookback}
+use Rattle.remote_api.specs.declared.asks.Ask.{Ask}
 use Rattle.step_batch.specs.Lent.{Lent, stages}
 use Rattle.step_kernels.specs.Unaries.{CanFeedUnary, unary_rule, unary_step}
 use Rattle.step_table.specs.Timed.{steps_over}
@@ -12,30 +13,34 @@ use Rattle.ticks.specs.Listed.{IsListed}
 use Rattle.ticks.specs.Walks.{HasTimes, IsTime, moment_at}
 use Rattle.ticks.specs.declared.moment.Ms.{Ms}
 use Rattle.ticks.specs.declared.walk.Walk.{Walk}
+use Rattle.ticks.specs.declared.walk.WalkMoment.{WalkMoment}
 use Rattle.plan_tree.specs.declared.node.Node.{Node}
 use Rattle.plan_tree.specs.declared.turns.Fed.{Fed}
 use Rattle.plan_tree.specs.Counting.{fetched_by, leaf_picked}
 use Rattle.plan_tree.specs.Feeding.{CanFeed}
 use Rattle.plan_tree.specs.Feeds.{Goes, fed_on, last_of, once, reached_of}
-use Rattle.plan_tree.specs.Gathering.{HaveCome}
-use Rattle.plan_tree.specs.Nodes.{CanGo, IsThere, lent_by, shape_of}
+use Rattle.plan_tree.specs.Gathering.{AsksWindows, CanTake, HasCome, HaveCome}
+use Rattle.plan_tree.specs.Nodes.{AreGiven, CanGo, CanPass, IsThere, lent_by, rules_of, shape_of, windows_at}
 use Rattle.plan_tree.specs.Shapes.{GatherOf, IsAskedOn, Shape, StaysInTimes, is_single, places_of, rule}
 use Rattle.plan_tree.specs.Spending.{HasRead, IsAlong, IsSum, LeafMayRead, MayRead, leaf_read, nothing}
 use Rattle.plan_tree.specs.Worlds.{world}
 use Rattle.series_marks.specs.Reaches.{reads_of}
+use Rattle.plan_tree.proofs.Advances.{come_next, next_takes, takes_as}
 use Rattle.plan_tree.proofs.Counted.{counted_as, counted_self, counts_more, once_begun, once_counts, once_same, part_counts, select_counts, series_counts, two_counts}
 use Rattle.plan_tree.proofs.Filling.{Fills, feed_kept, fill_feeds, fill_given, fill_has, fill_step, filled_behind, fills_more, fills_none, gather_made, gather_takes, labels_stay, once_repeats, points_fill, repeat_given, repeat_has, repeat_made, repeat_may, repeat_stays}
 use Rattle.plan_tree.proofs.Going.{at_some, goes_rise, once_end}
 use Rattle.plan_tree.proofs.Heights.{height}
-use Rattle.plan_tree.proofs.Kept.{Agree, Stay, agree_left, agree_right, agree_then, can_kept, come_kept, come_there, first_agrees, second_agrees, stay_both, stay_left}
+use Rattle.plan_tree.proofs.Joins.{windows_given}
+use Rattle.plan_tree.proofs.Kept.{Agree, Stay, agree_left, agree_right, agree_then, can_kept, come_kept, come_there, first_agrees, others_agree, second_agrees, stay_both, stay_left, stay_next, stay_rest}
 use Rattle.plan_tree.proofs.Leaves.{instants_are, on_ok, select_follows, select_on, series_fed, series_on}
-use Rattle.plan_tree.proofs.Numbers.{among_one, distinct_left, distinct_right}
+use Rattle.plan_tree.proofs.Numbers.{among_one, distinct_left, distinct_right, get_within}
 use Rattle.plan_tree.proofs.Parts.{all_weaker, as_tree, come_made, fed_as, fed_given, kept_steps, next_fed, or_left, or_right, part_fed, part_has, read_lending, read_scalar, read_steps, read_there, stay_as, stay_more, stay_self}
 use Rattle.plan_tree.proofs.Possible.{completed, completed_are, grown_none, grown_then, possible_before}
 use Rattle.plan_tree.proofs.Repeats.{repeated_end}
 use Rattle.plan_tree.proofs.Rings.{last_end, last_next, one_at, points_over}
 use Rattle.plan_tree.proofs.Runs.{done, done_none, kernel_runs, memory_behind, on_both, on_five, own_behind, ran, run_done, run_fault, run_ok_as, run_then}
 use Rattle.plan_tree.proofs.Spent.{Filled, failed_as, fed_once, fill_fails, fill_made, fill_waits, filled_end, filled_fails, filled_more, filled_none, leaf_spends, leaf_unread, made_as, once_fails, once_feeds, once_made, once_stays, part_fails, part_made, part_spends, stays_made, sum_fails, sum_made, three_fail, three_made, two_fail, two_made, unread, up_to_on}
+use Rattle.plan_tree.proofs.Windowed.{are_given, there_at, windows_are, windows_over}
 use Rattle.plan_tree.proofs.node.+running.Goals as goal
 
 pub Node::feed-feed-requires : goal.Node::feed-feed-requires
@@ -1315,6 +1320,259 @@ pub Node::feed-returns-in-Gather-clause-shape : goal.Node::feed-returns-in-Gathe
 Node::feed-returns-in-Gather-clause-shape g t c =
     ap GatherOf c.feed_gather.ensures.leaf ∙ ap shape_of (sym c.in-Gather.is)
 
+pub Node::feed-feed-requires-in-Windows : goal.Node::feed-feed-requires-in-Windows
+Node::feed-feed-requires-in-Windows g t c κs within =
+    let S = c.args.store.now in
+    let K = c.args.patterns.now in
+    let at = c.args.at.now in
+    let fed = c.args.fed in
+    let P = (g.O.Outside.places c.args.outside.now) in
+    let own = as_tree S K _ P fed at c.args.self.now _ c.in-Windows.is c.requires in
+    let scalar = c.in-Windows.scalar.value in
+    let f0 = part_fed S K _ P fed at _ scalar own (λ f. f.1) (λ w h. h.1) (λ all ts h. h.1) (λ t s. s.2) (λ h. refl) (λ d. d.1) in
+    let whole = ap (λ (n : Node). height (shape_of n)) c.in-Windows.is in
+    let part = ap (λ (n : Node). height (shape_of n)) c.deref_mut-in-Windows.ensures.value in
+    (omega (arith, c.decreases, whole, part), (within.0, (within.1, fed_given S K _ P fed at K scalar c.deref_mut-in-Windows.result.now c.deref_mut-in-Windows.ensures.value (refl) f0)))
+
+
+pub Node::feed-returns-in_err-feed-in-Windows-clause-others : goal.Node::feed-returns-in_err-feed-in-Windows-clause-others
+Node::feed-returns-in_err-feed-in-Windows-clause-others g t c =
+    let P = (g.O.Outside.places c.args.outside.now) in
+    let scalar = c.in-Windows.scalar.value in
+    let s0 = stay_as P (g.O.Outside.places c.feed-in-Windows.new.outside) scalar c.deref_mut-in-Windows.result.now c.deref_mut-in-Windows.ensures.value c.feed-in-Windows.ensures.others in
+    stay_self P (g.O.Outside.places c.feed-in-Windows.new.outside) c.args.self.now _ c.in-Windows.is (stay_rest (places_of (shape_of scalar)) c.in-Windows.place P (g.O.Outside.places c.feed-in-Windows.new.outside) s0)
+
+
+pub Node::feed-returns-in_err-feed-in-Windows-clause-run : goal.Node::feed-returns-in_err-feed-in-Windows-clause-run
+Node::feed-returns-in_err-feed-in-Windows-clause-run g t c =
+    run_fault _ c.from_residual-in_err-feed-in-Windows.result _ _ c.from_residual-in_err-feed-in-Windows.ensures.1 c.in_err-feed-in-Windows.ensures.run
+
+
+pub Node::feed-feed_gather-requires-in-Windows : goal.Node::feed-feed_gather-requires-in-Windows
+Node::feed-feed_gather-requires-in-Windows g t c =
+    let S = c.args.store.now in
+    let K = c.args.patterns.now in
+    let at = c.args.at.now in
+    let fed = c.args.fed in
+    let P = (g.O.Outside.places c.args.outside.now) in
+    let own = as_tree S K _ P fed at c.args.self.now _ c.in-Windows.is c.requires in
+    let scalar = c.in-Windows.scalar.value in
+    let f0 = part_fed S K _ P fed at _ scalar own (λ f. f.1) (λ w h. h.1) (λ all ts h. h.1) (λ t s. s.2) (λ h. refl) (λ d. d.1) in
+    let h0 = part_has S K K _ _ P (g.O.Outside.places c.feed-in-Windows.new.outside) fed at scalar c.deref_mut-in-Windows.result.now c.feed-in-Windows.new.self c.deref_mut-in-Windows.ensures.value refl c.in_ok-feed-in-Windows.ensures.fed c.feed-in-Windows.ensures.shape c.feed-in-Windows.ensures.others in
+    let m0 = h0.has f0 in
+    let kernel = c.in-Windows.kernel in
+    let k = c.in-Windows.place in
+    let u : Ms = get_or at 0 (record { 0 = pos 0 }) in
+    let one : at ≡ u ∷ [] = one_at at (record { 0 = pos 0 }) (own.single refl) in
+    let ct = next_takes (AsksWindows kernel.moment kernel.range) K _ P (g.O.Outside.places c.feed-in-Windows.new.outside) k own.goes_on.all own.goes_on.known m0.taken own.times fed at u one own.goes_on.come.0 (h0.stay k own.goes_on.apart.0) m0.out own.due in
+    (u, subst (λ (x : Kept). CanTake x _ (g.O.Outside.places c.feed-in-Windows.new.outside) k u) (sym c.feed-in-Windows.ensures.same) ct)
+
+
+pub Node::feed-returns-in_err-feed_gather-in-Windows-clause-others : goal.Node::feed-returns-in_err-feed_gather-in-Windows-clause-others
+Node::feed-returns-in_err-feed_gather-in-Windows-clause-others g t c =
+    let P = (g.O.Outside.places c.args.outside.now) in
+    let scalar = c.in-Windows.scalar.value in
+    let s0 = stay_as P (g.O.Outside.places c.feed-in-Windows.new.outside) scalar c.deref_mut-in-Windows.result.now c.deref_mut-in-Windows.ensures.value c.feed-in-Windows.ensures.others in
+    stay_self P (g.O.Outside.places c.feed_gather-in-Windows.new.outside) c.args.self.now _ c.in-Windows.is (stay_next (places_of (shape_of scalar)) c.in-Windows.place P (g.O.Outside.places c.feed-in-Windows.new.outside) (g.O.Outside.places c.feed_gather-in-Windows.new.outside) s0 c.feed_gather-in-Windows.ensures.others)
+
+
+pub Node::feed-returns-in_ok-feed_gather-in-Windows-clause-others : goal.Node::feed-returns-in_ok-feed_gather-in-Windows-clause-others
+Node::feed-returns-in_ok-feed_gather-in-Windows-clause-others g t c =
+    let P = (g.O.Outside.places c.args.outside.now) in
+    let scalar = c.in-Windows.scalar.value in
+    let s0 = stay_as P (g.O.Outside.places c.feed-in-Windows.new.outside) scalar c.deref_mut-in-Windows.result.now c.deref_mut-in-Windows.ensures.value c.feed-in-Windows.ensures.others in
+    stay_self P (g.O.Outside.places c.feed_gather-in-Windows.new.outside) c.args.self.now _ c.in-Windows.is (stay_next (places_of (shape_of scalar)) c.in-Windows.place P (g.O.Outside.places c.feed-in-Windows.new.outside) (g.O.Outside.places c.feed_gather-in-Windows.new.outside) s0 c.feed_gather-in-Windows.ensures.others)
+
+
+pub Node::feed-returns-in_err-feed_gather-in-Windows-clause-run : goal.Node::feed-returns-in_err-feed_gather-in-Windows-clause-run
+Node::feed-returns-in_err-feed_gather-in-Windows-clause-run g t c =
+    run_then _ _ _ _ _ c.in_ok-feed-in-Windows.ensures.run (run_fault _ c.from_residual-in_err-feed_gather-in-Windows.result _ _ c.from_residual-in_err-feed_gather-in-Windows.ensures.1 c.in_err-feed_gather-in-Windows.ensures.run)
+
+
+pub Node::feed-returns-in_ok-feed_gather-in-Windows-clause-run : goal.Node::feed-returns-in_ok-feed_gather-in-Windows-clause-run
+Node::feed-returns-in_ok-feed_gather-in-Windows-clause-run g t c =
+    own_behind _ c.windows_fed.result _ _ c.windows_fed.ensures.memory (run_then _ _ _ _ _ c.in_ok-feed-in-Windows.ensures.run c.in_ok-feed_gather-in-Windows.ensures.run)
+
+
+pub Node::feed-windows_fed-requires-clause-there : goal.Node::feed-windows_fed-requires-clause-there
+Node::feed-windows_fed-requires-clause-there g t c =
+    let S = c.args.store.now in
+    let K = c.args.patterns.now in
+    let at = c.args.at.now in
+    let fed = c.args.fed in
+    let P = (g.O.Outside.places c.args.outside.now) in
+    let own = as_tree S K _ P fed at c.args.self.now _ c.in-Windows.is c.requires in
+    let scalar = c.in-Windows.scalar.value in
+    let f0 = part_fed S K _ P fed at _ scalar own (λ f. f.1) (λ w h. h.1) (λ all ts h. h.1) (λ t s. s.2) (λ h. refl) (λ d. d.1) in
+    let h0 = part_has S K K _ _ P (g.O.Outside.places c.feed-in-Windows.new.outside) fed at scalar c.deref_mut-in-Windows.result.now c.feed-in-Windows.new.self c.deref_mut-in-Windows.ensures.value refl c.in_ok-feed-in-Windows.ensures.fed c.feed-in-Windows.ensures.shape c.feed-in-Windows.ensures.others in
+    let m0 = h0.has f0 in
+    let kernel = c.in-Windows.kernel in
+    let k = c.in-Windows.place in
+    let u : Ms = get_or at 0 (record { 0 = pos 0 }) in
+    let one : at ≡ u ∷ [] = one_at at (record { 0 = pos 0 }) (own.single refl) in
+    let ct = next_takes (AsksWindows kernel.moment kernel.range) K _ P (g.O.Outside.places c.feed-in-Windows.new.outside) k own.goes_on.all own.goes_on.known m0.taken own.times fed at u one own.goes_on.come.0 (h0.stay k own.goes_on.apart.0) m0.out own.due in
+    let a0 : Agree (places_of (shape_of c.feed-in-Windows.new.self)) (g.O.Outside.places c.feed-in-Windows.new.outside) (g.O.Outside.places c.feed_gather-in-Windows.new.outside) = subst (λ (s : Shape). Agree (places_of s) (g.O.Outside.places c.feed-in-Windows.new.outside) (g.O.Outside.places c.feed_gather-in-Windows.new.outside)) (sym h0.shape) (others_agree (places_of (shape_of scalar)) k (g.O.Outside.places c.feed-in-Windows.new.outside) (g.O.Outside.places c.feed_gather-in-Windows.new.outside) own.goes_on.apart.0 c.feed_gather-in-Windows.ensures.others) in
+    read_there (g.O.Outside.places c.feed_gather-in-Windows.new.outside) c.feed-in-Windows.new.self c.deref-in-Windows.result.now c.deref-in-Windows.ensures
+    (come_there own.goes_on.all (g.O.Outside.places c.feed_gather-in-Windows.new.outside) own.times (fed_on fed at) c.feed-in-Windows.new.self (come_kept own.goes_on.all (g.O.Outside.places c.feed-in-Windows.new.outside) (g.O.Outside.places c.feed_gather-in-Windows.new.outside) own.times (fed_on fed at) c.feed-in-Windows.new.self a0 m0.come))
+
+
+pub Node::feed-windows_fed-requires-clause-place : goal.Node::feed-windows_fed-requires-clause-place
+Node::feed-windows_fed-requires-clause-place g t c =
+    let S = c.args.store.now in
+    let K = c.args.patterns.now in
+    let at = c.args.at.now in
+    let fed = c.args.fed in
+    let P = (g.O.Outside.places c.args.outside.now) in
+    let own = as_tree S K _ P fed at c.args.self.now _ c.in-Windows.is c.requires in
+    let scalar = c.in-Windows.scalar.value in
+    let f0 = part_fed S K _ P fed at _ scalar own (λ f. f.1) (λ w h. h.1) (λ all ts h. h.1) (λ t s. s.2) (λ h. refl) (λ d. d.1) in
+    let h0 = part_has S K K _ _ P (g.O.Outside.places c.feed-in-Windows.new.outside) fed at scalar c.deref_mut-in-Windows.result.now c.feed-in-Windows.new.self c.deref_mut-in-Windows.ensures.value refl c.in_ok-feed-in-Windows.ensures.fed c.feed-in-Windows.ensures.shape c.feed-in-Windows.ensures.others in
+    let m0 = h0.has f0 in
+    let kernel = c.in-Windows.kernel in
+    let k = c.in-Windows.place in
+    let u : Ms = get_or at 0 (record { 0 = pos 0 }) in
+    let one : at ≡ u ∷ [] = one_at at (record { 0 = pos 0 }) (own.single refl) in
+    let ct = next_takes (AsksWindows kernel.moment kernel.range) K _ P (g.O.Outside.places c.feed-in-Windows.new.outside) k own.goes_on.all own.goes_on.known m0.taken own.times fed at u one own.goes_on.come.0 (h0.stay k own.goes_on.apart.0) m0.out own.due in
+    let ht = takes_as K c.feed-in-Windows.new.patterns _ _ (g.O.Outside.places c.feed-in-Windows.new.outside) (g.O.Outside.places c.feed_gather-in-Windows.new.outside) k u c.feed-in-Windows.ensures.same (λ x. c.in_ok-feed_gather-in-Windows.ensures.taken u x) ct in
+    let leaf : c.feed_gather-in-Windows.new.place ≡ k = c.feed_gather-in-Windows.ensures.leaf in
+    let asks = subst (λ (a : Ask). AsksWindows kernel.moment kernel.range a) (sym ht.asks) own.goes_on.come.0.asks in
+    let inside = ht.windows asks.kind in
+    let here : (windows_at (g.O.Outside.places c.feed_gather-in-Windows.new.outside) c.feed_gather-in-Windows.new.place).at ≡ u = ap (λ n. (windows_at (g.O.Outside.places c.feed_gather-in-Windows.new.outside) n).at) leaf ∙ there_at (g.O.Outside.places c.feed_gather-in-Windows.new.outside) k u ht.place ht.here inside in
+    subst (λ n. n < length (g.O.Outside.places c.feed_gather-in-Windows.new.outside)) (sym leaf) (get_within (g.O.Outside.places c.feed_gather-in-Windows.new.outside) k ht.place ht.here)
+
+
+pub Node::feed-windows_fed-requires-clause-pass : goal.Node::feed-windows_fed-requires-clause-pass
+Node::feed-windows_fed-requires-clause-pass g t c =
+    let S = c.args.store.now in
+    let K = c.args.patterns.now in
+    let at = c.args.at.now in
+    let fed = c.args.fed in
+    let P = (g.O.Outside.places c.args.outside.now) in
+    let own = as_tree S K _ P fed at c.args.self.now _ c.in-Windows.is c.requires in
+    let kp = completed_are own.goes_on.all own.goes_on.known own.goes_on.taken K _ P own.goes_on.out in
+    subst (λ (x : Kept). CanPass x c.in-Windows.passed) (sym (c.feed_gather-in-Windows.ensures.same ∙ c.feed-in-Windows.ensures.same)) (own.goes_on.can (completed own.goes_on.taken) kp).0
+
+
+pub Node::feed-windows_fed-requires-clause-given : goal.Node::feed-windows_fed-requires-clause-given
+Node::feed-windows_fed-requires-clause-given g t c =
+    let S = c.args.store.now in
+    let K = c.args.patterns.now in
+    let at = c.args.at.now in
+    let fed = c.args.fed in
+    let P = (g.O.Outside.places c.args.outside.now) in
+    let own = as_tree S K _ P fed at c.args.self.now _ c.in-Windows.is c.requires in
+    let scalar = c.in-Windows.scalar.value in
+    let f0 = part_fed S K _ P fed at _ scalar own (λ f. f.1) (λ w h. h.1) (λ all ts h. h.1) (λ t s. s.2) (λ h. refl) (λ d. d.1) in
+    let h0 = part_has S K K _ _ P (g.O.Outside.places c.feed-in-Windows.new.outside) fed at scalar c.deref_mut-in-Windows.result.now c.feed-in-Windows.new.self c.deref_mut-in-Windows.ensures.value refl c.in_ok-feed-in-Windows.ensures.fed c.feed-in-Windows.ensures.shape c.feed-in-Windows.ensures.others in
+    let m0 = h0.has f0 in
+    let kernel = c.in-Windows.kernel in
+    let k = c.in-Windows.place in
+    let u : Ms = get_or at 0 (record { 0 = pos 0 }) in
+    let one : at ≡ u ∷ [] = one_at at (record { 0 = pos 0 }) (own.single refl) in
+    let ct = next_takes (AsksWindows kernel.moment kernel.range) K _ P (g.O.Outside.places c.feed-in-Windows.new.outside) k own.goes_on.all own.goes_on.known m0.taken own.times fed at u one own.goes_on.come.0 (h0.stay k own.goes_on.apart.0) m0.out own.due in
+    let ht = takes_as K c.feed-in-Windows.new.patterns _ _ (g.O.Outside.places c.feed-in-Windows.new.outside) (g.O.Outside.places c.feed_gather-in-Windows.new.outside) k u c.feed-in-Windows.ensures.same (λ x. c.in_ok-feed_gather-in-Windows.ensures.taken u x) ct in
+    let leaf : c.feed_gather-in-Windows.new.place ≡ k = c.feed_gather-in-Windows.ensures.leaf in
+    let asks = subst (λ (a : Ask). AsksWindows kernel.moment kernel.range a) (sym ht.asks) own.goes_on.come.0.asks in
+    let inside = ht.windows asks.kind in
+    let here : (windows_at (g.O.Outside.places c.feed_gather-in-Windows.new.outside) c.feed_gather-in-Windows.new.place).at ≡ u = ap (λ n. (windows_at (g.O.Outside.places c.feed_gather-in-Windows.new.outside) n).at) leaf ∙ there_at (g.O.Outside.places c.feed_gather-in-Windows.new.outside) k u ht.place ht.here inside in
+    let stays = (subst (λ (ts : List Ms). AllByRecursion (λ (t : Ms). IsTime t.0 × HasTimes (moment_at kernel.moment t.0) kernel.range.0 × StaysInTimes (shape_of scalar) t.0) ts) one own.stays).0 in
+    subst (λ n. AreGiven kernel (windows_at (g.O.Outside.places c.feed_gather-in-Windows.new.outside) n)) (sym leaf) (are_given (g.O.Outside.places c.feed_gather-in-Windows.new.outside) k u ht.place ht.here kernel asks inside stays.0 stays.1)
+
+
+pub Node::feed-windows_fed-requires-clause-lends : goal.Node::feed-windows_fed-requires-clause-lends
+Node::feed-windows_fed-requires-clause-lends g t c =
+    let S = c.args.store.now in
+    let K = c.args.patterns.now in
+    let at = c.args.at.now in
+    let fed = c.args.fed in
+    let P = (g.O.Outside.places c.args.outside.now) in
+    let own = as_tree S K _ P fed at c.args.self.now _ c.in-Windows.is c.requires in
+    let scalar = c.in-Windows.scalar.value in
+    let f0 = part_fed S K _ P fed at _ scalar own (λ f. f.1) (λ w h. h.1) (λ all ts h. h.1) (λ t s. s.2) (λ h. refl) (λ d. d.1) in
+    let h0 = part_has S K K _ _ P (g.O.Outside.places c.feed-in-Windows.new.outside) fed at scalar c.deref_mut-in-Windows.result.now c.feed-in-Windows.new.self c.deref_mut-in-Windows.ensures.value refl c.in_ok-feed-in-Windows.ensures.fed c.feed-in-Windows.ensures.shape c.feed-in-Windows.ensures.others in
+    let m0 = h0.has f0 in
+    let kernel = c.in-Windows.kernel in
+    let k = c.in-Windows.place in
+    let u : Ms = get_or at 0 (record { 0 = pos 0 }) in
+    let one : at ≡ u ∷ [] = one_at at (record { 0 = pos 0 }) (own.single refl) in
+    let ct = next_takes (AsksWindows kernel.moment kernel.range) K _ P (g.O.Outside.places c.feed-in-Windows.new.outside) k own.goes_on.all own.goes_on.known m0.taken own.times fed at u one own.goes_on.come.0 (h0.stay k own.goes_on.apart.0) m0.out own.due in
+    let ht = takes_as K c.feed-in-Windows.new.patterns _ _ (g.O.Outside.places c.feed-in-Windows.new.outside) (g.O.Outside.places c.feed_gather-in-Windows.new.outside) k u c.feed-in-Windows.ensures.same (λ x. c.in_ok-feed_gather-in-Windows.ensures.taken u x) ct in
+    let leaf : c.feed_gather-in-Windows.new.place ≡ k = c.feed_gather-in-Windows.ensures.leaf in
+    let asks = subst (λ (a : Ask). AsksWindows kernel.moment kernel.range a) (sym ht.asks) own.goes_on.come.0.asks in
+    let inside = ht.windows asks.kind in
+    let here : (windows_at (g.O.Outside.places c.feed_gather-in-Windows.new.outside) c.feed_gather-in-Windows.new.place).at ≡ u = ap (λ n. (windows_at (g.O.Outside.places c.feed_gather-in-Windows.new.outside) n).at) leaf ∙ there_at (g.O.Outside.places c.feed_gather-in-Windows.new.outside) k u ht.place ht.here inside in
+    let a0 : Agree (places_of (shape_of c.feed-in-Windows.new.self)) (g.O.Outside.places c.feed-in-Windows.new.outside) (g.O.Outside.places c.feed_gather-in-Windows.new.outside) = subst (λ (s : Shape). Agree (places_of s) (g.O.Outside.places c.feed-in-Windows.new.outside) (g.O.Outside.places c.feed_gather-in-Windows.new.outside)) (sym h0.shape) (others_agree (places_of (shape_of scalar)) k (g.O.Outside.places c.feed-in-Windows.new.outside) (g.O.Outside.places c.feed_gather-in-Windows.new.outside) own.goes_on.apart.0 c.feed_gather-in-Windows.ensures.others) in
+    let gg = completed m0.taken in
+    let pp = completed_are own.goes_on.all own.goes_on.known m0.taken K _ (g.O.Outside.places c.feed-in-Windows.new.outside) m0.out in
+    let w = world S gg in
+    read_lending w K ((windows_at (g.O.Outside.places c.feed_gather-in-Windows.new.outside) c.feed_gather-in-Windows.new.place).at ∷ []) (g.O.Outside.places c.feed_gather-in-Windows.new.outside) scalar c.feed-in-Windows.new.self c.deref-in-Windows.result.now h0.shape c.deref-in-Windows.ensures
+    (kept_steps (g.O.Outside.places c.feed-in-Windows.new.outside) (g.O.Outside.places c.feed_gather-in-Windows.new.outside) c.feed-in-Windows.new.self _ a0 (m0.lent gg pp) ∙ ap (λ (ts : List Ms). steps_over (rule w K (shape_of scalar)) ts) (one ∙ ap (λ (v : Ms). v ∷ []) (sym here)))
+
+
+pub Node::feed-windows_fed-requires-clause-scalar : goal.Node::feed-windows_fed-requires-clause-scalar
+Node::feed-windows_fed-requires-clause-scalar g t c =
+    let S = c.args.store.now in
+    let K = c.args.patterns.now in
+    let at = c.args.at.now in
+    let fed = c.args.fed in
+    let P = (g.O.Outside.places c.args.outside.now) in
+    let own = as_tree S K _ P fed at c.args.self.now _ c.in-Windows.is c.requires in
+    let scalar = c.in-Windows.scalar.value in
+    let f0 = part_fed S K _ P fed at _ scalar own (λ f. f.1) (λ w h. h.1) (λ all ts h. h.1) (λ t s. s.2) (λ h. refl) (λ d. d.1) in
+    let h0 = part_has S K K _ _ P (g.O.Outside.places c.feed-in-Windows.new.outside) fed at scalar c.deref_mut-in-Windows.result.now c.feed-in-Windows.new.self c.deref_mut-in-Windows.ensures.value refl c.in_ok-feed-in-Windows.ensures.fed c.feed-in-Windows.ensures.shape c.feed-in-Windows.ensures.others in
+    let m0 = h0.has f0 in
+    λ h. read_scalar scalar c.feed-in-Windows.new.self c.deref-in-Windows.result.now h0.shape c.deref-in-Windows.ensures (own.goes_on.fit.0 h)
+
+
+pub Node::feed-returns-in_ok-feed_gather-in-Windows-clause-fed : goal.Node::feed-returns-in_ok-feed_gather-in-Windows-clause-fed
+Node::feed-returns-in_ok-feed_gather-in-Windows-clause-fed g t c =
+    let S = c.args.store.now in
+    let K = c.args.patterns.now in
+    let at = c.args.at.now in
+    let fed = c.args.fed in
+    let P = (g.O.Outside.places c.args.outside.now) in
+    on_ok c.windows_fed.result c.windows_fed.ensures.lent (λ f. fed_as S K _ _ P (g.O.Outside.places c.feed_gather-in-Windows.new.outside) fed at c.args.self.now _ _ c.in-Windows.is (λ c0.
+    let scalar = c.in-Windows.scalar.value in
+    let f0 = part_fed S K _ P fed at _ scalar c0 (λ f. f.1) (λ w h. h.1) (λ all ts h. h.1) (λ t s. s.2) (λ h. refl) (λ d. d.1) in
+    let h0 = part_has S K K _ _ P (g.O.Outside.places c.feed-in-Windows.new.outside) fed at scalar c.deref_mut-in-Windows.result.now c.feed-in-Windows.new.self c.deref_mut-in-Windows.ensures.value refl c.in_ok-feed-in-Windows.ensures.fed c.feed-in-Windows.ensures.shape c.feed-in-Windows.ensures.others in
+    let m0 = h0.has f0 in
+    let kernel = c.in-Windows.kernel in
+    let k = c.in-Windows.place in
+    let u : Ms = get_or at 0 (record { 0 = pos 0 }) in
+    let one : at ≡ u ∷ [] = one_at at (record { 0 = pos 0 }) (c0.single refl) in
+    let ct = next_takes (AsksWindows kernel.moment kernel.range) K _ P (g.O.Outside.places c.feed-in-Windows.new.outside) k c0.goes_on.all c0.goes_on.known m0.taken c0.times fed at u one c0.goes_on.come.0 (h0.stay k c0.goes_on.apart.0) m0.out c0.due in
+    let ht = takes_as K c.feed-in-Windows.new.patterns _ _ (g.O.Outside.places c.feed-in-Windows.new.outside) (g.O.Outside.places c.feed_gather-in-Windows.new.outside) k u c.feed-in-Windows.ensures.same (λ x. c.in_ok-feed_gather-in-Windows.ensures.taken u x) ct in
+    let leaf : c.feed_gather-in-Windows.new.place ≡ k = c.feed_gather-in-Windows.ensures.leaf in
+    let asks = subst (λ (a : Ask). AsksWindows kernel.moment kernel.range a) (sym ht.asks) c0.goes_on.come.0.asks in
+    let inside = ht.windows asks.kind in
+    let here : (windows_at (g.O.Outside.places c.feed_gather-in-Windows.new.outside) c.feed_gather-in-Windows.new.place).at ≡ u = ap (λ n. (windows_at (g.O.Outside.places c.feed_gather-in-Windows.new.outside) n).at) leaf ∙ there_at (g.O.Outside.places c.feed_gather-in-Windows.new.outside) k u ht.place ht.here inside in
+    let a0 : Agree (places_of (shape_of c.feed-in-Windows.new.self)) (g.O.Outside.places c.feed-in-Windows.new.outside) (g.O.Outside.places c.feed_gather-in-Windows.new.outside) = subst (λ (s : Shape). Agree (places_of s) (g.O.Outside.places c.feed-in-Windows.new.outside) (g.O.Outside.places c.feed_gather-in-Windows.new.outside)) (sym h0.shape) (others_agree (places_of (shape_of scalar)) k (g.O.Outside.places c.feed-in-Windows.new.outside) (g.O.Outside.places c.feed_gather-in-Windows.new.outside) c0.goes_on.apart.0 c.feed_gather-in-Windows.ensures.others) in
+    let new = c.windows_fed.new.kernel in
+    let come = come_next (AsksWindows kernel.moment kernel.range) K _ P (g.O.Outside.places c.feed-in-Windows.new.outside) k c0.goes_on.all c0.goes_on.known m0.taken c0.times fed at u one c0.goes_on.come.0 (g.O.Outside.places c.feed_gather-in-Windows.new.outside) _ ht in
+    record {
+      taken = ht.now;
+      grown = grown_then c0.goes_on.taken m0.taken ht.now m0.grown ht.grown;
+      out = ht.out;
+      lent = λ gg pp.
+          (let scalar_rule = rule (world S gg) K (shape_of scalar) in
+          let is : windows_at (g.O.Outside.places c.feed_gather-in-Windows.new.outside) c.feed_gather-in-Windows.new.place ≡ (gg k u.0).windows =
+              ap (λ n. windows_at (g.O.Outside.places c.feed_gather-in-Windows.new.outside) n) leaf ∙ windows_are (g.O.Outside.places c.feed_gather-in-Windows.new.outside) k u ht.place ht.here ∙ windows_given u ht.place.gather.lent ht.place.gather.windows ht.place.gather.ask.kind (gg k u.0) asks.kind (ht.lent gg pp) in
+          f scalar_rule (read_steps (g.O.Outside.places c.feed_gather-in-Windows.new.outside) c.feed-in-Windows.new.self c.deref-in-Windows.result.now _ c.deref-in-Windows.ensures
+          (kept_steps (g.O.Outside.places c.feed-in-Windows.new.outside) (g.O.Outside.places c.feed_gather-in-Windows.new.outside) c.feed-in-Windows.new.self _ a0 (m0.lent gg (possible_before m0.taken ht.now gg ht.grown pp)) ∙ ap (λ (ts : List Ms). steps_over scalar_rule ts) (one ∙ ap (λ (v : Ms). v ∷ []) (sym here))))
+          ∙ windows_over K c.feed_gather-in-Windows.new.patterns kernel.f kernel.moment kernel.range (rules_of c.in-Windows.passed) scalar_rule k gg (windows_at (g.O.Outside.places c.feed_gather-in-Windows.new.outside) c.feed_gather-in-Windows.new.place) u at (c.feed_gather-in-Windows.ensures.same ∙ c.feed-in-Windows.ensures.same) here is one);
+      can = λ gg pp. (
+        subst (λ (x : Kept). CanPass x c.windows_fed.new.passed) (c.feed_gather-in-Windows.ensures.same ∙ c.feed-in-Windows.ensures.same) c.windows_fed.ensures.pass,
+        can_kept (world S gg) K (g.O.Outside.places c.feed-in-Windows.new.outside) (g.O.Outside.places c.feed_gather-in-Windows.new.outside) (fed_on fed at) c.feed-in-Windows.new.self a0 (m0.can gg (possible_before m0.taken ht.now gg ht.grown pp)),
+      );
+      come = (
+        subst (λ n. HasCome (AsksWindows new.moment new.range) c0.goes_on.all (g.O.Outside.places c.feed_gather-in-Windows.new.outside) c0.times (fed_on fed at) n) (sym leaf)
+            (subst (λ (m : WalkMoment). HasCome (AsksWindows m new.range) c0.goes_on.all (g.O.Outside.places c.feed_gather-in-Windows.new.outside) c0.times (fed_on fed at) k) (sym c.windows_fed.ensures.moment)
+            (subst (λ (r : Ms). HasCome (AsksWindows kernel.moment r) c0.goes_on.all (g.O.Outside.places c.feed_gather-in-Windows.new.outside) c0.times (fed_on fed at) k) (sym c.windows_fed.ensures.range) come)),
+        come_kept c0.goes_on.all (g.O.Outside.places c.feed-in-Windows.new.outside) (g.O.Outside.places c.feed_gather-in-Windows.new.outside) c0.times (fed_on fed at) c.feed-in-Windows.new.self a0 m0.come,
+      );
+    }))
+
+
 pub fill-loop-u-init : goal.fill-loop-u-init
 fill-loop-u-init g t c =
     let spent = filled_none c.args.store.now c.args.kernel.now.walk c.args.fed c.args.inner.now c.args.work.now in
@@ -1697,6 +1955,28 @@ Node::feed-returns-in_ok-ready-in-Once-clause-spent g t c =
     made_as S c.args.fed to c.once_fed.result c.args.self.now _ (HasRead S (once first to) c.ready.new.child) w x c.in-Once.is
     (once_made S first c.args.fed c.args.at.now c.requires.some child w x c.ready.new.child (part_spends S (once first c.args.fed) (fed_once first) c.deref_mut-in-Once.result.now child c.ready.new.child w x c.deref_mut-in-Once.ensures.value c.in_ok-ready-in-Once.ensures.spent))
 
+pub Node::feed-returns-in_err-feed-in-Windows-clause-spent : goal.Node::feed-returns-in_err-feed-in-Windows-clause-spent
+Node::feed-returns-in_err-feed-in-Windows-clause-spent g t c =
+    let S = c.args.store.now in let to = fed_on c.args.fed c.args.at.now in let w = c.args.work.now in
+    failed_as _ S c.args.fed to c.from_residual-in_err-feed-in-Windows.result c.from_residual-in_err-feed-in-Windows.ensures.1 c.args.self.now _ (HasRead S to c.feed-in-Windows.new.self) w c.feed-in-Windows.new.work c.in-Windows.is
+    (part_fails S c.args.fed to c.feed-in-Windows.result c.deref_mut-in-Windows.result.now c.in-Windows.scalar.value c.feed-in-Windows.new.self w c.feed-in-Windows.new.work c.deref_mut-in-Windows.ensures.value c.feed-in-Windows.ensures.spent)
+
+
+pub Node::feed-returns-in_err-feed_gather-in-Windows-clause-spent : goal.Node::feed-returns-in_err-feed_gather-in-Windows-clause-spent
+Node::feed-returns-in_err-feed_gather-in-Windows-clause-spent g t c =
+    let S = c.args.store.now in let to = fed_on c.args.fed c.args.at.now in let w = c.args.work.now in
+    let scalar = c.in-Windows.scalar.value in let x = c.feed-in-Windows.new.work in
+    failed_as _ S c.args.fed to c.from_residual-in_err-feed_gather-in-Windows.result c.from_residual-in_err-feed_gather-in-Windows.ensures.1 c.args.self.now _ (HasRead S to c.feed-in-Windows.new.self) w x c.in-Windows.is
+    (part_made S c.args.fed to scalar c.feed-in-Windows.new.self w x (part_spends S c.args.fed to c.deref_mut-in-Windows.result.now scalar c.feed-in-Windows.new.self w x c.deref_mut-in-Windows.ensures.value c.in_ok-feed-in-Windows.ensures.spent))
+
+
+pub Node::feed-returns-in_ok-feed_gather-in-Windows-clause-spent : goal.Node::feed-returns-in_ok-feed_gather-in-Windows-clause-spent
+Node::feed-returns-in_ok-feed_gather-in-Windows-clause-spent g t c =
+    let S = c.args.store.now in let to = fed_on c.args.fed c.args.at.now in let w = c.args.work.now in
+    made_as S c.args.fed to c.windows_fed.result c.args.self.now _ (HasRead S to c.feed-in-Windows.new.self) w c.feed-in-Windows.new.work c.in-Windows.is
+    (part_spends S c.args.fed to c.deref_mut-in-Windows.result.now c.in-Windows.scalar.value c.feed-in-Windows.new.self w c.feed-in-Windows.new.work c.deref_mut-in-Windows.ensures.value c.in_ok-feed-in-Windows.ensures.spent)
+
+
 pub fill-returns-in_err-feed-clause-spent : goal.fill-returns-in_err-feed-clause-spent
 fill-returns-in_err-feed-clause-spent g t c =
     let inv = c.loop-u.invariant in
@@ -1810,6 +2090,14 @@ pub Node::feed-returns-in-Gather-clause-counted : goal.Node::feed-returns-in-Gat
 Node::feed-returns-in-Gather-clause-counted g t c =
     let w = c.args.work.now.fetched in
     counted_as c.args.store.now c.args.fed c.feed_gather.result c.args.self.now _ w w 0 c.in-Gather.is refl
+
+pub Node::feed-returns-in_ok-feed_gather-in-Windows-clause-counted : goal.Node::feed-returns-in_ok-feed_gather-in-Windows-clause-counted
+Node::feed-returns-in_ok-feed_gather-in-Windows-clause-counted g t c =
+    let S = c.args.store.now in let fed = c.args.fed in let to = fed_on fed c.args.at.now in
+    let w = c.args.work.now.fetched in let x = c.feed-in-Windows.new.work.fetched in let n = fetched_by S to c.feed-in-Windows.new.self in
+    counted_as S fed c.windows_fed.result c.args.self.now _ x w n c.in-Windows.is
+    (part_counts S fed c.deref_mut-in-Windows.result.now c.in-Windows.scalar.value x w n c.deref_mut-in-Windows.ensures.value c.in_ok-feed-in-Windows.ensures.counted)
+
 
 pub fill-returns-clause-counted : goal.fill-returns-clause-counted
 fill-returns-clause-counted g t c = c.loop-u.invariant.counted

@@ -35,4 +35,4 @@ returns-in_ok-open-in-Some-clause-begun g c store known ready =
     let many = map_length (λ b. (goal.Engine-dyn g (b.vtable, b.value)).seen b.value) c.open.new.engines c.args.engines.now e.len in
     let m = may_begin store c.args.patterns.now known _ c.in-Some.span c.args.self.now c.in-Some.is ready.may in
     let laws = c.steps_are_well_formed.ensures in
-    has_begun c.walks_are_listed.ensures.no_other c.unions_are_sets.ensures.set laws.settled laws.taken store c.args.patterns.now known _ _ c.in-Some.span c.args.self.now _ e.owed.0 m e.owed.1 (c.in_ok-open-in-Some.ensures.stand e.owed.0 e.owed.1) many e.grown refl refl refl
+    has_begun c.walks_are_listed.ensures.no_other c.unions_are_sets.ensures.set laws.settled laws.taken store c.args.patterns.now known _ _ c.in-Some.span c.args.self.now _ e.owed.0 m e.owed.1 (c.in_ok-open-in-Some.ensures.stand e.owed.0 e.owed.1) c.in_ok-open-in-Some.ensures.gathers many e.grown refl refl refl
