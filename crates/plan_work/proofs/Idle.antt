@@ -1,7 +1,7 @@
 -- A tree that is asked at no instant costs no more than at some.
 use Rattle.std.proofs.Common.{◌≡◌, ℕ, List, [], refl, arith}
 use Rattle.std.specs.Prelude.{ℤ}
-use Rattle.plan_tree.specs.Shapes.{BinaryOf, ClampOf, GatherOf, InstantsOf, OnceOf, PointsOf, SelectOf, SeriesOf, Shape, UnaryOf}
+use Rattle.plan_tree.specs.Shapes.{BinaryOf, ClampOf, GatherOf, InstantsOf, OnceOf, PointsOf, SelectOf, SeriesOf, Shape, UnaryOf, WindowsOf}
 use Rattle.plan_tree.specs.Spending.{Cost, IsAtMost, IsBound, IsSum, both, leaf_bound, once_at}
 use Rattle.promql_meaning.specs.Selecting.{lookback}
 use Rattle.sample_store.specs.Samples.{AllSeries}
@@ -38,3 +38,4 @@ idle store at (PointsOf f walk moment range step inner scalar) most (times, list
     (less.0, (times, listed, less.1), less.2)
 idle store at (OnceOf first child) most h = idle store (once_at first at) child most h
 idle store at (GatherOf place) most h = (most, h, same_least most most refl)
+idle store at (WindowsOf place f moment range rules scalar) most h = idle store at scalar most h

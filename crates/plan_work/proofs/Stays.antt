@@ -10,11 +10,11 @@ use Rattle.ticks.specs.declared.moment.Ms.{Ms}
 use Rattle.ticks.specs.declared.walk.Walk.TheVariants.{Fixed}
 use Rattle.plan_work.specs.PlanBounds.{arguments_bound, first_alone, inner_times, plan_bound, selector_bound}
 use Rattle.plan_work.specs.PlanLaws.{InnerTimesAreListed, IsOver}
-use Rattle.plan_work.specs.TreeBounds.{BesidesStay, GathersStay, NumbersStay, OnceTreesStay, OversNumbersStay, OversStay, SamesStay, SelectorsStay, SpendingStays, SubqueriesStay, ThreesStay, WindowsStay}
+use Rattle.plan_work.specs.TreeBounds.{BesidesStay, GathersStay, GivenWindowsStay, NumbersStay, OnceTreesStay, OversNumbersStay, OversStay, SamesStay, SelectorsStay, SpendingStays, SubqueriesStay, ThreesStay, WindowsStay}
 use Rattle.plan_work.proofs.Idle.{idle}
 use Rattle.plan_work.proofs.Leaves.{leaves_cost}
 use Rattle.plan_work.proofs.Nodes.{beside_either, once, over, selector, subqueries, three, windows}
-use Rattle.plan_work.proofs.Sums.{at_bound, both_least, both_turned, none_least, same_least, then_least, with_none}
+use Rattle.plan_work.proofs.Sums.{at_bound, beside_least, both_least, both_turned, none_least, same_least, then_least, with_none}
 
 pub numbers_stay : NumbersStay
 numbers_stay asked walk p one at listed = record { cost = nothing; of = refl; within = none_least (plan_bound asked p at) }
@@ -94,6 +94,17 @@ windows_stay law asked walk p inner f arguments rules moment range series own sc
       cost = both r.cost leaf;
       of = (r.cost, leaf, r.of, refl, refl);
       within = at_bound (both r.cost leaf) (both inside others) (plan_bound asked p at) (windows asked p inner f arguments at e) (both_turned leaf r.cost inside others leaf_within r.within);
+    }
+
+pub given_windows_stay : GivenWindowsStay
+given_windows_stay asked walk p inner f arguments place own range rules scalar e rest at listed =
+    let r = rest at listed in
+    let inside = plan_bound asked inner at in
+    let others = arguments_bound asked arguments at in
+    record {
+      cost = r.cost;
+      of = r.of;
+      within = at_bound r.cost (both inside others) (plan_bound asked p at) (windows asked p inner f arguments at e) (beside_least r.cost inside others r.within);
     }
 
 pub subqueries_stay : InnerTimesAreListed → SubqueriesStay

@@ -20,6 +20,9 @@ both_least a b m n h k = record { fetched = (let f = h.fetched in let g = k.fetc
 pub both_turned : (a b m n : Cost) → IsAtMost a m → IsAtMost b n → IsAtMost (both b a) (both m n)
 both_turned a b m n h k = record { fetched = (let f = h.fetched in let g = k.fetched in omega arith); probed = (let p = h.probed in let q = k.probed in omega arith) }
 
+pub beside_least : (a m n : Cost) → IsAtMost a n → IsAtMost a (both m n)
+beside_least a m n h = record { fetched = (let f = h.fetched in omega arith); probed = (let p = h.probed in omega arith) }
+
 -- within an equal bound
 pub at_bound : (a m n : Cost) → n ≡ m → IsAtMost a m → IsAtMost a n
 at_bound a m n e h = subst (λ (c : Cost). IsAtMost a c) (sym e) h

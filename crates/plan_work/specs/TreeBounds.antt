@@ -1,13 +1,13 @@
 -- What builders of trees rely on: the tree of a node stays within the bound of its plan, if those of its children stay within theirs.
 -- (This project's own.)
-use Rattle.std.specs.Prelude.{◌≡◌, ◌<ℤ◌, ℕ, pos, Bool, List}
+use Rattle.std.specs.Prelude.{◌≡◌, ◌<ℤ◌, ℕ, pos, Bool, List, Option}
 use Rattle.func_table.specs.declared.table.Window.{Window as WindowFunction}
 use Rattle.label_set.specs.declared.rules.Rule.{Rule}
 use Rattle.logical_plan.specs.declared.nodes.Plan.{Plan}
 use Rattle.logical_plan.specs.declared.nodes.PlanNode.TheVariants as node
 use Rattle.op_element.specs.declared.formula.ElementRule.{ElementRule}
 use Rattle.op_small.specs.declared.rule.SmallRule.{SmallRule}
-use Rattle.plan_tree.specs.Shapes.{BinaryOf, ClampOf, GatherOf, InstantsOf, OnceOf, PointsOf, SelectOf, SeriesOf, Shape, UnaryOf}
+use Rattle.plan_tree.specs.Shapes.{BinaryOf, ClampOf, GatherOf, InstantsOf, OnceOf, PointsOf, SelectOf, SeriesOf, Shape, UnaryOf, WindowsOf}
 use Rattle.plan_tree.specs.Spending.{Cost, IsAtMost, IsBound, IsWithinBound, RisesBy}
 use Rattle.promql_ast.specs.declared.tree.Moment.{Moment}
 use Rattle.promql_meaning.specs.Selecting.{Asked, passing}
@@ -81,6 +81,12 @@ WindowsStay =
     (asked : Asked) (walk : Walk) (p inner : Plan) (f : WindowFunction) (arguments : List Plan) (rules : List Rule) (moment : Moment) (range : Ms) (series : List ℕ) (own : WalkMoment) (scalar : Shape) →
     p.node ≡ node.Window f inner arguments → CostsAtMost asked rules moment range inner → AreThere asked.samples series → numbered asked.samples series ≡ passing asked.samples asked.kept rules →
     IsMomentOf asked moment own → own.closed ≡ moment.closed → StaysWithinAll asked walk arguments scalar → StaysWithin asked walk p (SeriesOf series f own range scalar)
+
+-- that of windows which engines give costs what its scalar does, whatever rules the windows pass
+abbrev pub GivenWindowsStay : Type 0
+GivenWindowsStay =
+    (asked : Asked) (walk : Walk) (p inner : Plan) (f : WindowFunction) (arguments : List Plan) (place : ℕ) (own : WalkMoment) (range : Ms) (rules : Option (List Rule)) (scalar : Shape) →
+    p.node ≡ node.Window f inner arguments → StaysWithinAll asked walk arguments scalar → StaysWithin asked walk p (WindowsOf place f own range rules scalar)
 
 -- that of a subquery's windows asks its inner tree at the inner instants
 abbrev pub SubqueriesStay : Type 0

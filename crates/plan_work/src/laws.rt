@@ -1,6 +1,6 @@
 //! Laws of bounds. The functions do nothing: each stands for what its contract says.
 ghost use Rattle.plan_work.specs.PlanLaws.{BesidesAddUp, FiltersCostNoMore, InnerTimesAreListed, LeavesCostAsSelectors, NoSelectorCostsNothing, OncesCostOnce, OversCostTheSame, RangesCostAsSelectors, SpansRise, SubqueriesCostInside, ThreesAddUp, WindowsAddUp};
-ghost use Rattle.plan_work.specs.TreeBounds.{BesidesStay, GathersStay, NumbersStay, OnceTreesStay, OversNumbersStay, OversStay, SamesStay, SelectorsStay, SpendingStays, SubqueriesStay, ThreesStay, WindowsStay};
+ghost use Rattle.plan_work.specs.TreeBounds.{BesidesStay, GathersStay, GivenWindowsStay, NumbersStay, OnceTreesStay, OversNumbersStay, OversStay, SamesStay, SelectorsStay, SpendingStays, SubqueriesStay, ThreesStay, WindowsStay};
 
 use promql_meaning::laws::{multiples_are_all, walk_moments_are_moments};
 
@@ -44,8 +44,8 @@ pub fn inner_times_are_listed()
 }
 
 /// The tree of a node stays within the bound of its plan at the instants of a walk, if those of its children stay within theirs: of
-/// numbers, gathers and selectors, of nodes over one, two and three children, of functions of windows, over series and over subqueries, and of
-/// what is computed once.
+/// numbers, gathers and selectors, of nodes over one, two and three children, of functions of windows, over series, over
+/// windows that engines give and over subqueries, and of what is computed once.
 pub fn trees_stay_within()
     ensures number { NumbersStay }
     ensures gather { GathersStay }
@@ -56,6 +56,7 @@ pub fn trees_stay_within()
     ensures beside { BesidesStay }
     ensures three { ThreesStay }
     ensures window { WindowsStay }
+    ensures given { GivenWindowsStay }
     ensures subquery { SubqueriesStay }
     ensures once { OnceTreesStay }
 {

@@ -1,4 +1,4 @@
-use Rattle.plan_work.proofs.Stays.{besides_stay, gathers_stay, numbers_stay, onces_stay, overs_numbers_stay, overs_stay, sames_stay, selectors_stay, subqueries_stay, threes_stay, windows_stay}
+use Rattle.plan_work.proofs.Stays.{besides_stay, gathers_stay, given_windows_stay, numbers_stay, onces_stay, overs_numbers_stay, overs_stay, sames_stay, selectors_stay, subqueries_stay, threes_stay, windows_stay}
 use Rattle.plan_work.proofs.laws.trees_stay_within.Goals as goal
 
 pub returns-clause-number : goal.returns-clause-number
@@ -27,6 +27,9 @@ returns-clause-three c = threes_stay
 
 pub returns-clause-window : goal.returns-clause-window
 returns-clause-window c = windows_stay c.walk_moments_are_moments.ensures
+
+pub returns-clause-given : goal.returns-clause-given
+returns-clause-given c = given_windows_stay
 
 pub returns-clause-subquery : goal.returns-clause-subquery
 returns-clause-subquery c = subqueries_stay c.inner_times_are_listed.ensures
