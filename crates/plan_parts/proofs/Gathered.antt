@@ -5,22 +5,22 @@ use Rattle.std.specs.List.{cons_option, filter_map}
 use Rattle.std.specs.List.Sorted.{IsStrictlySortedBy}
 use Rattle.std.specs.Option.{option_map}
 use Rattle.exchange.specs.declared.request.Request.{Request}
-use Rattle.logical_plan.specs.Gathers.{all_owed, gathered, given_over, joined, over_samples, owed_by, owed_over, windows_of}
+use Rattle.logical_plan.specs.Gathers.{all_owed, gathered, given_over, joined, over_samples, owed_by, owed_over, windows_among, windows_of}
 use Rattle.op_gather.specs.Joins.{SetsStay, with_sets}
 use Rattle.op_labels.specs.Rules.{Kept}
 use Rattle.plan_tree.specs.Asking.{cells_held, cells_of, gathered_at}
-use Rattle.plan_tree.specs.Gathering.{gives_steps, joined_step}
+use Rattle.plan_tree.specs.Gathering.{gives_steps, joined_of}
 use Rattle.promql_ast.specs.declared.tree.Expr.{Expr}
 use Rattle.promql_meaning.specs.Aggregations.{keyed_values}
 use Rattle.promql_meaning.specs.Givens.{marked, no_marks, step_of}
 use Rattle.promql_meaning.specs.Laws.{MeaningIsWellFormed}
 use Rattle.promql_meaning.specs.Meaning.{meaning}
 use Rattle.promql_meaning.specs.Selecting.{AllSeries, Asked, asked_over}
-use Rattle.promql_meaning.specs.declared.given.Given.TheVariants.{Vector}
+use Rattle.promql_meaning.specs.declared.given.Given.TheVariants as given
 use Rattle.promql_meaning.specs.declared.given.Windows.{Windows}
 use Rattle.remote_api.specs.Seen.{EngineSeen, Holding}
 use Rattle.remote_api.specs.declared.asks.Part.{Part}
-use Rattle.step_cells.specs.Joined.{joined_partials, joined_rows}
+use Rattle.step_cells.specs.Joined.{joined_partials, joined_rows, joined_windows}
 use Rattle.step_cells.specs.Owed.{cells, lost_mark}
 use Rattle.step_table.specs.Groups.{gathered as groups}
 use Rattle.step_table.specs.KeySets.{sorted_set}
@@ -38,6 +38,7 @@ use Rattle.step_table.specs.declared.marks.Note.{Note}
 use Rattle.step_table.specs.declared.step.Step.{Step}
 use Rattle.ticks.specs.declared.grid.Grid.{Grid}
 use Rattle.plan_parts.specs.Gathered.{AreHeld, IsQueryOver, IsUnmarked, held_by}
+use Rattle.plan_parts.specs.Requested.{given_by}
 
 -- ---- no marks more
 
@@ -61,10 +62,13 @@ fatal_sets : (fatal : List Mark) → AreSets (record { fatal = set_of mark_cmp f
 unfolding IsStrictlySortedBy
 fatal_sets fatal = record { fatal = sorted_set mark_cmp_total mark_cmp_ties fatal; notes = tt }
 
-HasSets : StepCells → Type 0
-HasSets step = AreSets step.marks
+-- there are none
+pub no_sets : AreSets no_marks
+unfolding IsStrictlySortedBy
+no_sets = record { fatal = tt; notes = tt }
 
-owed_sets : MeaningIsWellFormed → UnionIsSet → (asked : Asked) (expr : Expr) (kind : PartKind) (t : ℤ) (samples : AllSeries) → IsTrue (gives_steps kind) → AreSets (owed_over asked expr kind t samples).marks
+-- those of what is owed as steps
+pub owed_sets : MeaningIsWellFormed → UnionIsSet → (asked : Asked) (expr : Expr) (kind : PartKind) (t : ℤ) (samples : AllSeries) → IsTrue (gives_steps kind) → AreSets (owed_over asked expr kind t samples).marks
 owed_sets formed union asked expr part.Rows t samples k = (formed (over_samples asked samples) expr t).marks
 owed_sets formed union asked expr part.Windows t samples k = absurd (cc)
 owed_sets formed union asked expr (part.Partial f by) t samples k =
@@ -107,21 +111,27 @@ module _ (asked : Asked) (span : Grid) (kept : Kept) (query : IsQueryOver span k
 
 -- ---- what all of them come to
 
-joins : (kind : PartKind) (t : ℤ) (steps : List StepCells) (marks : Marks) (none : Windows) → IsTrue (gives_steps kind) → map with_sets steps ≡ steps → marks ≡ no_marks → joined kind t steps marks none ≡ Vector (joined_step kind steps)
-joins part.Rows t steps marks none k stay e =
-    ap (λ (m : Marks). Vector (marked m (joined_rows steps))) e ∙ ap Vector (marked_none (joined_rows steps) ∙ ap joined_rows (sym stay))
-joins part.Windows t steps marks none k stay e = absurd (cc)
-joins (part.Partial f by) t steps marks none k stay e =
-    ap (λ (m : Marks). Vector (marked m (joined_partials f steps))) e ∙ ap Vector (marked_none (joined_partials f steps) ∙ ap (joined_partials f) (sym stay))
+joins : (kind : PartKind) (t : ℤ) (steps : List StepCells) (marks : Marks) (none : Windows) → map with_sets steps ≡ steps → marks ≡ no_marks → joined kind t steps marks none ≡ given_by kind none (joined_of kind (record { 0 = t }) steps)
+joins part.Rows t steps marks none stay e =
+    ap (λ (m : Marks). given.Vector (marked m (joined_rows steps))) e ∙ ap given.Vector (marked_none (joined_rows steps) ∙ ap joined_rows (sym stay))
+joins part.Windows t steps marks none stay e =
+    ap (λ (m : Marks). given.Windows (windows_among none t steps m)) e
+    ∙ ap (λ (m : Marks). given.Windows (record none { rules = []; rows = (joined_windows (record { 0 = t }) steps).rows; marks = m })) (united_none (joined_windows (record { 0 = t }) steps).marks)
+    ∙ ap (λ (ss : List StepCells). given.Windows (record none { rules = []; rows = (joined_windows (record { 0 = t }) ss).rows; marks = (joined_windows (record { 0 = t }) ss).marks })) (sym stay)
+joins (part.Partial f by) t steps marks none stay e =
+    ap (λ (m : Marks). given.Vector (marked m (joined_partials f steps))) e ∙ ap given.Vector (marked_none (joined_partials f steps) ∙ ap (joined_partials f) (sym stay))
 
--- the step of a gather of a tree is what the plan's gather gives, where its part has no marks of its own
-pub gather_gives : MeaningIsWellFormed → UnionIsSet → SetsStay → (asked : Asked) (span : Grid) (kept : Kept) (es : List EngineSeen) (r : Request) (t : ℤ) → IsQueryOver span kept asked → AreHeld es asked → IsTrue (gives_steps r.part.kind)
-    → IsUnmarked asked r.part.expr r.part.kind → gathered asked r.part.expr r.part.kind r.engines t ≡ Vector (gathered_at span kept es (Some r) (record { 0 = t }))
-gather_gives formed union stay asked span kept es r t query held steps unmarked =
+-- what a gather of a tree gives is what the plan's gather gives, where the marks of what engines owe are sets, and its part has none of its
+-- own
+pub gather_gives : SetsStay → (asked : Asked) (span : Grid) (kept : Kept) (es : List EngineSeen) (r : Request) (t : ℤ) → IsQueryOver span kept asked → AreHeld es asked
+    → ((samples : AllSeries) → AreSets (owed_over asked r.part.expr r.part.kind t samples).marks) → IsUnmarked asked r.part.expr r.part.kind
+    → gathered asked r.part.expr r.part.kind r.engines t ≡ given_by r.part.kind (windows_of (given_over asked r.part.expr t [])) (gathered_at span kept es (Some r) (record { 0 = t }))
+gather_gives stay asked span kept es r t query held sets unmarked =
     let expr = r.part.expr in
     let kind = r.part.kind in
+    let none = windows_of (given_over asked expr t []) in
     let owed = all_owed asked expr kind r.engines t in
-    joins kind t owed (owed_over asked expr kind t []).marks (windows_of (given_over asked expr t [])) steps
-    (all_stay stay (owed_by asked expr kind t) (λ i. option_sets (owed_over asked expr kind t) (λ s. owed_sets formed union asked expr kind t s steps) (slice_get asked.engines i)) r.engines)
+    joins kind t owed (owed_over asked expr kind t []).marks none
+    (all_stay stay (owed_by asked expr kind t) (λ i. option_sets (owed_over asked expr kind t) sets (slice_get asked.engines i)) r.engines)
     (unmarked t)
-    ∙ ap (λ (ss : List StepCells). Vector (joined_step kind ss)) (sym (all_owe asked span kept query r.part t es held r.engines))
+    ∙ ap (λ (ss : List StepCells). given_by kind none (joined_of kind (record { 0 = t }) ss)) (sym (all_owe asked span kept query r.part t es held r.engines))

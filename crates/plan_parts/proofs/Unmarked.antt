@@ -1,10 +1,11 @@
--- The rows of a selector, and those of its timestamp, have no notes and no marks over no samples.
+-- The rows of a selector, and those of its timestamp, have no notes and no marks over no samples; the windows of a range selector have none
+-- over any.
 use Rattle.std.proofs.Common.{◌≡◌, ◌∙◌, List, [], ◌∷◌, map, Some, refl, ap}
 use Rattle.std.specs.Prelude.{ℤ}
 use Rattle.func_table.specs.declared.table.Func.{Func}
 use Rattle.func_table.specs.declared.table.Func.TheVariants as func
-use Rattle.logical_plan.specs.Gathers.{over_samples}
-use Rattle.plan_serving.specs.Asking.{asked_selector, plain_selector, selector_in, stamped_selector}
+use Rattle.logical_plan.specs.Gathers.{over_samples, owed_over}
+use Rattle.plan_serving.specs.Asking.{RangeAsked, asked_range, asked_selector, plain_selector, range_in, selector_in, stamped_selector}
 use Rattle.promql_ast.specs.declared.tree.Expr.{Expr}
 use Rattle.promql_ast.specs.declared.tree.Node.{Node}
 use Rattle.promql_ast.specs.declared.tree.Node.TheOpen.{Node-F}
@@ -14,8 +15,9 @@ use Rattle.promql_ast.specs.declared.tree.Selector.{Selector}
 use Rattle.promql_meaning.specs.Elements.{stamps, timestamps}
 use Rattle.promql_meaning.specs.Givens.{no_marks, step_of}
 use Rattle.promql_meaning.specs.Meaning.{called, given_at, meaning, node_meaning}
-use Rattle.promql_meaning.specs.Selecting.{Asked}
+use Rattle.promql_meaning.specs.Selecting.{AllSeries, Asked}
 use Rattle.promql_meaning.specs.declared.given.Given.{Given}
+use Rattle.step_cells.specs.Owed.{windows_at}
 use Rattle.step_table.specs.Groups.{gathered}
 use Rattle.step_table.specs.declared.cells.PartKind.{PartKind}
 use Rattle.step_table.specs.declared.cells.PartKind.TheVariants as part
@@ -88,3 +90,35 @@ module _ (asked : Asked) where
   selectors_unmarked part.Rows expr s is t = ap (λ (g : A). (step_of (g t)).marks) (means expr) ∙ node_marks (out-Node expr.node) s t is
   selectors_unmarked part.Windows expr s is t = absurd (cc)
   selectors_unmarked (part.Partial f by) expr s is t = absurd (cc)
+
+-- ---- windows
+
+module _ (asked : Asked) (samples : AllSeries) where
+  abbrev G : Type 0
+  G = ℤ → Given
+
+  -- the same query over these samples
+  abbrev held : Asked
+  held = over_samples asked samples
+
+  abbrev layer : Node-F Node Expr → Node-F G G
+  layer y = map-Node Node Expr G G (fold-Node G G (node_meaning held) (λ e. e.node)) (meaning held) y
+
+  by_layer : (e : Expr) → meaning held e ≡ node_meaning held (layer (out-Node e.node))
+  by_layer e = fold_out-Expr G G (node_meaning held) (λ e. e.node) e ∙ fold_out-Node G G (node_meaning held) (λ e. e.node) e.node
+
+  range_marks : (y : Node-F Node Expr) (a : RangeAsked) (t : ℤ) → range_in y ≡ Some a → (windows_at (record { 0 = t }) (node_meaning held (layer y) t)).marks ≡ no_marks
+  range_marks (Node-F.Range selector range) a t e = refl
+  range_marks (Node-F.Number value) a t e = absurd (cc)
+  range_marks (Node-F.Words text) a t e = absurd (cc)
+  range_marks (Node-F.Paren inner) a t e = absurd (cc)
+  range_marks (Node-F.Negate inner) a t e = absurd (cc)
+  range_marks (Node-F.Select selector) a t e = absurd (cc)
+  range_marks (Node-F.Subquery inner range step moment) a t e = absurd (cc)
+  range_marks (Node-F.Call f arguments) a t e = absurd (cc)
+  range_marks (Node-F.Aggregate f by arguments) a t e = absurd (cc)
+  range_marks (Node-F.Pair op left right pairing) a t e = absurd (cc)
+  range_marks (Node-F.Set op left right pairing) a t e = absurd (cc)
+
+  pub ranges_unmarked : (expr : Expr) (a : RangeAsked) (t : ℤ) → asked_range part.Windows expr ≡ Some a → (owed_over asked expr part.Windows t samples).marks ≡ no_marks
+  ranges_unmarked expr a t is = ap (λ (g : G). (windows_at (record { 0 = t }) (g t)).marks) (by_layer expr) ∙ range_marks (out-Node expr.node) a t is

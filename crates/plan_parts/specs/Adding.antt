@@ -51,7 +51,11 @@ requests_stay before now a times (node.Binary' kernel p rows q beside) h = (requ
 requests_stay before now a times (node.Clamp' kernel p rows q low r high) h = (requests_stay before now a times rows h.0, requests_stay before now a times low h.1, requests_stay before now a times high h.2)
 requests_stay before now a times (node.Points' kernel inner_fed p inner q scalar) h = (requests_stay before now a times scalar h.0, h.1, h.2, h.3, requests_stay before now a h.2 inner h.4)
 requests_stay before now a times (node.Once' first steps p child) h = requests_stay before now a (first ∷ []) child h
-requests_stay before now a times (node.Gather place) h = record { r = h.r; r_at = get_added before now place h.r a h.r_at; kind = h.kind; listed = h.listed }
+requests_stay before now a times (node.Gather place) h = record { r = h.r; r_at = get_added before now place h.r a h.r_at; asks = h.asks; listed = h.listed }
+requests_stay before now a times (node.Windows' kernel place passed p scalar) h = (
+  record { r = h.0.r; r_at = get_added before now place h.0.r a h.0.r_at; asks = h.0.asks; listed = h.0.listed },
+  requests_stay before now a times scalar h.1,
+)
 
 -- ---- each that was added
 

@@ -8,8 +8,8 @@ use func_table::Func;
 use promql_ast::{Expr, Node, Selector};
 use step_table::PartKind;
 
-/// Whether each number is below the next one.
-pub(crate) fn are_rising(numbers: &[u32]) -> bool
+/// Whether each number is below the next one. It takes no memory.
+pub fn are_rising(numbers: &[u32]) -> bool
     ensures told { result ≡ is_rising numbers.now }
     ensures rising { IsTrue result → AreRising numbers.now }
 {

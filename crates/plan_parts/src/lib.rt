@@ -11,6 +11,7 @@ mod parts;
 mod selectors;
 mod unbuilt;
 
+pub use asking::are_rising;
 pub use course::Course;
 pub use gathers::gather;
 pub use parts::{Part, repeated, select, series_of, settled};

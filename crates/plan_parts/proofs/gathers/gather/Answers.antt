@@ -5,7 +5,7 @@ use Rattle.exchange.specs.Requests.{AreRising}
 use Rattle.exchange.specs.declared.request.Request.{Request}
 use Rattle.logical_plan.specs.declared.nodes.PlanNode.TheVariants as node
 use Rattle.match_rule.specs.Patterns.{HaveTheirPatterns}
-use Rattle.plan_serving.specs.Asking.{asked_selector, is_rising, is_served_part}
+use Rattle.plan_serving.specs.Asking.{asked_selector, is_rising, is_rows_part}
 use Rattle.plan_tree.specs.declared.node.Node.TheVariants.{Gather}
 use Rattle.promql_ast.specs.declared.tree.Selector.{Selector}
 use Rattle.promql_meaning.specs.Selecting.{lookback}
@@ -43,7 +43,7 @@ returns-clause-part c = λ samples engines p e.
     let s : Selector = c.in-Some.selector.now in
     let r : Request = record { part = part; walk = c.in_ok-walk.walk; moment = c.instants_alone.result; range = record { 0 = pos 0 }; engines = c.in_ok-asked.asked } in
     let named : asked_selector part.kind part.expr ≡ Some s = (λ j. asked_selector (c.in_ok-part.ensures.kind j) (c.in_ok-part.ensures.expr j)) ∙ c.in-Some.ensures.some in
-    let served : IsTrue (is_served_part part.kind part.expr) = ap (λ (o : Option Selector). is_some o) named in
+    let rows : IsTrue (is_rows_part part.kind part.expr) = ap (λ (o : Option Selector). is_some o) named in
     let here : node.Gather c.args.expr.now c.args.kind.now c.args.asked.now ≡ node.Gather part.expr part.kind r.engines =
     λ j. node.Gather (sym c.in_ok-part.ensures.expr j) (sym c.in_ok-part.ensures.kind j) (sym c.in_ok-asked.ensures j) in
     let walk_is : r.walk ≡ walk = c.in_ok-walk.ensures ∙ c.walk.ensures.walk in
@@ -54,7 +54,7 @@ returns-clause-part c = λ samples engines p e.
     let now : c.add.new.self.requests ≡ before ++ r ∷ [] = ap (λ (x : Exchanging). x.requests) c.in_ok-place.ensures.added in
     subst (λ (rs : List Request). IsPart asked walk before rs p (record { tree = Gather c.in_ok-place.place; scalar = false; own = false })) (sym now)
     (subst (λ (k : ℕ). IsPart asked walk before (before ++ r ∷ []) p (record { tree = Gather k; scalar = false; own = false })) (sym c.in_ok-place.ensures.place)
-    (leaf_part c.trees_stay_within.ensures.gather asked walk before p r (e ∙ here) walk_is served
+    (leaf_part c.trees_stay_within.ensures.gather asked walk before p r (e ∙ here) walk_is rows
     (leaf_may c.walk_moments_are_moments.ensures samples kept own engines r s c.settled-moment.result named rules (c.settled-moment.ensures.moment [] kept) leads times)))
 
 -- ---- what is served
