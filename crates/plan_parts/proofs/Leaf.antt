@@ -1,6 +1,6 @@
 -- The leaf of a part that engines are asked for.
-use Rattle.std.proofs.Common.{◌≡◌, ◌∙◌, ◌++◌, ◌+◌, ◌≤◌, ℕ, zero, suc, false, List, [], ◌∷◌, length, slice_get, Option, None, Some, arith, length-append, refl, sym, subst}
-use Rattle.std.specs.Prelude.{ℤ, Contains, IfNone, IsTrue}
+use Rattle.std.proofs.Common.{◌≡◌, ◌∙◌, ◌++◌, ℕ, false, List, [], ◌∷◌, length, Option, None, Some, refl, sym, subst}
+use Rattle.std.specs.Prelude.{ℤ, IfNone, IsTrue}
 use Rattle.exchange.specs.Asked.{MayRequest}
 use Rattle.exchange.specs.declared.request.Request.{Request}
 use Rattle.logical_plan.specs.Gathers.{given_over, windows_of}
@@ -19,40 +19,13 @@ use Rattle.ticks.specs.Walks.{HasTimes, IsInstant, LeadsToTimes, moment_at}
 use Rattle.ticks.specs.declared.grid.Grid.{Grid}
 use Rattle.ticks.specs.declared.walk.Walk.{Walk}
 use Rattle.ticks.specs.declared.walk.WalkMoment.{WalkMoment}
-use Rattle.plan_parts.specs.Adding.{one_added}
+use Rattle.plan_parts.specs.Adding.{each_one, get_last, one_added, own_one}
 use Rattle.plan_parts.specs.Parts.{IsAskedIn, IsPart, itself}
 use Rattle.plan_parts.specs.Gathered.{IsQueryOver}
-use Rattle.plan_parts.specs.Requested.{EachAdded, HaveOwn, asked_with}
+use Rattle.plan_parts.specs.Requested.{asked_with}
 use Rattle.plan_parts.proofs.Askable.{may_request}
 use Rattle.plan_parts.proofs.Giving.{gather_step}
 use Rattle.plan_parts.proofs.Meant.{given_step, rows_served, rows_steps}
-
-only_place : (n k : ℕ) → Contains (n ∷ []) k → k ≡ n
-only_place n k (zero, l, e) = sym e
-only_place n k (suc i, l, e) = absurd (omega arith)
-
-none_in : (k : ℕ) → Contains [] k → ⊥
-none_in k h = absurd (omega (arith, h.1))
-
-own_one : (before : List Request) (r : Request) → HaveOwn before (before ++ r ∷ []) (length before ∷ [])
-own_one before r = record {
-  behind = λ k c. (let e = only_place (length before) k c in omega arith);
-  within = λ k c. (let e = only_place (length before) k c in omega (arith, length-append before (r ∷ [])));
-  apart = (λ h. none_in (length before) h, tt);
-}
-
-get_last : {X : Type 0} (xs : List X) (x : X) → slice_get (xs ++ x ∷ []) (length xs) ≡ Some x
-get_last [] x = refl
-get_last (y ∷ xs) x = get_last xs x
-
-last_is : {X : Type 0} (xs : List X) (x y : X) (k : ℕ) → slice_get (xs ++ x ∷ []) k ≡ Some y → length xs ≤ k → y ≡ x
-last_is [] x y zero e low = cc
-last_is [] x y (suc k) e low = absurd (cc)
-last_is (z ∷ xs) x y zero e low = absurd (omega arith)
-last_is (z ∷ xs) x y (suc k) e low = last_is xs x y k e (omega arith)
-
-each_one : (Is : Request → Type 0) (before : List Request) (r : Request) → Is r → EachAdded Is before (before ++ r ∷ [])
-each_one Is before r is = λ k other e low. subst Is (sym (last_is before r other k e low)) is
 
 -- what is asked for over one grid may be asked for over each with the same ends
 pub leaf_may : WalkMomentIsMoment → (samples : AllSeries) (kept : Kept) (own : Grid) (engines : List AllSeries) (r : Request) (s : Selector) (w : WalkMoment) → asked_selector r.part.kind r.part.expr ≡ Some s → HaveTheirPatterns kept s.rules

@@ -163,6 +163,32 @@ own_both before now from until start end xs ys b h k =
     apart n low high least most (inl e) = omega arith
     apart n low high least most (inr e) = omega arith
 
+-- ---- one request more
+
+only_place : (n k : ℕ) → Contains (n ∷ []) k → k ≡ n
+only_place n k (zero, l, e) = sym e
+only_place n k (suc i, l, e) = absurd (omega arith)
+
+pub own_one : (before : List Request) (r : Request) → HaveOwn before (before ++ r ∷ []) (length before ∷ [])
+own_one before r = record {
+  behind = λ k c. (let e = only_place (length before) k c in omega arith);
+  within = λ k c. (let e = only_place (length before) k c in omega (arith, length-append before (r ∷ [])));
+  apart = (λ h. among_none (length before) h, tt);
+}
+
+pub get_last : {X : Type 0} (xs : List X) (x : X) → slice_get (xs ++ x ∷ []) (length xs) ≡ Some x
+get_last [] x = refl
+get_last (y ∷ xs) x = get_last xs x
+
+last_is : {X : Type 0} (xs : List X) (x y : X) (k : ℕ) → slice_get (xs ++ x ∷ []) k ≡ Some y → length xs ≤ k → y ≡ x
+last_is [] x y zero e low = cc
+last_is [] x y (suc k) e low = absurd (cc)
+last_is (z ∷ xs) x y zero e low = absurd (omega arith)
+last_is (z ∷ xs) x y (suc k) e low = last_is xs x y k e (omega arith)
+
+pub each_one : (Is : Request → Type 0) (before : List Request) (r : Request) → Is r → EachAdded Is before (before ++ r ∷ [])
+each_one Is before r is = λ k other e low. subst Is (sym (last_is before r other k e low)) is
+
 -- ---- one instant
 
 only_one : (first t : Ms) → Contains (first ∷ []) t → t ≡ first
