@@ -10,7 +10,7 @@ use Rattle.label_set.specs.declared.rules.Relabel.TheVariants as relabel
 use Rattle.label_set.specs.declared.rules.Rule.{Rule}
 use Rattle.logical_plan.specs.Lowering.{planned}
 use Rattle.logical_plan.specs.PlanFolds.{at_node, by_node, of-Filter, of-Gather, of-Relabel, of-Select, of-Subquery, of-Window}
-use Rattle.logical_plan.specs.PlanTypes.{is_of, is_unstamped, node_typing, part_gives, typing}
+use Rattle.logical_plan.specs.PlanTypes.{Typing, is_of, is_unstamped, node_typing, part_gives, typing}
 use Rattle.logical_plan.specs.Validity.{Measure, deepest, measured, node_measure}
 use Rattle.logical_plan.specs.declared.nodes.Plan.{Plan}
 use Rattle.logical_plan.specs.declared.nodes.PlanNode.{PlanNode}
@@ -32,14 +32,14 @@ use Rattle.ticks.specs.declared.moment.Ms.{Ms}
 use Rattle.plan_bases.specs.Bases.{HoldsPlan, Lists}
 use Rattle.plan_parts.specs.Courses.{IsLength, IsMomentWithin}
 use Rattle.plan_parts.specs.Parts.{IsChild}
-use Rattle.plan_serving.specs.Asking.{asked_selector, is_rising, is_served_part, rules_in}
+use Rattle.plan_serving.specs.Asking.{asked_rules, asked_selector, is_rising, is_rows_part, is_served_part, rules_in}
 use Rattle.plan_serving.specs.Serving.{Serving, all_rules, are_served, node_points, node_serving_over as node_serving, serving_over as serving}
 use Rattle.window_parts.specs.Over.{IsRangePlan}
 use Rattle.phys_plan.specs.Growth.{CanGrow, HasTree, IsInPlace}
 use Rattle.phys_plan.proofs.Asked.{asked_parts, some_depth}
-use Rattle.phys_plan.proofs.Growths.{told, typing-Relabel}
+use Rattle.phys_plan.proofs.Growths.{told, typing-Gather, typing-Relabel}
 use Rattle.phys_plan.proofs.InPlace.{Fits, holds_below, in_place_below, left_true, right_true}
-use Rattle.phys_plan.proofs.KindsOf.{of_kind, vector_number}
+use Rattle.phys_plan.proofs.KindsOf.{IsNumber, of_kind, vector_number}
 
 abbrev M : Plan → Measure
 M = measured
@@ -80,16 +80,32 @@ whole_grows kept lists p holds h = record {
 
 -- ---- the selectors that engines are asked for
 
--- there is one where a part is served
-pub gather_selector : (kind : PartKind) (expr : Expr) → IsTrue (is_served_part kind expr) → (s : Selector) × (asked_selector kind expr ≡ Some s)
+-- there is one where rows are asked
+pub gather_selector : (kind : PartKind) (expr : Expr) → IsTrue (is_rows_part kind expr) → (s : Selector) × (asked_selector kind expr ≡ Some s)
 gather_selector kind expr h = there (asked_selector kind expr) h
   where
     there : (o : Option Selector) → is_some o ≡ true → (s : Selector) × (o ≡ Some s)
     there None h = absurd (cc)
     there (Some s) h = (s, refl)
 
--- what is served gives a vector
-pub gather_vector : (kind : PartKind) (expr : Expr) → IsTrue (is_served_part kind expr) → is_scalar (part_gives kind) ≡ false
+-- its rules are those of the part
+selector_rules : (kind : PartKind) (expr : Expr) (s : Selector) → asked_selector kind expr ≡ Some s → asked_rules kind expr ≡ s.rules
+selector_rules part.Rows expr s is = ap rules_in is
+selector_rules part.Windows expr s is = absurd (cc)
+selector_rules (part.Partial f by) expr s is = absurd (cc)
+
+-- what is served and gives a scalar or a vector are rows
+rows_alone : (kind : PartKind) (expr : Expr) → IsTrue (is_served_part kind expr) → IsNumber (part_gives kind) → IsTrue (is_rows_part kind expr)
+rows_alone part.Rows expr h number = first (is_rows_part part.Rows expr) h
+  where
+    first : (b : Bool) → IsTrue (b || false) → IsTrue b
+    first true k = refl
+    first false k = k
+rows_alone part.Windows expr h number = absurd (cc)
+rows_alone (part.Partial f by) expr h number = absurd (cc)
+
+-- they give a vector
+pub gather_vector : (kind : PartKind) (expr : Expr) → IsTrue (is_rows_part kind expr) → is_scalar (part_gives kind) ≡ false
 gather_vector part.Rows expr h = refl
 gather_vector part.Windows expr h = absurd (cc)
 gather_vector (part.Partial f by) expr h = absurd (cc)
@@ -107,6 +123,9 @@ module _ (kept : Kept) (lists : Lists) (n : ℕ) where
       (left_true (is_served_part kind expr) (is_rising engines) own, right_true (is_served_part kind expr) (is_rising engines) own)
 
   module _ (p : Plan) (expr : Expr) (kind : PartKind) (engines : List ℕ) (e : p.node ≡ node.Gather expr kind engines) (can : Can p) where
+    pub gather_rows : IsTrue (is_rows_part kind expr)
+    gather_rows = rows_alone kind expr (gather_served p expr kind engines e can).0 (subst (λ (t : Typing). IsNumber t.kind) (typing-Gather p expr kind engines e) can.number)
+
     gather_measured : M p ≡ measure_node (PlanNode-F.Gather expr kind engines) p.at
     gather_measured = measured_there p (node.Gather expr kind engines) e ∙ of-Gather node_measure (λ q. q.node q.at) p.at expr kind engines
 
@@ -120,7 +139,7 @@ module _ (kept : Kept) (lists : Lists) (n : ℕ) where
     pub gather_kept : (s : Selector) → asked_selector kind expr ≡ Some s → HaveTheirPatterns kept s.rules
     gather_kept s is =
         front_of (λ (rule : Rule). HasItsPattern kept rule.kind) s.rules []
-        (subst (λ (o : Option Selector). HaveTheirPatterns kept (rules_in o ++ [])) is
+        (subst (λ (rules : List Rule). HaveTheirPatterns kept (rules ++ [])) (selector_rules kind expr s is)
         (subst (λ (t : Serving). HaveTheirPatterns kept t.rules) (serving_there p (node.Gather expr kind engines) e ∙ of-Gather node_serving (λ q. q.node) p.at expr kind engines) can.placed.served.rules))
 
   -- ---- selectors
@@ -193,7 +212,7 @@ module _ (kept : Kept) (lists : Lists) (n : ℕ) where
         by y h = refl
 
     pub range_plan : (S inner).ranges ≡ true → IsRangePlan kept inner
-    range_plan is = record { ranges = is; rules = inner_placed.served.rules; within = inner_placed.within }
+    range_plan is = record { served = inner_placed.served.windows; ranges = is; rules = inner_placed.served.rules; within = inner_placed.within }
 
     -- ---- subqueries
 

@@ -40,8 +40,8 @@ use ticks::{Grid, Walk, Work, walks_are_listed};
 /// has the start and the end that `@ start()` and `@ end()` stand for. The series of its selectors, and of filters over these, are found
 /// once, before the tree grows. The parts that engines are asked for stand in the tree's exchange,
 /// and a pull asks for at most `batch` steps. It is `Invalid` where the plan isn't typed, where its
-/// patterns aren't kept, where it leads beyond the times, where engines are asked for other parts than the rows of selectors, or where the
-/// walk is neither a grid nor one instant; of a valid plan that kernels serve it never is, and the only error is want of memory. (The
+/// patterns aren't kept, where it leads beyond the times, where engines are asked for other parts than the rows of selectors and, below
+/// functions of windows, the windows of range selectors, or where the walk is neither a grid nor one instant; of a valid plan that kernels serve it never is, and the only error is want of memory. (The
 /// kernels are those of thanos-io/promql-engine.)
 pub fn build<W: Ledger>(
     alloc: Global,

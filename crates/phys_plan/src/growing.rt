@@ -10,6 +10,7 @@ ghost use Rattle.plan_serving.specs.Serving.{serving_over};
 ghost use Rattle.promql_meaning.specs.Selecting.{AllSeries};
 ghost use Rattle.promql_type.specs.Kinds.{is_scalar};
 ghost use Rattle.std.specs.Prelude.{◌≡◌, ℕ, List, true, [], ◌∷◌, map};
+ghost use Rattle.window_parts.specs.Engines.{IsGathered};
 ghost use Rattle.window_parts.specs.Over.{IsArgumentBuilt, IsArgumentOf};
 
 use crate::site::Site;
@@ -22,7 +23,7 @@ use plan_parts::kinds::{
     grouped, number, paired, quantiles, ranked, relabelled, stamped, time,
 };
 use plan_parts::{Course, Part, Unbuilt, gather, instant_selector, repeated, select};
-use window_parts::{inside, points, series};
+use window_parts::{gathered, inside, is_gathered, points, series};
 
 /// The tree of a plan that is asked at the instants of a course. For each part that engines are asked for a request is added to an
 /// exchange, which on an error may only be dropped.
@@ -316,8 +317,61 @@ fn window(
     };
     match &windows.get().node {
         PlanNode::Subquery { .. } => over_points(site, course, p, exchange, patterns),
-        _ => over_series(site, course, p, exchange, patterns),
+        _ => over_ranges(site, course, p, exchange, patterns),
     }
+}
+
+/// The tree of a function of the windows of a range selector, here or at engines; none of another node.
+#[cycle(growing)]
+fn over_ranges(
+    site: &Site<'_>,
+    course: &Course,
+    p: &Plan,
+    exchange: &mut Exchange,
+    patterns: &Patterns<'_>,
+) -> Result<Part, Unbuilt>
+    requires { AreRight patterns.now site.now.bases.now.samples site.now.bases.now.lists }
+    ensures part { (engines : List AllSeries) → IsPartOf (asked_with site.now.bases.now.samples patterns.now site.now.span.now engines) course.now.walk exchange.old.requests exchange.new.requests p.now result }
+    ensures total { (f inner arguments : _) → p.now.node ≡ node.Window f inner arguments → (serving_over inner).ranges ≡ true → (n : ℕ) → IsCourseNear n course.now → CanGrow patterns.now site.now.bases.now.lists n p.now → IsBuilt (is_scalar (typing p.now).kind) result }
+    ensures places { exchange.new.places ≡ exchange.old.places }
+{
+    let PlanNode::Window(_, windows, _) = &p.node else {
+        return Err(Unbuilt::Invalid);
+    };
+    if is_gathered(windows.get()) {
+        return over_gathers(site, course, p, exchange, patterns);
+    }
+    over_series(site, course, p, exchange, patterns)
+}
+
+/// The tree of a function of the windows that engines are asked for; none of another node.
+#[cycle(growing)]
+fn over_gathers(
+    site: &Site<'_>,
+    course: &Course,
+    p: &Plan,
+    exchange: &mut Exchange,
+    patterns: &Patterns<'_>,
+) -> Result<Part, Unbuilt>
+    requires { AreRight patterns.now site.now.bases.now.samples site.now.bases.now.lists }
+    ensures part { (engines : List AllSeries) → IsPartOf (asked_with site.now.bases.now.samples patterns.now site.now.span.now engines) course.now.walk exchange.old.requests exchange.new.requests p.now result }
+    ensures total { (f inner arguments : _) → p.now.node ≡ node.Window f inner arguments → (serving_over inner).ranges ≡ true → IsGathered inner → (n : ℕ) → IsCourseNear n course.now → CanGrow patterns.now site.now.bases.now.lists n p.now → IsBuilt (is_scalar (typing p.now).kind) result }
+    ensures places { exchange.new.places ≡ exchange.old.places }
+{
+    let PlanNode::Window(f, windows, _) = &p.node else {
+        return Err(Unbuilt::Invalid);
+    };
+    let beside = only_argument(site, course, p, exchange, patterns);
+    gathered(
+        site.alloc,
+        site.span,
+        course,
+        *f,
+        windows.get(),
+        beside,
+        exchange,
+        patterns,
+    )
 }
 
 /// The tree of a function of the windows of series; none of another node.
@@ -331,7 +385,7 @@ fn over_series(
 ) -> Result<Part, Unbuilt>
     requires { AreRight patterns.now site.now.bases.now.samples site.now.bases.now.lists }
     ensures part { (engines : List AllSeries) → IsPartOf (asked_with site.now.bases.now.samples patterns.now site.now.span.now engines) course.now.walk exchange.old.requests exchange.new.requests p.now result }
-    ensures total { (f inner arguments : _) → p.now.node ≡ node.Window f inner arguments → (serving_over inner).ranges ≡ true → (n : ℕ) → IsCourseNear n course.now → CanGrow patterns.now site.now.bases.now.lists n p.now → IsBuilt (is_scalar (typing p.now).kind) result }
+    ensures total { (f inner arguments : _) → p.now.node ≡ node.Window f inner arguments → (serving_over inner).ranges ≡ true → (IsGathered inner → ⊥) → (n : ℕ) → IsCourseNear n course.now → CanGrow patterns.now site.now.bases.now.lists n p.now → IsBuilt (is_scalar (typing p.now).kind) result }
     ensures places { exchange.new.places ≡ exchange.old.places }
 {
     let PlanNode::Window(f, windows, _) = &p.node else {

@@ -13,7 +13,7 @@ use Rattle.logical_plan.specs.PlanRules.{filtered, selector_of}
 use Rattle.logical_plan.specs.declared.nodes.Plan.{Plan}
 use Rattle.logical_plan.specs.declared.nodes.PlanNode.{PlanNode}
 use Rattle.logical_plan.specs.declared.nodes.PlanNode.TheVariants as node
-use Rattle.op_window.specs.Rules.{takes_scalar, windows_of_series}
+use Rattle.op_window.specs.Rules.{takes_scalar, windows_of_lent, windows_of_series}
 use Rattle.promql_ast.specs.declared.tree.Moment.{Moment}
 use Rattle.promql_meaning.specs.Filters.{MoreRulesFilterWindows}
 use Rattle.promql_meaning.specs.Givens.{no_marks, step_of}
@@ -26,12 +26,14 @@ use Rattle.promql_meaning.specs.declared.given.Given.TheVariants as given
 use Rattle.promql_meaning.specs.declared.given.Windows.{Windows}
 use Rattle.sample_store.specs.Samples.{chosen}
 use Rattle.series_marks.specs.Reaches.{numbered}
+use Rattle.step_batch.specs.LentWindows.{WindowsAt}
 use Rattle.step_table.specs.Timed.{StepAt, steps_over}
 use Rattle.step_table.specs.declared.step.Step.{Step}
 use Rattle.ticks.specs.Walks.{IsInWindow, moment_at}
 use Rattle.ticks.specs.declared.moment.Ms.{Ms}
 use Rattle.ticks.specs.declared.walk.WalkMoment.{WalkMoment}
 use Rattle.plan_parts.specs.Gives.{Gives, given_as}
+use Rattle.window_parts.proofs.Beneath.{lent_as}
 
 -- ---- scalars
 
@@ -142,6 +144,17 @@ module _ (asked : Asked) where
           rows = window_rows (sym closed j) (sym (moments asked moment walk t timed) j) range.0 (sym these j);
           marks = no_marks;
         })
+        scalar
+
+    -- over windows that are lent, at moments and of a range that are the plan's
+    pub lent_gives : (p inner : Plan) (f : WindowFunction) (arguments : List Plan) (moment : WalkMoment) (range : Ms) (x : ℤ → Step) (none : ℤ → Windows) (ws : ℤ → WindowsAt)
+        → p.node ≡ node.Window f inner arguments → ((t : ℤ) → plan_meaning asked inner t ≡ given.Windows (lent_as (none t) (ws t)))
+        → ((t : ℤ) → (none t).moment ≡ record { 0 = moment_at moment t }) → ((t : ℤ) → (none t).range ≡ range)
+        → ((t : ℤ) → On t → (w : Windows) → windowed_by f t (x t) w ≡ windowed_by f t (scalar_at arguments t) w)
+        → Gives asked On p false false (λ t. windowed_by f t (x t) (windows_of_lent (ws t) moment range (record { 0 = t })))
+    lent_gives p inner f arguments moment range x none ws e i timed reaches scalar =
+        over_windows p inner f arguments x (λ t. windows_of_lent (ws t) moment range (record { 0 = t })) (λ t. lent_as (none t) (ws t)) e i
+        (λ t w j. record { moment = timed t j; range = reaches t j; rules = []; rows = (ws t).rows; marks = (ws t).marks })
         scalar
 
     -- over a subquery, whose inner expression gives these steps at its inner instants

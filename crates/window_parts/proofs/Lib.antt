@@ -1,3 +1,5 @@
+pub mod Askable
+pub mod Beneath
 pub mod Giving
 pub mod Handed
 pub mod Made

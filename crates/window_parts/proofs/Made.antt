@@ -1,11 +1,12 @@
 -- Parts for functions of windows: what may be fed, and what is given.
-use Rattle.std.proofs.Common.{◌≡◌, ◌∙◌, ℕ, ◌<◌, length, get_or, Bool, false, List, [], ◌∷◌, map, Option, Some, None, refl, sym, ap, subst, arith}
+use Rattle.std.proofs.Common.{◌≡◌, ◌∙◌, ℕ, ◌<◌, length, get_or, Bool, false, List, [], ◌∷◌, ◌++◌, map, Option, Some, None, refl, sym, ap, subst, arith}
 use Rattle.std.specs.Prelude.{ℤ, pos, ◌<ℤ◌, IfOk, IfSome, IsTrue, Result, Ok, Err}
 use Rattle.std.proofs.lemmas.List.Elements.{All-contains_itself, recursion_from_All}
 use Rattle.exchange.specs.Asked.{MayRequest}
 use Rattle.exchange.specs.declared.request.Request.{Request}
 use Rattle.func_table.specs.declared.table.Window.{Window as WindowFunction}
 use Rattle.label_set.specs.declared.rules.Rule.{Rule}
+use Rattle.logical_plan.specs.Gathers.{given_over, windows_of}
 use Rattle.logical_plan.specs.Lowering.{planned}
 use Rattle.logical_plan.specs.PlanMeaning.{givens_at, plan_meant}
 use Rattle.logical_plan.specs.declared.nodes.Plan.{Plan}
@@ -14,11 +15,11 @@ use Rattle.op_window.specs.Rules.{takes_scalar}
 use Rattle.plan_tree.specs.Asking.{HaveRequests}
 use Rattle.plan_tree.specs.Worlds.{Gathers, world}
 use Rattle.plan_tree.specs.Nodes.{MayStart, shape_of}
-use Rattle.plan_tree.specs.Shapes.{IsFit, PointsOf, SeriesOf, Shape, StaysInTimes, places_of, rule}
+use Rattle.plan_tree.specs.Shapes.{IsFit, PointsOf, SeriesOf, Shape, StaysInTimes, WindowsOf, passing, places_of, rule}
 use Rattle.plan_tree.specs.Spending.{IsAtMost, IsFresh, nothing}
 use Rattle.plan_work.specs.PlanBounds.{Bounding, arguments_bound, plan_bound}
 use Rattle.plan_work.specs.PlanLaws.{IsBare, NoSelectorCostsNothing}
-use Rattle.plan_work.specs.TreeBounds.{IsWithin, StaysWithin, SubqueriesStay, WindowsStay}
+use Rattle.plan_work.specs.TreeBounds.{GivenWindowsStay, IsWithin, StaysWithin, SubqueriesStay, WindowsStay}
 use Rattle.promql_ast.specs.declared.tree.Moment.{Moment}
 use Rattle.promql_meaning.specs.Laws.{MultiplesAreAll}
 use Rattle.promql_meaning.specs.Meaning.{step_at, windowed_by}
@@ -36,15 +37,19 @@ use Rattle.ticks.specs.declared.walk.Walk.{Walk}
 use Rattle.ticks.specs.declared.walk.Walk.TheVariants.{Multiples}
 use Rattle.ticks.specs.declared.walk.WalkMoment.{WalkMoment}
 use Rattle.xfrac.specs.declared.value.XFrac.{XFrac}
-use Rattle.plan_parts.specs.Adding.{added_then, each_as, each_both, each_none, meant_before, own_both, turned}
+use Rattle.plan_parts.specs.Adding.{added_then, each_as, each_both, each_none, each_one, get_last, meant_before, one_added, own_both, own_one, turned}
 use Rattle.plan_parts.specs.Gathered.{IsQueryOver}
 use Rattle.plan_parts.specs.Gives.{Gives}
 use Rattle.plan_parts.specs.Parts.{IsAskedIn, IsChild, IsPart, OncesStay, below, of_subquery, of_window, of_window_argument, under}
 use Rattle.plan_parts.specs.Requested.{AreAdded, AreMeant, EachAdded, HaveOwn, MayMake}
 use Rattle.plan_parts.specs.declared.parts.Part.{Part}
+use Rattle.plan_serving.specs.Asking.{RangeAsked, asked_range}
+use Rattle.window_parts.specs.Engines.{IsGatherUnder}
 use Rattle.window_parts.specs.Over.{IsArgument, IsOfArgument, IsRangeOf, IsScalarOf}
 use Rattle.window_parts.specs.declared.selectors.RangeSelector.{RangeSelector}
-use Rattle.window_parts.proofs.Giving.{given_step, points_give, series_gives, without_scalar}
+use Rattle.window_parts.proofs.Askable.{given_windows, none_moment, none_range, range_served}
+use Rattle.window_parts.proofs.Beneath.{asked_under, under_gives}
+use Rattle.window_parts.proofs.Giving.{given_step, lent_gives, points_give, series_gives, without_scalar}
 
 pub ok_at : {X E : Type 0} (P : X → Type 0) (r : Result X E) (x : X) → r ≡ Ok x → IfOk r P → P x
 ok_at P r x e h = subst (λ z. IfOk z P) e h
@@ -131,21 +136,14 @@ argument_named : (p inner : Plan) (f : WindowFunction) (arguments : List Plan) �
 argument_named p inner f arguments e before now = each_as (IsOfArgument arguments) (λ (r : Request). IsAskedIn r p) before now
     (λ r of. under of.0 p (of_window_argument f inner [] [] (e ∙ ap (node.Window f inner) of.1)) of.2)
 
-module _ (asked : Asked) (walk : Walk) (before between now : List Request) (p inner : Plan) (f : WindowFunction) (arguments : List Plan) (e : p.node ≡ node.Window f inner arguments) (part scalar : Part)
-    (one : IsScalarOf asked walk between now f arguments scalar) where
-  abbrev S : AllSeries
-  S = asked.samples
-
-  abbrev K : List (Bool × List ℕ)
-  K = asked.kept
-
+module _ (asked : Asked) (walk : Walk) (before now : List Request) (p : Plan) (part : Part) where
   -- a part of this shape
-  shaped : (shape : Shape) → shape_of part.tree ≡ shape → part.scalar ≡ false → part.own ≡ false → IsFit S shape → MayStart S K part.tree → AreAdded before now → HaveOwn before now (places_of shape)
-      → ((times : List Ms) → IsListed walk times → HaveRequests now times part.tree) → EachAdded (λ (r : Request). IsAskedIn r p) before now → ((span : Grid) → IsQueryOver span K asked → MayMake span K before now) → ((t : ℤ) → IsInstant walk t → StaysInTimes shape t)
-      → IsFresh part.tree → ((gathers : Gathers) → AreMeant asked now gathers → OncesStay asked p → Gives asked (IsInstant walk) p false false (rule (world S gathers) K shape)) → StaysWithin asked walk p shape → IsPart asked walk before now p part
+  shaped : (shape : Shape) → shape_of part.tree ≡ shape → part.scalar ≡ false → part.own ≡ false → IsFit asked.samples shape → MayStart asked.samples asked.kept part.tree → AreAdded before now → HaveOwn before now (places_of shape)
+      → ((times : List Ms) → IsListed walk times → HaveRequests now times part.tree) → EachAdded (λ (r : Request). IsAskedIn r p) before now → ((span : Grid) → IsQueryOver span asked.kept asked → MayMake span asked.kept before now) → ((t : ℤ) → IsInstant walk t → StaysInTimes shape t)
+      → IsFresh part.tree → ((gathers : Gathers) → AreMeant asked now gathers → OncesStay asked p → Gives asked (IsInstant walk) p false false (rule (world asked.samples gathers) asked.kept shape)) → StaysWithin asked walk p shape → IsPart asked walk before now p part
   shaped shape is plain rows fit can added owns asks named make times fresh gives within = record {
     sound = record {
-      fit = subst (IsFit S) (sym is) fit;
+      fit = subst (IsFit asked.samples) (sym is) fit;
       can = can;
       times = λ t i. subst (λ (s : Shape). StaysInTimes s t) (sym is) (times t i);
       fresh = fresh;
@@ -156,18 +154,26 @@ module _ (asked : Asked) (walk : Walk) (before between now : List Request) (p in
     named = named;
     make = make;
     scalar = λ h. absurd (cc);
-    gives = λ gathers meant stay. subst (λ (b : Bool). Gives asked (IsInstant walk) p b part.own (rule (world S gathers) K (shape_of part.tree))) (sym plain)
-        (subst (λ (o : Bool). Gives asked (IsInstant walk) p false o (rule (world S gathers) K (shape_of part.tree))) (sym rows)
-        (subst (λ (s : Shape). Gives asked (IsInstant walk) p false false (rule (world S gathers) K s)) (sym is) (gives gathers meant stay)));
+    gives = λ gathers meant stay. subst (λ (b : Bool). Gives asked (IsInstant walk) p b part.own (rule (world asked.samples gathers) asked.kept (shape_of part.tree))) (sym plain)
+        (subst (λ (o : Bool). Gives asked (IsInstant walk) p false o (rule (world asked.samples gathers) asked.kept (shape_of part.tree))) (sym rows)
+        (subst (λ (s : Shape). Gives asked (IsInstant walk) p false false (rule (world asked.samples gathers) asked.kept s)) (sym is) (gives gathers meant stay)));
     within = subst (StaysWithin asked walk p) (sym is) within;
   }
+
+module _ (asked : Asked) (walk : Walk) (before between now : List Request) (p inner : Plan) (f : WindowFunction) (arguments : List Plan) (e : p.node ≡ node.Window f inner arguments) (part scalar : Part)
+    (one : IsScalarOf asked walk between now f arguments scalar) where
+  abbrev S : AllSeries
+  S = asked.samples
+
+  abbrev K : List (Bool × List ℕ)
+  K = asked.kept
 
   pub points_part : WalkMomentIsMoment → MultiplesAreAll → SubqueriesStay → (q : Plan) (moment : Moment) (range step : Ms) (at : WalkMoment) (child : Part) → shape_of part.tree ≡ PointsOf f (Multiples walk at range step) at range step (shape_of child.tree) (shape_of scalar.tree)
       → part.scalar ≡ false → part.own ≡ false → MayStart S K part.tree → ((times : List Ms) → IsListed walk times → HaveRequests now times part.tree) → IsFresh part.tree → IsPart asked (Multiples walk at range step) before between q child
       → IsMomentOf asked moment at → at.closed ≡ moment.closed → pos 0 <ℤ step.0
       → ((t : ℤ) → IsInstant walk t → IsTime t) → inner.node ≡ node.Subquery q range step moment → IsPart asked walk before now p part
   points_part moments law stays q moment range step at child is plain rows can asks fresh r timed closed forward on i =
-      shaped (PointsOf f (Multiples walk at range step) at range step (shape_of child.tree) (shape_of scalar.tree)) is plain rows (r.sound.times, one.scalar, r.sound.fit, one.sound.fit) can (added_then before between now r.added one.added)
+      shaped asked walk before now p part (PointsOf f (Multiples walk at range step) at range step (shape_of child.tree) (shape_of scalar.tree)) is plain rows (r.sound.times, one.scalar, r.sound.fit, one.sound.fit) can (added_then before between now r.added one.added)
       (own_both before now between now before between (places_of (shape_of scalar.tree)) (places_of (shape_of child.tree)) (turned before between now r.added one.added) one.owns r.owns) asks
       (each_both (λ (x : Request). IsAskedIn x p) before now between now before between (turned before between now r.added one.added) (argument_named p inner f arguments e between now one.named)
       (each_as (λ (x : Request). IsAskedIn x q) (λ (x : Request). IsAskedIn x p) before between (λ x asked_in. under inner p (of_window f arguments e) (under q inner (of_subquery range step moment i) asked_in)) r.named))
@@ -188,9 +194,45 @@ module _ (asked : Asked) (walk : Walk) (before now : List Request) (p inner : Pl
       → ((t : ℤ) → IsInstant walk t → IsTime t) → ((t : ℤ) → IsInstant walk t → HasTimes (moment_at at t) selector.range.0) → IsRangeOf asked inner selector → IsPart asked walk before now p part
   series_part moments stays selector series at is plain rows can asks fresh selected these timed closed forward on times i =
       let there : AreThere asked.samples series = selected_there asked.kept selector.rules asked.samples series selected in
-      shaped asked walk before before now p inner f arguments e part scalar one (SeriesOf series f at selector.range (shape_of scalar.tree)) is plain rows (there, forward, one.scalar, one.sound.fit) can one.added one.owns asks
+      shaped asked walk before now p part (SeriesOf series f at selector.range (shape_of scalar.tree)) is plain rows (there, forward, one.scalar, one.sound.fit) can one.added one.owns asks
       (argument_named p inner f arguments e before now one.named) one.make
       (λ t w. (on t w, times t w, one.sound.times t w)) fresh
       (λ gathers meant stay. series_gives asked (IsInstant walk) moments p inner f arguments selector.rules selector.moment selector.range series at (rule (world asked.samples gathers) asked.kept (shape_of scalar.tree)) these timed closed e i.gives
       (one.gives gathers meant (argument_stays asked p inner f arguments e stay)))
       (stays asked walk p inner f arguments selector.rules selector.moment selector.range series at (shape_of scalar.tree) e i.within there these timed closed one.within)
+
+-- ---- windows that engines give
+
+-- a request is added for them, behind those of the scalar
+module _ (asked : Asked) (walk : Walk) (before between : List Request) (p inner : Plan) (f : WindowFunction) (arguments : List Plan) (e : p.node ≡ node.Window f inner arguments) (part scalar : Part)
+    (one : IsScalarOf asked walk before between f arguments scalar) (r : Request) where
+  -- the requests by then
+  abbrev with_one : List Request
+  with_one = between ++ r ∷ []
+
+  pub gathered_part : WalkMomentIsMoment → GivenWindowsStay → (rules : Option (List Rule)) (a : RangeAsked) → IsGatherUnder r.part r.engines rules inner → asked_range r.part.kind r.part.expr ≡ Some a → a.range ≡ r.range
+      → IsMomentOf asked a.selector.moment r.moment → shape_of part.tree ≡ WindowsOf (length between) f r.moment r.range rules (shape_of scalar.tree) → part.scalar ≡ false → part.own ≡ false
+      → MayStart asked.samples asked.kept part.tree → ((times : List Ms) → IsListed walk times → HaveRequests with_one times part.tree) → IsFresh part.tree
+      → ((span : Grid) → IsQueryOver span asked.kept asked → MayRequest span asked.kept r) → ((t : ℤ) → IsInstant walk t → IsTime t) → ((t : ℤ) → IsInstant walk t → HasTimes (moment_at r.moment t) r.range.0)
+      → IsPart asked walk before with_one p part
+  gathered_part moments stays rules a under_it asks reaches timed is plain rows can requests fresh may on times =
+      let added = one_added between r in
+      let turn = turned before between with_one one.added added in
+      let place = length between in
+      let in_p : IsAskedIn r p = under inner p (of_window f arguments e) (asked_under r under_it) in
+      shaped asked walk before with_one p part (WindowsOf place f r.moment r.range rules (shape_of scalar.tree)) is plain rows (one.scalar, one.sound.fit) can (added_then before between with_one one.added added)
+      (own_both before with_one between with_one before between (place ∷ []) (places_of (shape_of scalar.tree)) turn (own_one between r) one.owns) requests
+      (each_both (λ (x : Request). IsAskedIn x p) before with_one between with_one before between turn (each_one (λ (x : Request). IsAskedIn x p) between r in_p) (argument_named p inner f arguments e before between one.named))
+      (λ span over. each_both (MayRequest span asked.kept) before with_one between with_one before between turn (each_one (MayRequest span asked.kept) between r (may span over)) (one.make span over))
+      (λ t w. (on t w, times t w, one.sound.times t w)) fresh
+      (λ gathers meant stay.
+      let expr = r.part.expr in
+      let kind = r.part.kind in
+      let given_at = λ t. meant place r t (get_last between r) (range_served kind expr a asks) ∙ given_windows asked t kind expr a asks (gathers place t) in
+      lent_gives asked (IsInstant walk) p inner f arguments r.moment r.range (rule (world asked.samples gathers) asked.kept (shape_of scalar.tree)) (λ t. windows_of (given_over asked expr t []))
+      (λ t. passing asked.kept rules (gathers place t).windows) e
+      (λ t. under_gives asked r.part r.engines under_it t (windows_of (given_over asked expr t [])) (gathers place t).windows (given_at t))
+      (λ t. none_moment asked t kind expr a asks ∙ (λ j. record { 0 = sym (moments asked a.selector.moment r.moment t timed) j }))
+      (λ t. none_range asked t kind expr a asks ∙ reaches)
+      (one.gives gathers (meant_before asked between with_one gathers added meant) (argument_stays asked p inner f arguments e stay)))
+      (stays asked walk p inner f arguments place r.moment r.range rules (shape_of scalar.tree) e one.within)

@@ -94,9 +94,10 @@ pub record IsRangeOf (asked : Asked) (p : Plan) (selector : RangeSelector) : Typ
   pub gives : GivesRange asked p selector
   pub within : CostsAtMost asked selector.rules selector.moment selector.range p
 
--- a plan gives the windows of a range selector, or of one under filters, whose times and length lie within the limits of the language and
--- whose patterns are kept
+-- a plan gives the windows of a range selector, here or at engines, or of one under filters, whose times and length lie within the limits of
+-- the language and whose patterns are kept, and kernels serve it
 pub record IsRangePlan (kept : Kept) (p : Plan) : Type 0 where
+  pub served : (serving_over p).served ≡ true
   pub ranges : (serving_over p).ranges ≡ true
   pub rules : HaveTheirPatterns kept (serving_over p).rules
   pub within : AreWithin (λ rules. ⊤) hundred_years time_limit (measured p).parts

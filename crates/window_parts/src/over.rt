@@ -16,6 +16,7 @@ ghost use Rattle.std.specs.Prelude.{◌≡◌, ◌+◌, ◌<◌, ◌<ℤ◌, ℕ
 ghost use Rattle.ticks.specs.Walks.{HasTimes, IsInstant, moment_at};
 ghost use Rattle.ticks.specs.declared.moment.Ms.{Ms};
 ghost use Rattle.ticks.specs.declared.walk.Walk.TheVariants.{Multiples};
+ghost use Rattle.window_parts.specs.Engines.{IsGathered};
 ghost use Rattle.window_parts.specs.Over.{IsArgumentBuilt, IsArgumentOf, IsInside, IsRangeOf, IsRangePlan, IsScalarOf, IsSelectorWithin};
 
 use crate::scalars::scalar_for;
@@ -34,7 +35,7 @@ use subquery_rows::SubqueryRows;
 use ticks::{Grid, Ms, WalkMoment, walks_are_listed};
 
 /// Whether the windows that end at the moments of the instants lie within the times, and have a length. It takes no memory.
-fn are_within(course: &Course, moment: &WalkMoment, range: Ms) -> bool
+pub(crate) fn are_within(course: &Course, moment: &WalkMoment, range: Ms) -> bool
     ensures forward { IsTrue result → pos 0 <ℤ range.0 }
     ensures times { IsTrue result → (t : ℤ) → IsInstant course.now.walk t → HasTimes (moment_at moment.now t) range.0 }
     ensures near { (n : ℕ) → n < deepest → ReachBack n course.now moment.now range → IsTrue result }
@@ -92,7 +93,7 @@ pub fn series(
     argument: Result<Option<Part>, Unbuilt>,
 ) -> Result<Part, Unbuilt>
     ensures part { (kept : Kept) (engines : List AllSeries) (before now : List Request) (p : Plan) (arguments : List Plan) → AreRight kept bases.now.samples bases.now.lists → p.node ≡ node.Window f windows.now arguments → IsArgumentOf (asked_with bases.now.samples kept span.now engines) course.now.walk before now arguments argument → IsPartOf (asked_with bases.now.samples kept span.now engines) course.now.walk before now p result }
-    ensures total { (kept : Kept) (n : ℕ) (given : Kind) (kinds : List Kind) → n < deepest → IsCourseNear n course.now → IsRangePlan kept windows.now → HoldsPlan kept bases.now.lists windows.now → is_window f given kinds ≡ true → IsArgumentBuilt kinds argument → IsBuilt false result }
+    ensures total { (kept : Kept) (n : ℕ) (given : Kind) (kinds : List Kind) → n < deepest → IsCourseNear n course.now → IsRangePlan kept windows.now → (IsGathered windows.now → ⊥) → HoldsPlan kept bases.now.lists windows.now → is_window f given kinds ≡ true → IsArgumentBuilt kinds argument → IsBuilt false result }
 {
     let argument = argument?;
     let scalar = scalar_for(alloc, f, argument)?;

@@ -3,6 +3,7 @@ ghost use Rattle.op_labels.specs.Rules.{Kept};
 ghost use Rattle.plan_bases.specs.Leaves.{IsLeafOf};
 ghost use Rattle.promql_meaning.specs.Selecting.{Asked};
 ghost use Rattle.std.specs.Prelude.{◌≡◌, ◌++◌, IfOk, IfSome, IsSomeAnd};
+ghost use Rattle.window_parts.specs.Engines.{IsGathered};
 ghost use Rattle.window_parts.specs.Over.{IsRangeOf, IsRangePlan, IsSelectorWithin};
 
 use holders::Items;
@@ -44,7 +45,7 @@ impl RangeSelector {
 pub(crate) fn range_selector(p: &Plan) -> Result<Option<RangeSelector>, AllocError>
     ensures range { IfOk result (λ o. IfSome o (λ s. (asked : Asked) → IsRangeOf asked p.now s)) }
     ensures leaf { IfOk result (λ o. IfSome o (λ s. IsLeafOf p.now s.rules)) }
-    ensures total { (kept : Kept) → IsRangePlan kept p.now → IfOk result (λ o. IsSomeAnd o (IsSelectorWithin kept)) }
+    ensures total { (kept : Kept) → IsRangePlan kept p.now → (IsGathered p.now → ⊥) → IfOk result (λ o. IsSomeAnd o (IsSelectorWithin kept)) }
 {
     more_rules_filter();
     range_selectors_cost();

@@ -21,12 +21,13 @@ use Rattle.promql_ast.specs.declared.tree.Moment.{Moment}
 use Rattle.promql_type.specs.Kinds.{is_scalar}
 use Rattle.ticks.specs.declared.moment.Ms.{Ms}
 use Rattle.plan_serving.specs.Serving.{serving_over as serving}
+use Rattle.window_parts.specs.Engines.{IsGathered}
 use Rattle.window_parts.specs.Over.{IsArgument, IsArgumentBuilt, IsOfKinds, IsRangePlan}
 use Rattle.phys_plan.specs.Growth.{IsChange, IsRetyping, IsTwofold}
 use Rattle.phys_plan.proofs.Arguments.{element_arguments, none_of, one_at, one_of, two_at, two_of, window_arguments, window_inner}
 use Rattle.phys_plan.proofs.Growths.{N, T, as_kind, few-Element, few-Group, few-Window, grows-Absent, grows-Buckets, grows-Element, grows-Element-one, grows-Element-two, grows-Filter, grows-Group, grows-Group-two, grows-Once, grows-Pair, grows-Ratio, grows-Relabel, grows-ScalarOf, grows-Set, grows-Sort, grows-Stamp, grows-VectorOf, grows-Window, no_windows, scalar-Buckets, takes-Element, takes-Group, takes-Window, typing-Absent, typing-Buckets, typing-Element, typing-Group, typing-Number, typing-Once, typing-Pair, typing-Range, typing-Ratio, typing-Relabel, typing-ScalarOf, typing-Select, typing-Set, typing-Sort, typing-Stamp, typing-Subquery, typing-Time, typing-VectorOf, typing-Window, vector-Filter, typing-Gather}
 use Rattle.phys_plan.proofs.Refused.{no_change, no_retyping, no_twofold, none_some}
-use Rattle.phys_plan.proofs.Windowed.{filter_kept, gather_few, gather_kept, gather_selector, gather_served, gather_vector, gather_within, inner_holds, range_plan, relabel_kept, select_few, select_kept, select_within, subquery_grows, subquery_within, window_few, windows_range}
+use Rattle.phys_plan.proofs.Windowed.{filter_kept, gather_few, gather_kept, gather_rows, gather_selector, gather_served, gather_vector, gather_within, inner_holds, range_plan, relabel_kept, select_few, select_kept, select_within, subquery_grows, subquery_within, window_few, windows_range}
 use Rattle.exchange.specs.declared.request.Request.{Request}
 use Rattle.plan_parts.specs.Requested.{asked_with}
 use Rattle.plan_parts.specs.declared.parts.Part.{Part}
@@ -225,6 +226,17 @@ over_series-returns-clause-part t c = λ engines.
     let given = (c.only_argument-beside.ensures.part engines f c.in-Window.windows arguments c.in-Window.is) in
     let is = c.in-Window.is ∙ ap (λ (windows : Plan). node.Window f windows arguments) (sym c.get.ensures) in
     (c.series.ensures.part c.args.patterns.now engines before now p arguments c.requires is given)
+
+pub over_gathers-returns-clause-part : goal.over_gathers-returns-clause-part
+over_gathers-returns-clause-part t c = λ engines.
+    let store = c.args.site.now.bases.now.samples in
+    let p = c.args.p.now in
+    let before = c.args.exchange.now.requests in
+    let f = c.in-Window.f in
+    let arguments = c.in-Window.field-2 in
+    let given = (c.only_argument-beside.ensures.part engines f c.in-Window.windows arguments c.in-Window.is) in
+    let is = c.in-Window.is ∙ ap (λ (windows : Plan). node.Window f windows arguments) (sym c.get.ensures) in
+    (c.gathered.ensures.part store engines before p arguments is given)
 
 pub over_points-returns-clause-part : goal.over_points-returns-clause-part
 over_points-returns-clause-part t c = λ engines.
@@ -499,9 +511,10 @@ grown-returns-in-Gather-clause-total t c = λ n near can.
     let kept = c.args.patterns.now in
     let lists = c.args.site.now.bases.now.lists in
     let served = gather_served kept lists n p it.expr it.kind it.asked it.is can in
-    let s = gather_selector it.kind it.expr served.0 in
+    let rows = gather_rows kept lists n p it.expr it.kind it.asked it.is can in
+    let s = gather_selector it.kind it.expr rows in
     as_kind p (N (PlanNode-F.Gather it.expr it.kind it.asked)) c.gather.result (typing-Gather p it.expr it.kind it.asked it.is)
-    (subst (λ (b : Bool). IsBuilt b c.gather.result) (sym (gather_vector it.kind it.expr served.0)) (c.gather.ensures.total n s.0 (gather_few kept lists n p it.expr it.kind it.asked it.is can) near s.1 served.1 (gather_kept kept lists n p it.expr it.kind it.asked it.is can s.0 s.1) (gather_within kept lists n p it.expr it.kind it.asked it.is can s.0 s.1)))
+    (subst (λ (b : Bool). IsBuilt b c.gather.result) (sym (gather_vector it.kind it.expr rows)) (c.gather.ensures.total n s.0 (gather_few kept lists n p it.expr it.kind it.asked it.is can) near s.1 served.1 (gather_kept kept lists n p it.expr it.kind it.asked it.is can s.0 s.1) (gather_within kept lists n p it.expr it.kind it.asked it.is can s.0 s.1)))
 
 pub over_one-returns-in-Stamp-clause-total : goal.over_one-returns-in-Stamp-clause-total
 over_one-returns-in-Stamp-clause-total t c = λ change n near can.
@@ -687,10 +700,24 @@ window-returns-in_default-node-clause-total t c = λ f inner arguments e n near 
     let w = c.in-Window in
     let none : (q : Plan) (range step : Ms) (moment : Moment) → w.windows.node ≡ node.Subquery q range step moment → ⊥ =
     λ q range step moment i. c.in_default-node.not-Subquery q range step moment (ap (λ (q : Plan). q.node) c.get.ensures ∙ i) in
-    c.over_series.ensures.total w.field-0 w.windows w.field-2 w.is (windows_range c.args.patterns.now c.args.site.now.bases.now.lists n p w.field-0 w.windows w.field-2 w.is can none) n near can
+    c.over_ranges.ensures.total w.field-0 w.windows w.field-2 w.is (windows_range c.args.patterns.now c.args.site.now.bases.now.lists n p w.field-0 w.windows w.field-2 w.is can none) n near can
+
+pub over_ranges-returns-then-is_gathered-clause-total : goal.over_ranges-returns-then-is_gathered-clause-total
+over_ranges-returns-then-is_gathered-clause-total t c = λ f inner arguments e ranges n near can.
+    let w = c.in-Window in
+    let same = window_inner f w.field-0 inner w.windows arguments w.field-2 (sym e ∙ w.is) in
+    let there : IsGathered w.windows = subst IsGathered c.get.ensures (c.if-is_gathered.ensures.0 refl) in
+    c.over_gathers.ensures.total w.field-0 w.windows w.field-2 w.is (subst (λ (q : Plan). (serving q).ranges ≡ true) same ranges) there n near can
+
+pub over_ranges-returns-else-is_gathered-clause-total : goal.over_ranges-returns-else-is_gathered-clause-total
+over_ranges-returns-else-is_gathered-clause-total t c = λ f inner arguments e ranges n near can.
+    let w = c.in-Window in
+    let same = window_inner f w.field-0 inner w.windows arguments w.field-2 (sym e ∙ w.is) in
+    let none : IsGathered w.windows → ⊥ = λ g. (let no : false ≡ true = c.if-is_gathered.ensures.1 (subst IsGathered (sym c.get.ensures) g) in absurd (cc)) in
+    c.over_series.ensures.total w.field-0 w.windows w.field-2 w.is (subst (λ (q : Plan). (serving q).ranges ≡ true) same ranges) none n near can
 
 pub over_series-returns-clause-total : goal.over_series-returns-clause-total
-over_series-returns-clause-total t c = λ f' inner' arguments' e' ranges' n near can.
+over_series-returns-clause-total t c = λ f' inner' arguments' e' ranges' none' n near can.
     let p = c.args.p.now in
     let f = c.in-Window.f in
     let windows = c.get.result.now in
@@ -702,9 +729,28 @@ over_series-returns-clause-total t c = λ f' inner' arguments' e' ranges' n near
     let j : node.Window f' inner' arguments' ≡ node.Window f c.in-Window.windows arguments = sym e' ∙ c.in-Window.is in
     let same = window_inner f' f inner' c.in-Window.windows arguments' arguments j in
     let ranges : (serving windows).ranges ≡ true = subst (λ (q : Plan). (serving q).ranges ≡ true) (same ∙ sym c.get.ensures) ranges' in
+    let none : IsGathered windows → ⊥ = λ g. none' (subst IsGathered (c.get.ensures ∙ sym same) g) in
     let plan = range_plan kept lists n p f windows arguments e can ranges in
     as_kind p (N (PlanNode-F.Window f (T windows) (map T arguments))) c.series.result (typing-Window p f windows arguments e)
-    (c.series.ensures.total kept n (T windows).kind (kinds_of (map T arguments)) (window_few kept lists n p f windows arguments e can) near plan (inner_holds kept lists n p f windows arguments e can) (takes-Window kept lists n p f windows arguments e can) beside)
+    (c.series.ensures.total kept n (T windows).kind (kinds_of (map T arguments)) (window_few kept lists n p f windows arguments e can) near plan none (inner_holds kept lists n p f windows arguments e can) (takes-Window kept lists n p f windows arguments e can) beside)
+
+pub over_gathers-returns-clause-total : goal.over_gathers-returns-clause-total
+over_gathers-returns-clause-total t c = λ f' inner' arguments' e' ranges' there' n near can.
+    let p = c.args.p.now in
+    let f = c.in-Window.f in
+    let windows = c.get.result.now in
+    let arguments = c.in-Window.field-2 in
+    let kept = c.args.patterns.now in
+    let lists = c.args.site.now.bases.now.lists in
+    let e = c.in-Window.is ∙ ap (λ (q : Plan). node.Window f q arguments) (sym c.get.ensures) in
+    let beside = c.only_argument-beside.ensures.total n f c.in-Window.windows arguments c.in-Window.is near can in
+    let j : node.Window f' inner' arguments' ≡ node.Window f c.in-Window.windows arguments = sym e' ∙ c.in-Window.is in
+    let same = window_inner f' f inner' c.in-Window.windows arguments' arguments j in
+    let ranges : (serving windows).ranges ≡ true = subst (λ (q : Plan). (serving q).ranges ≡ true) (same ∙ sym c.get.ensures) ranges' in
+    let there : IsGathered windows = subst IsGathered (same ∙ sym c.get.ensures) there' in
+    let plan = range_plan kept lists n p f windows arguments e can ranges in
+    as_kind p (N (PlanNode-F.Window f (T windows) (map T arguments))) c.gathered.result (typing-Window p f windows arguments e)
+    (c.gathered.ensures.total n (T windows).kind (kinds_of (map T arguments)) (window_few kept lists n p f windows arguments e can) near plan there (takes-Window kept lists n p f windows arguments e can) beside)
 
 pub over_points-returns-clause-total : goal.over_points-returns-clause-total
 over_points-returns-clause-total t c = λ f' inner' arguments' q' range' step' moment' e' i' n near can.
@@ -877,7 +923,13 @@ pub window-returns-in_default-clause-total : goal.window-returns-in_default-clau
 window-returns-in_default-clause-total t c = λ f inner arguments is n near can. absurd (c.in_default.not-Window f inner arguments is)
 
 pub over_series-returns-in_default-clause-total : goal.over_series-returns-in_default-clause-total
-over_series-returns-in_default-clause-total t c = λ f inner arguments is ranges n near can. absurd (c.in_default.not-Window f inner arguments is)
+over_series-returns-in_default-clause-total t c = λ f inner arguments is ranges none n near can. absurd (c.in_default.not-Window f inner arguments is)
+
+pub over_ranges-returns-in_default-clause-total : goal.over_ranges-returns-in_default-clause-total
+over_ranges-returns-in_default-clause-total t c = λ f inner arguments is ranges n near can. absurd (c.in_default.not-Window f inner arguments is)
+
+pub over_gathers-returns-in_default-clause-total : goal.over_gathers-returns-in_default-clause-total
+over_gathers-returns-in_default-clause-total t c = λ f inner arguments is ranges there n near can. absurd (c.in_default.not-Window f inner arguments is)
 
 pub over_points-returns-in_default-clause-total : goal.over_points-returns-in_default-clause-total
 over_points-returns-in_default-clause-total t c = λ f inner arguments q range step moment is i n near can. absurd (c.in_default.not-Window f inner arguments is)

@@ -12,6 +12,7 @@ use Rattle.plan_bases.specs.LeafLaws.{filter_is_leaf, range_is_leaf}
 use Rattle.plan_bases.specs.Leaves.{IsLeafOf}
 use Rattle.plan_work.specs.PlanLaws.{CostsAtMost}
 use Rattle.promql_meaning.specs.Selecting.{Asked}
+use Rattle.window_parts.specs.Engines.{IsGathered}
 use Rattle.window_parts.specs.Over.{IsRangeOf, IsRangePlan, IsSelectorWithin}
 use Rattle.window_parts.specs.declared.selectors.RangeSelector.{RangeSelector}
 use Rattle.window_parts.proofs.Giving.{filter_gives, range_gives}
@@ -61,7 +62,7 @@ returns-in_ok-filtered-in-Some-clause-leaf t c =
     subst (IsLeafOf c.args.p.now) (sym c.in_ok-filtered-in-Some.ensures.rules) (filter_is_leaf c.args.p.now c.in-Filter.base selector.rules c.in-Filter.rules c.in-Filter.is below)
 
 pub returns-in_ok-copy-in-Range-clause-total : goal.returns-in_ok-copy-in-Range-clause-total
-returns-in_ok-copy-in-Range-clause-total t c = λ kept is.
+returns-in_ok-copy-in-Range-clause-total t c = λ kept is none.
     let p = c.args.p.now in
     let r = c.in-Range in
     let limits = range_limits kept p r.rules r.moment r.range r.is is in
@@ -72,14 +73,14 @@ returns-in_ok-copy-in-Range-clause-total t c = λ kept is.
     }
 
 pub returns-in_ok-filtered-in-Some-clause-total : goal.returns-in_ok-filtered-in-Some-clause-total
-returns-in_ok-filtered-in-Some-clause-total t c = λ kept is.
+returns-in_ok-filtered-in-Some-clause-total t c = λ kept is none.
     let p = c.args.p.now in
     let base = c.in-Filter.base in
     let more = c.in-Filter.rules in
     let selector = c.in-Some.selector in
     let made = c.in_ok-filtered-in-Some.ensures in
     let below : IsRangePlan kept c.get.result.now = subst (IsRangePlan kept) (sym c.get.ensures) (filter_base kept p base more c.in-Filter.is is) in
-    let found : IsSelectorWithin kept selector = subst (λ (o : Option RangeSelector). IsSomeAnd o (IsSelectorWithin kept)) c.in-Some.is (c.in_ok-selector-in-Filter.ensures.total kept below) in
+    let found : IsSelectorWithin kept selector = subst (λ (o : Option RangeSelector). IsSomeAnd o (IsSelectorWithin kept)) c.in-Some.is (c.in_ok-selector-in-Filter.ensures.total kept below (λ g. none (IsGathered.under p c.in-Filter.base c.in-Filter.rules c.in-Filter.is (subst IsGathered c.get.ensures g)))) in
     record {
       rules = subst (HaveTheirPatterns kept) (sym made.rules) (both_of (λ (rule : Rule). HasItsPattern kept rule.kind) selector.rules more found.rules (filter_rules kept p base more c.in-Filter.is is));
       timed = subst IsMomentWithin (sym made.moment) found.timed;
@@ -87,10 +88,10 @@ returns-in_ok-filtered-in-Some-clause-total t c = λ kept is.
     }
 
 pub returns-in-None-clause-total : goal.returns-in-None-clause-total
-returns-in-None-clause-total t c = λ kept is.
+returns-in-None-clause-total t c = λ kept is none.
     let p = c.args.p.now in
     let below : IsRangePlan kept c.get.result.now = subst (IsRangePlan kept) (sym c.get.ensures) (filter_base kept p c.in-Filter.base c.in-Filter.rules c.in-Filter.is is) in
-    subst (λ (o : Option RangeSelector). IsSomeAnd o (IsSelectorWithin kept)) c.in-None.is (c.in_ok-selector-in-Filter.ensures.total kept below)
+    subst (λ (o : Option RangeSelector). IsSomeAnd o (IsSelectorWithin kept)) c.in-None.is (c.in_ok-selector-in-Filter.ensures.total kept below (λ g. none (IsGathered.under p c.in-Filter.base c.in-Filter.rules c.in-Filter.is (subst IsGathered c.get.ensures g))))
 
 pub returns-in_default-clause-total : goal.returns-in_default-clause-total
-returns-in_default-clause-total t c = λ kept is. absurd (no_range kept c.args.p.now c.in_default.not-Range c.in_default.not-Filter is)
+returns-in_default-clause-total t c = λ kept is none. absurd (no_range kept c.args.p.now c.in_default.not-Range c.in_default.not-Filter (λ expr kind engines e. none (IsGathered.itself c.args.p.now expr kind engines e)) is)
