@@ -68,7 +68,7 @@ rolled_range selector range =
     ap roll-Node (sym out) ∙ roll-out-Node (ast.Range selector range)
 
 -- the part is one of windows, whose node is a range selector
-windows_kind : (kind : PartKind) (e : Expr) (a : RangeAsked) → asked_range kind e ≡ Some a → kind ≡ part.Windows
+pub windows_kind : (kind : PartKind) (e : Expr) (a : RangeAsked) → asked_range kind e ≡ Some a → kind ≡ part.Windows
 windows_kind part.Rows e a is = absurd (cc)
 windows_kind part.Windows e a is = refl
 windows_kind (part.Partial f by) e a is = absurd (cc)
