@@ -1,5 +1,5 @@
 -- The windows of a range selector may be asked for: they need what it does; and what it gives over no samples.
-use Rattle.std.proofs.Common.{◌≡◌, ◌∙◌, ◌++◌, ℕ, List, [], ◌∷◌, Bool, true, false, None, Some, refl, sym, ap, subst}
+use Rattle.std.proofs.Common.{◌≡◌, ◌∙◌, ◌++◌, ℕ, List, [], ◌∷◌, Bool, true, false, Option, None, Some, refl, sym, ap, subst}
 use Rattle.std.specs.Prelude.{ℤ, ◌-ℤ◌, ◌<ℤ◌, ◌||◌, pos, IsTrue, is_some}
 use Rattle.exchange.specs.Asked.{MayRequest}
 use Rattle.exchange.specs.Requests.{ask_of}
@@ -9,7 +9,7 @@ use Rattle.match_rule.specs.Patterns.{HaveTheirPatterns}
 use Rattle.op_labels.specs.Rules.{Kept}
 use Rattle.plan_parts.specs.Gathered.{IsQueryOver}
 use Rattle.plan_parts.specs.Requested.{asked_with, given_by}
-use Rattle.plan_serving.specs.Asking.{RangeAsked, asked_range, asked_rules, is_range_part, is_rows_part, is_served_part, range_in}
+use Rattle.plan_serving.specs.Asking.{RangeAsked, asked_range, asked_rules, is_range_part, is_rows_part, is_served_part, range_in, rules_in_range}
 use Rattle.plan_tree.specs.Worlds.{Gathered}
 use Rattle.promql_ast.specs.Parts.{Part as Piece, node_parts, parts_of}
 use Rattle.promql_ast.specs.declared.tree.Expr.{Expr}
@@ -85,7 +85,7 @@ range_node e a is = sym (roll-out-Node e.node) ∙ is_range (λ y b. roll-Node y
 
 pub range_rules : (kind : PartKind) (e : Expr) (a : RangeAsked) → asked_range kind e ≡ Some a → asked_rules kind e ≡ a.selector.rules
 range_rules part.Rows e a is = absurd (cc)
-range_rules part.Windows e a is = is_range (λ y b. asked_rules part.Windows e ≡ b.selector.rules) (λ selector range. refl) (out-Node e.node) a is
+range_rules part.Windows e a is = ap rules_in_range is
 range_rules (part.Partial f by) e a is = absurd (cc)
 
 pub range_parts : (kind : PartKind) (e : Expr) (a : RangeAsked) → asked_range kind e ≡ Some a → parts_of e ≡ Piece.of_rules a.selector.rules ∷ Piece.of_moment a.selector.moment ∷ Piece.of_length a.range ∷ []
@@ -95,7 +95,7 @@ range_parts kind e a is =
 
 -- kernels serve it
 pub range_served : (kind : PartKind) (e : Expr) (a : RangeAsked) → asked_range kind e ≡ Some a → IsTrue (is_served_part kind e)
-range_served kind e a is = second (is_rows_part kind e) (is_range_part kind e) (ap (λ (o : _). is_some o) is)
+range_served kind e a is = second (is_rows_part kind e) (is_range_part kind e) (ap (λ (o : Option RangeAsked). is_some o) is)
   where
     second : (b c : Bool) → IsTrue c → IsTrue (b || c)
     second true c h = refl

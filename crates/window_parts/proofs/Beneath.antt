@@ -68,12 +68,12 @@ asked_under r (IsGatherUnder.under rules own p base more i same below) = IsAsked
 module _ {X : Type 0} (p q both : X → Bool) (same : (x : X) → both x ≡ (p x && q x)) where
   filter_twice : (xs : List X) → filter q (filter p xs) ≡ filter both xs
   filter_twice [] = refl
-  filter_twice (x ∷ xs) = by (p x) (q x) refl refl ∙ ap (λ (b : Bool). cond b (x ∷ filter both xs) (filter both xs)) (sym (same x))
+  filter_twice (x ∷ xs) = by (p x) (q x) refl refl (filter_twice xs) ∙ ap (λ (b : Bool). cond b (x ∷ filter both xs) (filter both xs)) (sym (same x))
     where
-      by : (a b : Bool) → p x ≡ a → q x ≡ b → filter q (cond a (x ∷ filter p xs) (filter p xs)) ≡ cond (a && b) (x ∷ filter both xs) (filter both xs)
-      by true true e f = ap (λ (c : Bool). cond c (x ∷ filter q (filter p xs)) (filter q (filter p xs))) f ∙ ap (λ (ys : List X). x ∷ ys) (filter_twice xs)
-      by true false e f = ap (λ (c : Bool). cond c (x ∷ filter q (filter p xs)) (filter q (filter p xs))) f ∙ filter_twice xs
-      by false b e f = filter_twice xs
+      by : (a b : Bool) → p x ≡ a → q x ≡ b → filter q (filter p xs) ≡ filter both xs → filter q (cond a (x ∷ filter p xs) (filter p xs)) ≡ cond (a && b) (x ∷ filter both xs) (filter both xs)
+      by true true e f rest = ap (λ (c : Bool). cond c (x ∷ filter q (filter p xs)) (filter q (filter p xs))) f ∙ ap (λ (ys : List X). x ∷ ys) rest
+      by true false e f rest = ap (λ (c : Bool). cond c (x ∷ filter q (filter p xs)) (filter q (filter p xs))) f ∙ rest
+      by false b e f rest = rest
 
 module _ (kept : Kept) (rules more : List Rule) where
   pass_both : (names : Names) → labels_pass kept (rules ++ more) names ≡ (labels_pass kept rules names && labels_pass kept more names)

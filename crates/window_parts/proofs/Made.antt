@@ -228,7 +228,7 @@ module _ (asked : Asked) (walk : Walk) (before between : List Request) (p inner 
       (λ gathers meant stay.
       let expr = r.part.expr in
       let kind = r.part.kind in
-      let given_at = λ t. meant place r t (get_last between r) (range_served kind expr a asks) ∙ given_windows asked t kind expr a asks (gathers place t) in
+      let given_at = λ (t : ℤ). meant place r t (get_last between r) (range_served kind expr a asks) ∙ given_windows asked t kind expr a asks (gathers place t) in
       lent_gives asked (IsInstant walk) p inner f arguments r.moment r.range (rule (world asked.samples gathers) asked.kept (shape_of scalar.tree)) (λ t. windows_of (given_over asked expr t []))
       (λ t. passing asked.kept rules (gathers place t).windows) e
       (λ t. under_gives asked r.part r.engines under_it t (windows_of (given_over asked expr t [])) (gathers place t).windows (given_at t))

@@ -1,5 +1,5 @@
-use Rattle.std.proofs.Common.{◌≡◌, ◌∙◌, ◌++◌, [], ◌∷◌, List, Option, None, Some, false, length, refl, subst, sym, ap}
-use Rattle.std.specs.Prelude.{ℤ}
+use Rattle.std.proofs.Common.{◌≡◌, ◌∙◌, ◌++◌, ℕ, [], ◌∷◌, List, Option, None, Some, false, length, refl, subst, sym, ap}
+use Rattle.std.specs.Prelude.{ℤ, slice_get}
 use Rattle.std.proofs.lemmas.Result.{err_from_is_err_and}
 use Rattle.exchange.specs.Asked.{MayRequest}
 use Rattle.exchange.specs.Exchanging.{Exchanging}
@@ -60,18 +60,16 @@ returns-clause-part c = λ samples engines before p inner arguments e under one.
     let made = c.in_ok-kernel.ensures in
     let passed = c.in_ok-passed.ensures in
     let same = c.in_ok-scalar.ensures.ok in
-    let node = c.result-tree in
     let instants = λ (t : ℤ) (on : IsInstant walk t). c.walk.ensures.instants t on in
-    let timed = record { fixed = a.timed.fixed; offset = a.timed.offset } in
     let on_walk = λ (t : ℤ) (on : IsInstant r.walk t). subst (λ (w : Walk). IsInstant w t) walk_is on in
     subst (λ (rs : List Request). IsPart asked walk before rs p _) (sym now)
-    (gathered_part asked walk before between p inner c.args.f arguments e _ c.args.scalar one r c.walk_moments_are_moments.ensures c.trees_stay_within.ensures.given g.rules a.asked under a.asks a.reaches timed
+    (gathered_part asked walk before between p inner c.args.f arguments e _ c.args.scalar one r c.walk_moments_are_moments.ensures c.trees_stay_within.ensures.given g.rules a.asked under a.asks a.reaches (record { fixed = a.timed.fixed; offset = a.timed.offset })
     (λ j. WindowsOf (c.in_ok-place.ensures.place j) (made.f j) (made.moment j) (made.range j) (passed.rules j) (shape_of (same j))) refl refl
     (λ gs ps. (passed.pass, subst (λ (n : Node). CanGo (world samples gs) kept ps None n) (sym same) (one.sound.can gs ps)))
     (λ times listed. (
       record {
         r = r;
-        r_at = subst (λ k. slice_get (between ++ r ∷ []) k ≡ Some r) (sym c.in_ok-place.ensures.place) (get_last between r);
+        r_at = subst (λ (k : ℕ). slice_get (between ++ r ∷ []) k ≡ Some r) (sym c.in_ok-place.ensures.place) (get_last between r);
         asks = record { kind = windows_kind g.part.kind g.part.expr a.asked a.asks; ends = sym made.moment; reaches = sym made.range };
         listed = subst (λ (w : Walk). IsListed w times) (sym walk_is) listed;
       },
