@@ -82,7 +82,7 @@ has_request walk x times k w f listed =
     record {
       r = at.0;
       r_at = at.1;
-      kind = steps_given at.0.part.kind at.0.part.expr one.askable;
+      asks = steps_given at.0.part.kind at.0.part.expr one.askable;
       listed = subst (λ (v : Walk). IsListed v times) (sym one.walk_is) listed;
     }
 
