@@ -17,7 +17,7 @@ among_one n k e = (0, omega arith, sym e)
 pub among_first : {X : Type 0} (xs : List X) (x : X) → Contains (x ∷ xs) x
 among_first xs x = (0, omega arith, refl)
 
-among_rest : {X : Type 0} (xs : List X) (x y : X) → Contains xs y → Contains (x ∷ xs) y
+pub among_rest : {X : Type 0} (xs : List X) (x y : X) → Contains xs y → Contains (x ∷ xs) y
 among_rest xs x y (k, l, e) = (suc k, omega arith, e)
 
 -- an item is the first one, or among the others

@@ -1,5 +1,5 @@
 -- Gathers that may be those of the engines.
-use Rattle.std.proofs.Common.{◌≡◌, ◌∙◌, ℕ, List, refl, sym, Option, None, Some}
+use Rattle.std.proofs.Common.{◌≡◌, List, refl, Option, None, Some}
 use Rattle.std.specs.Prelude.{ℤ}
 use Rattle.std.specs.List.Sorted.{IsStrictlySortedBy}
 use Rattle.exchange.specs.declared.place.Place.{Place}

@@ -1,7 +1,6 @@
 -- A function of windows that a gather gives.
 use Rattle.std.proofs.Common.{◌≡◌, ◌∙◌, ℕ, Bool, true, false, List, [], ◌∷◌, slice_get, Option, None, Some, refl, sym, ap, subst}
 use Rattle.std.specs.Prelude.{ℤ, filter, if◌then◌else◌}
-use Rattle.std.specs.List.{All, AllByRecursion}
 use Rattle.exchange.specs.declared.place.Place.{Place}
 use Rattle.func_table.specs.declared.table.Window.{Window}
 use Rattle.label_set.specs.declared.rules.Relabel.{Relabel}
@@ -20,7 +19,6 @@ use Rattle.step_table.specs.declared.windows.WindowRow.{WindowRow}
 use Rattle.ticks.specs.Walks.{HasTimes, IsTime, moment_at}
 use Rattle.ticks.specs.declared.moment.Ms.{Ms}
 use Rattle.ticks.specs.declared.walk.WalkMoment.{WalkMoment}
-use Rattle.window_fn.specs.Windows.{IsInFrame}
 use Rattle.window_fn.specs.declared.frame.WindowFrame.{WindowFrame}
 use Rattle.plan_tree.specs.Gathering.{AsksWindows, LendsInside}
 use Rattle.plan_tree.specs.Nodes.{AreGiven, rules_in, rules_of, windows_at, windows_of}

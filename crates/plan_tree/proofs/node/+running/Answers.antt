@@ -1365,7 +1365,7 @@ Node::feed-feed_gather-requires-in-Windows g t c =
     let u : Ms = get_or at 0 (record { 0 = pos 0 }) in
     let one : at ≡ u ∷ [] = one_at at (record { 0 = pos 0 }) (own.single refl) in
     let ct = next_takes (AsksWindows kernel.moment kernel.range) K _ P (g.O.Outside.places c.feed-in-Windows.new.outside) k own.goes_on.all own.goes_on.known m0.taken own.times fed at u one own.goes_on.come.0 (h0.stay k own.goes_on.apart.0) m0.out own.due in
-    (u, subst (λ (x : Kept). CanTake x _ (g.O.Outside.places c.feed-in-Windows.new.outside) k u) (sym c.feed-in-Windows.ensures.same) ct)
+    (u, subst (λ (x : Kept). CanTake x (g.O.Outside.engines c.feed-in-Windows.new.outside) (g.O.Outside.places c.feed-in-Windows.new.outside) k u) (sym c.feed-in-Windows.ensures.same) ct)
 
 
 pub Node::feed-returns-in_err-feed_gather-in-Windows-clause-others : goal.Node::feed-returns-in_err-feed_gather-in-Windows-clause-others
