@@ -1548,7 +1548,7 @@ Node::feed-returns-in_ok-feed_gather-in-Windows-clause-fed g t c =
     let here : (windows_at (g.O.Outside.places c.feed_gather-in-Windows.new.outside) c.feed_gather-in-Windows.new.place).at ≡ u = ap (λ n. (windows_at (g.O.Outside.places c.feed_gather-in-Windows.new.outside) n).at) leaf ∙ there_at (g.O.Outside.places c.feed_gather-in-Windows.new.outside) k u ht.place ht.here inside in
     let a0 : Agree (places_of (shape_of c.feed-in-Windows.new.self)) (g.O.Outside.places c.feed-in-Windows.new.outside) (g.O.Outside.places c.feed_gather-in-Windows.new.outside) = subst (λ (s : Shape). Agree (places_of s) (g.O.Outside.places c.feed-in-Windows.new.outside) (g.O.Outside.places c.feed_gather-in-Windows.new.outside)) (sym h0.shape) (others_agree (places_of (shape_of scalar)) k (g.O.Outside.places c.feed-in-Windows.new.outside) (g.O.Outside.places c.feed_gather-in-Windows.new.outside) c0.goes_on.apart.0 c.feed_gather-in-Windows.ensures.others) in
     let new = c.windows_fed.new.kernel in
-    let come = come_next (AsksWindows kernel.moment kernel.range) K _ P (g.O.Outside.places c.feed-in-Windows.new.outside) k c0.goes_on.all c0.goes_on.known m0.taken c0.times fed at u one c0.goes_on.come.0 (g.O.Outside.places c.feed_gather-in-Windows.new.outside) _ ht in
+    let come = come_next (AsksWindows kernel.moment kernel.range) K (g.O.Outside.engines c.feed-in-Windows.new.outside) P (g.O.Outside.places c.feed-in-Windows.new.outside) k c0.goes_on.all c0.goes_on.known m0.taken c0.times fed at u one c0.goes_on.come.0 (g.O.Outside.places c.feed_gather-in-Windows.new.outside) _ ht in
     record {
       taken = ht.now;
       grown = grown_then c0.goes_on.taken m0.taken ht.now m0.grown ht.grown;
