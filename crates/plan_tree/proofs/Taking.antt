@@ -181,7 +181,7 @@ module _ (union : UnionIsSet) (settle : SettledIsWellFormed) (take_sets : TakenH
                 let told = a.told ps p c.place t c.out.stand at c.here due (λ n b e b_at e_at. m.tell k b.engine p e at e_at) in
                 let same : told.place ≡ one = same_at now k told.place one told.place_at lends.2.place_at in
                 let owed : LendsJoined p.kind t (steps_at p.taken p.owed) one.gather.lent one.gather.windows =
-                    subst (λ (z : Place). LendsJoined p.kind t (steps_at p.taken p.owed) z.gather.lent z.gather.windows) same told.joined in
+                subst (λ (z : Place). LendsJoined p.kind t (steps_at p.taken p.owed) z.gather.lent z.gather.windows) same told.joined in
                 told_more ps k p at t due given sets c.taken es fs len grown g m
                 (joined_same t one.gather.lent one.gather.windows p.kind lends.0 (steps_at p.taken p.owed) lends.2.joined owed))
                 c.out.told;

@@ -1334,7 +1334,6 @@ Node::feed-feed-requires-in-Windows g t c κs within =
     let part = ap (λ (n : Node). height (shape_of n)) c.deref_mut-in-Windows.ensures.value in
     (omega (arith, c.decreases, whole, part), (within.0, (within.1, fed_given S K _ P fed at K scalar c.deref_mut-in-Windows.result.now c.deref_mut-in-Windows.ensures.value (refl) f0)))
 
-
 pub Node::feed-returns-in_err-feed-in-Windows-clause-others : goal.Node::feed-returns-in_err-feed-in-Windows-clause-others
 Node::feed-returns-in_err-feed-in-Windows-clause-others g t c =
     let P = (g.O.Outside.places c.args.outside.now) in
@@ -1342,11 +1341,9 @@ Node::feed-returns-in_err-feed-in-Windows-clause-others g t c =
     let s0 = stay_as P (g.O.Outside.places c.feed-in-Windows.new.outside) scalar c.deref_mut-in-Windows.result.now c.deref_mut-in-Windows.ensures.value c.feed-in-Windows.ensures.others in
     stay_self P (g.O.Outside.places c.feed-in-Windows.new.outside) c.args.self.now _ c.in-Windows.is (stay_rest (places_of (shape_of scalar)) c.in-Windows.place P (g.O.Outside.places c.feed-in-Windows.new.outside) s0)
 
-
 pub Node::feed-returns-in_err-feed-in-Windows-clause-run : goal.Node::feed-returns-in_err-feed-in-Windows-clause-run
 Node::feed-returns-in_err-feed-in-Windows-clause-run g t c =
     run_fault _ c.from_residual-in_err-feed-in-Windows.result _ _ c.from_residual-in_err-feed-in-Windows.ensures.1 c.in_err-feed-in-Windows.ensures.run
-
 
 pub Node::feed-feed_gather-requires-in-Windows : goal.Node::feed-feed_gather-requires-in-Windows
 Node::feed-feed_gather-requires-in-Windows g t c =
@@ -1367,14 +1364,12 @@ Node::feed-feed_gather-requires-in-Windows g t c =
     let ct = next_takes (AsksWindows kernel.moment kernel.range) K _ P (g.O.Outside.places c.feed-in-Windows.new.outside) k own.goes_on.all own.goes_on.known m0.taken own.times fed at u one own.goes_on.come.0 (h0.stay k own.goes_on.apart.0) m0.out own.due in
     (u, subst (λ (x : Kept). CanTake x (g.O.Outside.engines c.feed-in-Windows.new.outside) (g.O.Outside.places c.feed-in-Windows.new.outside) k u) (sym c.feed-in-Windows.ensures.same) ct)
 
-
 pub Node::feed-returns-in_err-feed_gather-in-Windows-clause-others : goal.Node::feed-returns-in_err-feed_gather-in-Windows-clause-others
 Node::feed-returns-in_err-feed_gather-in-Windows-clause-others g t c =
     let P = (g.O.Outside.places c.args.outside.now) in
     let scalar = c.in-Windows.scalar.value in
     let s0 = stay_as P (g.O.Outside.places c.feed-in-Windows.new.outside) scalar c.deref_mut-in-Windows.result.now c.deref_mut-in-Windows.ensures.value c.feed-in-Windows.ensures.others in
     stay_self P (g.O.Outside.places c.feed_gather-in-Windows.new.outside) c.args.self.now _ c.in-Windows.is (stay_next (places_of (shape_of scalar)) c.in-Windows.place P (g.O.Outside.places c.feed-in-Windows.new.outside) (g.O.Outside.places c.feed_gather-in-Windows.new.outside) s0 c.feed_gather-in-Windows.ensures.others)
-
 
 pub Node::feed-returns-in_ok-feed_gather-in-Windows-clause-others : goal.Node::feed-returns-in_ok-feed_gather-in-Windows-clause-others
 Node::feed-returns-in_ok-feed_gather-in-Windows-clause-others g t c =
@@ -1383,16 +1378,13 @@ Node::feed-returns-in_ok-feed_gather-in-Windows-clause-others g t c =
     let s0 = stay_as P (g.O.Outside.places c.feed-in-Windows.new.outside) scalar c.deref_mut-in-Windows.result.now c.deref_mut-in-Windows.ensures.value c.feed-in-Windows.ensures.others in
     stay_self P (g.O.Outside.places c.feed_gather-in-Windows.new.outside) c.args.self.now _ c.in-Windows.is (stay_next (places_of (shape_of scalar)) c.in-Windows.place P (g.O.Outside.places c.feed-in-Windows.new.outside) (g.O.Outside.places c.feed_gather-in-Windows.new.outside) s0 c.feed_gather-in-Windows.ensures.others)
 
-
 pub Node::feed-returns-in_err-feed_gather-in-Windows-clause-run : goal.Node::feed-returns-in_err-feed_gather-in-Windows-clause-run
 Node::feed-returns-in_err-feed_gather-in-Windows-clause-run g t c =
     run_then _ _ _ _ _ c.in_ok-feed-in-Windows.ensures.run (run_fault _ c.from_residual-in_err-feed_gather-in-Windows.result _ _ c.from_residual-in_err-feed_gather-in-Windows.ensures.1 c.in_err-feed_gather-in-Windows.ensures.run)
 
-
 pub Node::feed-returns-in_ok-feed_gather-in-Windows-clause-run : goal.Node::feed-returns-in_ok-feed_gather-in-Windows-clause-run
 Node::feed-returns-in_ok-feed_gather-in-Windows-clause-run g t c =
     own_behind _ c.windows_fed.result _ _ c.windows_fed.ensures.memory (run_then _ _ _ _ _ c.in_ok-feed-in-Windows.ensures.run c.in_ok-feed_gather-in-Windows.ensures.run)
-
 
 pub Node::feed-windows_fed-requires-clause-there : goal.Node::feed-windows_fed-requires-clause-there
 Node::feed-windows_fed-requires-clause-there g t c =
@@ -1414,7 +1406,6 @@ Node::feed-windows_fed-requires-clause-there g t c =
     let a0 : Agree (places_of (shape_of c.feed-in-Windows.new.self)) (g.O.Outside.places c.feed-in-Windows.new.outside) (g.O.Outside.places c.feed_gather-in-Windows.new.outside) = subst (λ (s : Shape). Agree (places_of s) (g.O.Outside.places c.feed-in-Windows.new.outside) (g.O.Outside.places c.feed_gather-in-Windows.new.outside)) (sym h0.shape) (others_agree (places_of (shape_of scalar)) k (g.O.Outside.places c.feed-in-Windows.new.outside) (g.O.Outside.places c.feed_gather-in-Windows.new.outside) own.goes_on.apart.0 c.feed_gather-in-Windows.ensures.others) in
     read_there (g.O.Outside.places c.feed_gather-in-Windows.new.outside) c.feed-in-Windows.new.self c.deref-in-Windows.result.now c.deref-in-Windows.ensures
     (come_there own.goes_on.all (g.O.Outside.places c.feed_gather-in-Windows.new.outside) own.times (fed_on fed at) c.feed-in-Windows.new.self (come_kept own.goes_on.all (g.O.Outside.places c.feed-in-Windows.new.outside) (g.O.Outside.places c.feed_gather-in-Windows.new.outside) own.times (fed_on fed at) c.feed-in-Windows.new.self a0 m0.come))
-
 
 pub Node::feed-windows_fed-requires-clause-place : goal.Node::feed-windows_fed-requires-clause-place
 Node::feed-windows_fed-requires-clause-place g t c =
@@ -1440,7 +1431,6 @@ Node::feed-windows_fed-requires-clause-place g t c =
     let here : (windows_at (g.O.Outside.places c.feed_gather-in-Windows.new.outside) c.feed_gather-in-Windows.new.place).at ≡ u = ap (λ n. (windows_at (g.O.Outside.places c.feed_gather-in-Windows.new.outside) n).at) leaf ∙ there_at (g.O.Outside.places c.feed_gather-in-Windows.new.outside) k u ht.place ht.here inside in
     subst (λ n. n < length (g.O.Outside.places c.feed_gather-in-Windows.new.outside)) (sym leaf) (get_within (g.O.Outside.places c.feed_gather-in-Windows.new.outside) k ht.place ht.here)
 
-
 pub Node::feed-windows_fed-requires-clause-pass : goal.Node::feed-windows_fed-requires-clause-pass
 Node::feed-windows_fed-requires-clause-pass g t c =
     let S = c.args.store.now in
@@ -1451,7 +1441,6 @@ Node::feed-windows_fed-requires-clause-pass g t c =
     let own = as_tree S K _ P fed at c.args.self.now _ c.in-Windows.is c.requires in
     let kp = completed_are own.goes_on.all own.goes_on.known own.goes_on.taken K _ P own.goes_on.out in
     subst (λ (x : Kept). CanPass x c.in-Windows.passed) (sym (c.feed_gather-in-Windows.ensures.same ∙ c.feed-in-Windows.ensures.same)) (own.goes_on.can (completed own.goes_on.taken) kp).0
-
 
 pub Node::feed-windows_fed-requires-clause-given : goal.Node::feed-windows_fed-requires-clause-given
 Node::feed-windows_fed-requires-clause-given g t c =
@@ -1477,7 +1466,6 @@ Node::feed-windows_fed-requires-clause-given g t c =
     let here : (windows_at (g.O.Outside.places c.feed_gather-in-Windows.new.outside) c.feed_gather-in-Windows.new.place).at ≡ u = ap (λ n. (windows_at (g.O.Outside.places c.feed_gather-in-Windows.new.outside) n).at) leaf ∙ there_at (g.O.Outside.places c.feed_gather-in-Windows.new.outside) k u ht.place ht.here inside in
     let stays = (subst (λ (ts : List Ms). AllByRecursion (λ (t : Ms). IsTime t.0 × HasTimes (moment_at kernel.moment t.0) kernel.range.0 × StaysInTimes (shape_of scalar) t.0) ts) one own.stays).0 in
     subst (λ n. AreGiven kernel (windows_at (g.O.Outside.places c.feed_gather-in-Windows.new.outside) n)) (sym leaf) (are_given (g.O.Outside.places c.feed_gather-in-Windows.new.outside) k u ht.place ht.here kernel asks inside stays.0 stays.1)
-
 
 pub Node::feed-windows_fed-requires-clause-lends : goal.Node::feed-windows_fed-requires-clause-lends
 Node::feed-windows_fed-requires-clause-lends g t c =
@@ -1508,7 +1496,6 @@ Node::feed-windows_fed-requires-clause-lends g t c =
     read_lending w K ((windows_at (g.O.Outside.places c.feed_gather-in-Windows.new.outside) c.feed_gather-in-Windows.new.place).at ∷ []) (g.O.Outside.places c.feed_gather-in-Windows.new.outside) scalar c.feed-in-Windows.new.self c.deref-in-Windows.result.now h0.shape c.deref-in-Windows.ensures
     (kept_steps (g.O.Outside.places c.feed-in-Windows.new.outside) (g.O.Outside.places c.feed_gather-in-Windows.new.outside) c.feed-in-Windows.new.self _ a0 (m0.lent gg pp) ∙ ap (λ (ts : List Ms). steps_over (rule w K (shape_of scalar)) ts) (one ∙ ap (λ (v : Ms). v ∷ []) (sym here)))
 
-
 pub Node::feed-windows_fed-requires-clause-scalar : goal.Node::feed-windows_fed-requires-clause-scalar
 Node::feed-windows_fed-requires-clause-scalar g t c =
     let S = c.args.store.now in
@@ -1522,7 +1509,6 @@ Node::feed-windows_fed-requires-clause-scalar g t c =
     let h0 = part_has S K K _ _ P (g.O.Outside.places c.feed-in-Windows.new.outside) fed at scalar c.deref_mut-in-Windows.result.now c.feed-in-Windows.new.self c.deref_mut-in-Windows.ensures.value refl c.in_ok-feed-in-Windows.ensures.fed c.feed-in-Windows.ensures.shape c.feed-in-Windows.ensures.others in
     let m0 = h0.has f0 in
     λ h. read_scalar scalar c.feed-in-Windows.new.self c.deref-in-Windows.result.now h0.shape c.deref-in-Windows.ensures (own.goes_on.fit.0 h)
-
 
 pub Node::feed-returns-in_ok-feed_gather-in-Windows-clause-fed : goal.Node::feed-returns-in_ok-feed_gather-in-Windows-clause-fed
 Node::feed-returns-in_ok-feed_gather-in-Windows-clause-fed g t c =
@@ -1556,7 +1542,7 @@ Node::feed-returns-in_ok-feed_gather-in-Windows-clause-fed g t c =
       lent = λ gg pp.
           (let scalar_rule = rule (world S gg) K (shape_of scalar) in
           let is : windows_at (g.O.Outside.places c.feed_gather-in-Windows.new.outside) c.feed_gather-in-Windows.new.place ≡ (gg k u.0).windows =
-              ap (λ n. windows_at (g.O.Outside.places c.feed_gather-in-Windows.new.outside) n) leaf ∙ windows_are (g.O.Outside.places c.feed_gather-in-Windows.new.outside) k u ht.place ht.here ∙ windows_given u ht.place.gather.lent ht.place.gather.windows ht.place.gather.ask.kind (gg k u.0) asks.kind (ht.lent gg pp) in
+          ap (λ n. windows_at (g.O.Outside.places c.feed_gather-in-Windows.new.outside) n) leaf ∙ windows_are (g.O.Outside.places c.feed_gather-in-Windows.new.outside) k u ht.place ht.here ∙ windows_given u ht.place.gather.lent ht.place.gather.windows ht.place.gather.ask.kind (gg k u.0) asks.kind (ht.lent gg pp) in
           f scalar_rule (read_steps (g.O.Outside.places c.feed_gather-in-Windows.new.outside) c.feed-in-Windows.new.self c.deref-in-Windows.result.now _ c.deref-in-Windows.ensures
           (kept_steps (g.O.Outside.places c.feed-in-Windows.new.outside) (g.O.Outside.places c.feed_gather-in-Windows.new.outside) c.feed-in-Windows.new.self _ a0 (m0.lent gg (possible_before m0.taken ht.now gg ht.grown pp)) ∙ ap (λ (ts : List Ms). steps_over scalar_rule ts) (one ∙ ap (λ (v : Ms). v ∷ []) (sym here))))
           ∙ windows_over K c.feed_gather-in-Windows.new.patterns kernel.f kernel.moment kernel.range (rules_of c.in-Windows.passed) scalar_rule k gg (windows_at (g.O.Outside.places c.feed_gather-in-Windows.new.outside) c.feed_gather-in-Windows.new.place) u at (c.feed_gather-in-Windows.ensures.same ∙ c.feed-in-Windows.ensures.same) here is one);
@@ -1571,7 +1557,6 @@ Node::feed-returns-in_ok-feed_gather-in-Windows-clause-fed g t c =
         come_kept c0.goes_on.all (g.O.Outside.places c.feed-in-Windows.new.outside) (g.O.Outside.places c.feed_gather-in-Windows.new.outside) c0.times (fed_on fed at) c.feed-in-Windows.new.self a0 m0.come,
       );
     }))
-
 
 pub fill-loop-u-init : goal.fill-loop-u-init
 fill-loop-u-init g t c =
@@ -1961,7 +1946,6 @@ Node::feed-returns-in_err-feed-in-Windows-clause-spent g t c =
     failed_as _ S c.args.fed to c.from_residual-in_err-feed-in-Windows.result c.from_residual-in_err-feed-in-Windows.ensures.1 c.args.self.now _ (HasRead S to c.feed-in-Windows.new.self) w c.feed-in-Windows.new.work c.in-Windows.is
     (part_fails S c.args.fed to c.feed-in-Windows.result c.deref_mut-in-Windows.result.now c.in-Windows.scalar.value c.feed-in-Windows.new.self w c.feed-in-Windows.new.work c.deref_mut-in-Windows.ensures.value c.feed-in-Windows.ensures.spent)
 
-
 pub Node::feed-returns-in_err-feed_gather-in-Windows-clause-spent : goal.Node::feed-returns-in_err-feed_gather-in-Windows-clause-spent
 Node::feed-returns-in_err-feed_gather-in-Windows-clause-spent g t c =
     let S = c.args.store.now in let to = fed_on c.args.fed c.args.at.now in let w = c.args.work.now in
@@ -1969,13 +1953,11 @@ Node::feed-returns-in_err-feed_gather-in-Windows-clause-spent g t c =
     failed_as _ S c.args.fed to c.from_residual-in_err-feed_gather-in-Windows.result c.from_residual-in_err-feed_gather-in-Windows.ensures.1 c.args.self.now _ (HasRead S to c.feed-in-Windows.new.self) w x c.in-Windows.is
     (part_made S c.args.fed to scalar c.feed-in-Windows.new.self w x (part_spends S c.args.fed to c.deref_mut-in-Windows.result.now scalar c.feed-in-Windows.new.self w x c.deref_mut-in-Windows.ensures.value c.in_ok-feed-in-Windows.ensures.spent))
 
-
 pub Node::feed-returns-in_ok-feed_gather-in-Windows-clause-spent : goal.Node::feed-returns-in_ok-feed_gather-in-Windows-clause-spent
 Node::feed-returns-in_ok-feed_gather-in-Windows-clause-spent g t c =
     let S = c.args.store.now in let to = fed_on c.args.fed c.args.at.now in let w = c.args.work.now in
     made_as S c.args.fed to c.windows_fed.result c.args.self.now _ (HasRead S to c.feed-in-Windows.new.self) w c.feed-in-Windows.new.work c.in-Windows.is
     (part_spends S c.args.fed to c.deref_mut-in-Windows.result.now c.in-Windows.scalar.value c.feed-in-Windows.new.self w c.feed-in-Windows.new.work c.deref_mut-in-Windows.ensures.value c.in_ok-feed-in-Windows.ensures.spent)
-
 
 pub fill-returns-in_err-feed-clause-spent : goal.fill-returns-in_err-feed-clause-spent
 fill-returns-in_err-feed-clause-spent g t c =
@@ -2097,7 +2079,6 @@ Node::feed-returns-in_ok-feed_gather-in-Windows-clause-counted g t c =
     let w = c.args.work.now.fetched in let x = c.feed-in-Windows.new.work.fetched in let n = fetched_by S to c.feed-in-Windows.new.self in
     counted_as S fed c.windows_fed.result c.args.self.now _ x w n c.in-Windows.is
     (part_counts S fed c.deref_mut-in-Windows.result.now c.in-Windows.scalar.value x w n c.deref_mut-in-Windows.ensures.value c.in_ok-feed-in-Windows.ensures.counted)
-
 
 pub fill-returns-clause-counted : goal.fill-returns-clause-counted
 fill-returns-clause-counted g t c = c.loop-u.invariant.counted
