@@ -203,6 +203,10 @@ module _ (asked : Asked) (walk : Walk) (before now : List Request) (p inner : Pl
 
 -- ---- windows that engines give
 
+-- the requests of a part are written as another list
+pub requested : (asked : Asked) (walk : Walk) (before now new : List Request) (p : Plan) (part : Part) → new ≡ now → IsPart asked walk before now p part → IsPart asked walk before new p part
+requested asked walk before now new p part e h = subst (λ (rs : List Request). IsPart asked walk before rs p part) (sym e) h
+
 -- a request is added for them, behind those of the scalar
 module _ (asked : Asked) (walk : Walk) (before between : List Request) (p inner : Plan) (f : WindowFunction) (arguments : List Plan) (e : p.node ≡ node.Window f inner arguments) (part scalar : Part)
     (one : IsScalarOf asked walk before between f arguments scalar) (r : Request) where

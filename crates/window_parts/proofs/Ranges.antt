@@ -28,7 +28,7 @@ use Rattle.ticks.specs.declared.moment.Ms.{Ms}
 use Rattle.window_parts.specs.Engines.{IsGatheringWithin, with_rules}
 use Rattle.window_parts.specs.Over.{IsRangePlan}
 use Rattle.window_parts.specs.declared.asked.Gathering.{Gathering}
-use Rattle.window_parts.proofs.Askable.{range_parts, range_rules as ruled}
+use Rattle.window_parts.proofs.Askable.{range_parts as parted, range_rules as ruled}
 
 rolled_range : (rules : List Rule) (moment : Moment) (range : Ms) → roll-PlanNode (PlanNode-F.Range rules moment range) ≡ node.Range rules moment range
 rolled_range rules moment range =
@@ -121,7 +121,7 @@ module _ (kept : Kept) where
 
       gather_parts : AllByRecursion Fits (Part.of_rules a.selector.rules ∷ Part.of_moment a.selector.moment ∷ Part.of_length a.range ∷ [])
       gather_parts =
-          subst (λ (parts : List Part). AllByRecursion Fits (parts ++ [])) (range_parts kind expr a asks)
+          subst (λ (parts : List Part). AllByRecursion Fits (parts ++ [])) (parted kind expr a asks)
           (subst (λ (m : Measure). AllByRecursion Fits m.parts)
           (ap (λ (m : PlanNode). measured (planned p.at m)) e ∙ of-Gather node_measure (λ q. q.node q.at) p.at expr kind engines) is.within)
 

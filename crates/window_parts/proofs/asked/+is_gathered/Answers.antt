@@ -11,7 +11,7 @@ pub returns-in-Filter : goal.returns-in-Filter
 returns-in-Filter t c =
     let p = c.args.p.now in
     let it = c.in-Filter in
-    let below = c.is_gathered-in-Filter.ensures in (
+    let below = c.is_gathered.ensures in (
       λ h. IsGathered.under p it.base it.rules it.is (subst IsGathered c.get.ensures (below.0 h)),
       λ g. below.1 (subst IsGathered (sym c.get.ensures) (below_filter it.base it.rules g it.is)),
     )

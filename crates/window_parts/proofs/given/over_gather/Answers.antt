@@ -24,7 +24,7 @@ use Rattle.ticks.specs.declared.walk.WalkMoment.{WalkMoment}
 use Rattle.window_parts.specs.Engines.{AreAskable, IsGatheringWithin}
 use Rattle.window_parts.proofs.Askable.{may_over, windows_kind}
 use Rattle.window_parts.proofs.Handed.{handed_on, none_some}
-use Rattle.window_parts.proofs.Made.{gathered_part}
+use Rattle.window_parts.proofs.Made.{gathered_part, requested}
 use Rattle.window_parts.proofs.given.over_gather.Goals as goal
 
 -- ---- what is added
@@ -62,7 +62,7 @@ returns-clause-part c = λ samples engines before p inner arguments e under one.
     let same = c.in_ok-scalar.ensures.ok in
     let instants = λ (t : ℤ) (on : IsInstant walk t). c.walk.ensures.instants t on in
     let on_walk = λ (t : ℤ) (on : IsInstant r.walk t). subst (λ (w : Walk). IsInstant w t) walk_is on in
-    subst (λ (rs : List Request). IsPart asked walk before rs p _) (sym now)
+    requested asked walk before (between ++ r ∷ []) _ p _ now
     (gathered_part asked walk before between p inner c.args.f arguments e _ c.args.scalar one r c.walk_moments_are_moments.ensures c.trees_stay_within.ensures.given g.rules a.asked under a.asks a.reaches (record { fixed = a.timed.fixed; offset = a.timed.offset })
     (λ j. WindowsOf (c.in_ok-place.ensures.place j) (made.f j) (made.moment j) (made.range j) (passed.rules j) (shape_of (same j))) refl refl
     (λ gs ps. (passed.pass, subst (λ (n : Node). CanGo (world samples gs) kept ps None n) (sym same) (one.sound.can gs ps)))
