@@ -12,7 +12,7 @@ use Rattle.promql_meaning.specs.Meaning.{meaning}
 use Rattle.promql_meaning.specs.Selecting.{AllSeries}
 use Rattle.step_cells.specs.Owed.{cells}
 use Rattle.promql_type.specs.Replacements.{Kept}
-use Rattle.ticks.specs.Listed.{ListsAreOne}
+use Rattle.ticks.specs.Listed.{IsListed, ListsAreOne}
 use Rattle.ticks.specs.Near.{InstantsAreTimes}
 use Rattle.ticks.specs.declared.moment.Ms.{Ms}
 use Rattle.engine_local.specs.Local.{IsAllowed, Local, asked_of, seen_ask, seen_of, times_of, went_on}
@@ -115,7 +115,7 @@ module _ (e : Local) (place most : ℕ) (one : OwnAsk) (here : slice_get e.asks 
       let new = with_asks (slice_set e.asks place (went_on (length steps) next one)) e in
       let left = no_stray (asked_of e.samples one) one.part one.ask (drop one.given (times_of one)) steps gives.0 gives.1 well in
       let none : (all : List Ms) → IsListed one.ask.walk all → stray_of one.ask (drop one.given all) steps ≡ None =
-          λ all listed. ap (λ (ts : List Ms). stray_of one.ask (drop one.given ts) steps) (lists one.ask.walk all (times_of one) listed allowed.times) ∙ left in
+      λ all listed. ap (λ (ts : List Ms). stray_of one.ask (drop one.given ts) steps) (lists one.ask.walk all (times_of one) listed allowed.times) ∙ left in
       record {
         faults = no_faults _ e new (no_error pulled.Frame fail.Failed);
         holding = refl;
@@ -136,7 +136,7 @@ module _ (e : Local) (place most : ℕ) (one : OwnAsk) (here : slice_get e.asks 
   ended done =
       let none = all_dropped one.given (times_of one) (past (times_of one) one.given (sym allowed.next ∙ done)) in
       let no_end : (all : List Ms) → IsListed one.ask.walk all → early_end (drop one.given all) ≡ None =
-          λ all listed. ap (λ (ts : List Ms). early_end (drop one.given ts)) (lists one.ask.walk all (times_of one) listed allowed.times) ∙ ap early_end none in
+      λ all listed. ap (λ (ts : List Ms). early_end (drop one.given ts)) (lists one.ask.walk all (times_of one) listed allowed.times) ∙ ap early_end none in
       record {
         faults = no_faults _ e e (no_error pulled.End fail.Failed);
         holding = refl;
