@@ -1,6 +1,14 @@
+pub mod Boxes
+pub mod Gathering
+pub mod Idle
+pub mod Lost
+pub mod Over
 pub mod Planned
 pub mod Ready
+pub mod Requested
 pub mod Results
 pub mod Spent
 pub mod Stays
 pub mod Streamed
+pub mod Unasked
+pub mod Unread

@@ -26,7 +26,7 @@ use Rattle.promql_type.specs.declared.kind.Kind.{Kind}
 use Rattle.promql_type.specs.declared.kind.Kind.TheVariants.{Scalar, Vector, Windows, Words}
 use Rattle.promql_type.specs.declared.replace.Placed.{Placed}
 use Rattle.query_engine.specs.Bounds.{evaluated_plan}
-use Rattle.query_engine.specs.Planning.{GivesNumbers, IsServedWhereKept}
+use Rattle.query_engine.specs.Planning.{GivesNumbers, IsServedWhereKept, plan_of}
 use Rattle.rewrite_laws.specs.Keeping.{StaysTyped}
 
 pub means_its_tree : {E : Type 0} (p : Plan) (e : Expr) (placed : List Placed) (result : Result Plan E) → IsTyped p
@@ -58,6 +58,11 @@ module _ (p : Plan) (e : Expr) (placed : List Placed) (is : p ≡ with_onces (lo
   plan_still choices given kept (Ok q) same rewritten =
       rewritten ∙ ap (rewrites (evaluating given) kept) is ∙ ap (λ (c : Choices). rewrites (evaluating c) kept (with_onces (lowered placed e))) same
   plan_still choices given kept (Err fault) same rewritten = tt
+
+  pub plan_is : {E : Type 0} (choices given : Choices) (kept : Kept) (result : Result Plan E) → given ≡ choices → IfOk result (λ q. q ≡ rewrites given kept p) → IfOk result (λ q. q ≡ plan_of choices kept placed e)
+  plan_is choices given kept (Ok q) same rewritten =
+      rewritten ∙ ap (rewrites given kept) is ∙ ap (λ (c : Choices). rewrites c kept (with_onces (lowered placed e))) same
+  plan_is choices given kept (Err fault) same rewritten = tt
 
   pub numbers_still : {E : Type 0} (result : Result Plan E) → LoweredPlansGiveNumbers → result_refusals (kind_of e) ≡ [] → IsTyped p → IfOk result (λ q. IsTyped p → StaysTyped p q)
       → IfOk result GivesNumbers

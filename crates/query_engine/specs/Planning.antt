@@ -5,9 +5,11 @@ use Rattle.logical_plan.specs.Onces.{with_onces}
 use Rattle.logical_plan.specs.PlanTypes.{typing}
 use Rattle.logical_plan.specs.declared.nodes.Plan.{Plan}
 use Rattle.match_rule.specs.Patterns.{HaveTheirPatterns}
+use Rattle.opt_remote.specs.Gathering.{gathered_selectors}
+use Rattle.opt_remote.specs.Parts.{AreAskedOf, parts_asked}
 use Rattle.plan_rewrites.specs.Rewriting.{rewrites}
 use Rattle.plan_rewrites.specs.declared.choosing.Choices.{Choices}
-use Rattle.plan_serving.specs.Serving.{IsServed}
+use Rattle.plan_serving.specs.Serving.{IsServed, IsServedOver}
 use Rattle.promql_ast.specs.Edged.{edged}
 use Rattle.promql_ast.specs.Parts.{AreWithin, parts_of}
 use Rattle.promql_ast.specs.declared.refusal.QueryRefusal.{QueryRefusal}
@@ -33,10 +35,25 @@ plan_of choices kept placed e = rewrites choices kept (with_onces (lowered place
 abbrev pub GivesNumbers : Plan → Type 0
 GivesNumbers p = is_number (typing p).kind ≡ true
 
--- kernels serve the plan of a tree with any patterns that the tree's are kept among
+-- the plan of a typed tree, behind the rewrites that are chosen, in which so many engines are asked for each selector
+abbrev pub gathered_plan : ℕ → Choices → Kept → List Placed → Expr → Plan
+gathered_plan engines choices kept placed e = gathered_selectors engines kept (plan_of choices kept placed e)
+
+-- a fact holds with any patterns that those of a tree are kept among
+abbrev pub WhereKept : List Placed → Expr → (Kept → Type 0) → Type 0
+WhereKept placed e Holds =
+    (kept : Kept) (longest latest : ℕ) → AreWithin (HaveTheirPatterns kept) longest latest (parts_of e) → AreKept kept (judged e).replacements placed → Holds kept
+
+-- kernels serve the plan of a tree with any patterns that the tree's are kept among, without engines or over some
 abbrev pub IsServedWhereKept : List Placed → Expr → Plan → Type 0
-IsServedWhereKept placed e p =
-    (kept : Kept) (longest latest : ℕ) → AreWithin (HaveTheirPatterns kept) longest latest (parts_of e) → AreKept kept (judged e).replacements placed → IsServed kept p
+IsServedWhereKept placed e p = WhereKept placed e (λ kept. IsServed kept p)
+
+abbrev pub IsServedOverWhereKept : List Placed → Expr → Plan → Type 0
+IsServedOverWhereKept placed e p = WhereKept placed e (λ kept. IsServedOver kept p)
+
+-- each part that is asked for in the plan of a tree is a selector, of which all of these engines are asked
+abbrev pub AsksAllWhereKept : List ℕ → List Placed → Expr → Plan → Type 0
+AsksAllWhereKept engines placed e p = WhereKept placed e (λ kept. AreAskedOf engines (parts_asked p))
 
 -- A plan is that of a text: of the typed tree that the text stands for, with the edge that is asked for, whose label_replace
 -- calls have their patterns under their numbers.

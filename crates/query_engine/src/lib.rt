@@ -2,6 +2,7 @@
 //! Its rows of tests stand in `query_tests`.
 #![tactic(auto)]
 
+mod engines;
 mod evaluating;
 mod options;
 mod planning;

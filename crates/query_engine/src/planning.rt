@@ -6,18 +6,23 @@ ghost use Rattle.logical_plan.specs.Shown.{shown};
 ghost use Rattle.logical_plan.specs.Steadiness.{OncesAreSteady};
 ghost use Rattle.logical_plan.specs.Validity.{IsValid, IsWithinLimits};
 ghost use Rattle.opt_matchers.specs.Handing.{HaveLabelSets};
+ghost use Rattle.opt_remote.specs.Engines.{ArePartedOver};
+ghost use Rattle.opt_remote.specs.Gathering.{all_engines};
+ghost use Rattle.opt_remote.specs.Parts.{is_gathered};
 ghost use Rattle.promql_meaning.specs.Meaning.{meaning};
 ghost use Rattle.promql_meaning.specs.Selecting.{Asked};
 ghost use Rattle.promql_type.specs.TypedTrees.{placed_of, tree_of};
 ghost use Rattle.query_engine.specs.Bounds.{evaluated_plan};
 ghost use Rattle.query_engine.specs.Evaluating.{IsRefusedWith};
-ghost use Rattle.query_engine.specs.Planning.{GivesNumbers, HasPlan, IsServedWhereKept, MayRefuse, choices_of, plan_of};
-ghost use Rattle.std.specs.Prelude.{◌≡◌, ℕ, ℤ, [], IfErr, IfOk};
+ghost use Rattle.query_engine.specs.Planning.{AsksAllWhereKept, GivesNumbers, HasPlan, IsServedOverWhereKept, IsServedWhereKept, MayRefuse, choices_of, gathered_plan, plan_of};
+ghost use Rattle.std.specs.Prelude.{◌≡◌, ℕ, ℤ, [], IfErr, IfOk, true};
 
 use crate::options::Options;
 use crate::reading::typed_tree;
 use logical_plan::{Plan, lower};
 use match_rule::Patterns;
+use opt_remote::gather_selectors;
+use opt_remote::laws::{gathered_plans_are_kept, selectors_are_gathered};
 use plan_serving::laws::{
     lowered_plans_are_served, lowered_plans_give_numbers, onces_keep_serving,
 };
@@ -25,15 +30,29 @@ use promql_lex::LexFault;
 use promql_type::{TypeFault, Typed};
 use std::alloc::{AllocError, Global};
 
-/// The plan of a typed tree, behind the rewrites that are chosen. The only error is want of memory.
+/// The plan of a typed tree, behind the rewrites that are chosen. Over samples whose labels are label sets it means what the tree means.
+/// It gives a scalar or a vector, each of its nodes is typed, within the limits of the language it is valid, and kernels serve it where
+/// the patterns of the tree are kept. The only error is want of memory.
 fn planned(
     alloc: Global,
     typed: &Typed,
     options: &Options,
     patterns: &Patterns<'_>,
 ) -> Result<Plan, AllocError>
-    ensures { IfOk result (λ p. p ≡ plan_of (choices_of options.now) patterns.now (placed_of typed.now) (tree_of typed.now)) }
+    // where the pattern that stands at the place of a label_replace call is that call's own
+    ensures means { IfOk result (λ p. (asked : Asked) (t : ℤ) → HaveLabelSets asked → PatternsArePlaced asked.kept (placed_of typed.now) (tree_of typed.now)
+        → plan_meaning asked p t ≡ shown (meaning asked (tree_of typed.now) t)) }
+    ensures plan { IfOk result (λ p. p ≡ plan_of (choices_of options.now) patterns.now (placed_of typed.now) (tree_of typed.now)) }
+    ensures onces { IfOk result OncesAreSteady }
+    ensures typed { IfOk result IsTyped }
+    ensures valid { IfOk result (λ p. (longest latest : ℕ) → IsWithinLimits longest latest (tree_of typed.now) → IsValid longest latest p) }
+    ensures numbers { IfOk result GivesNumbers }
+    ensures served { IfOk result (IsServedWhereKept (placed_of typed.now) (tree_of typed.now)) }
 {
+    lowered_plans_are_served();
+    lowered_plans_give_numbers();
+    onces_keep_serving();
+    let _ = typed.expr();
     let plan = lower(alloc, typed)?;
     plan_rewrites::rewritten(alloc, plan, options.choices(), patterns)
 }
@@ -64,6 +83,35 @@ pub(crate) fn evaluated(
     let _ = typed.expr();
     let plan = lower(alloc, typed)?;
     plan_rewrites::evaluated(alloc, plan, options.choices(), patterns)
+}
+
+/// The plan that a typed tree is evaluated by where so many engines hold the samples: behind the rewrites that are chosen, and with each
+/// selector as a part that all of these engines are asked for, so that it reads no samples itself. Over samples that are parted over
+/// the engines by the labels that are declared to them, and whose labels are label sets, it means what the tree means. It gives a
+/// scalar or a vector, within the limits of the language it is valid, and kernels serve it where the patterns of the tree are kept. The
+/// only error is want of memory.
+pub(crate) fn gathered(
+    alloc: Global,
+    typed: &Typed,
+    options: &Options,
+    patterns: &Patterns<'_>,
+    engines: u32,
+) -> Result<Plan, AllocError>
+    ensures means { IfOk result (λ p. (asked : Asked) (t : ℤ) → ArePartedOver engines asked → HaveLabelSets asked → PatternsArePlaced asked.kept (placed_of typed.now) (tree_of typed.now)
+        → plan_meaning asked p t ≡ shown (meaning asked (tree_of typed.now) t)) }
+    ensures plan { IfOk result (λ p. p ≡ gathered_plan engines (choices_of options.now) patterns.now (placed_of typed.now) (tree_of typed.now)) }
+    ensures onces { IfOk result OncesAreSteady }
+    ensures valid { IfOk result (λ p. (longest latest : ℕ) → IsWithinLimits longest latest (tree_of typed.now) → IsValid longest latest p) }
+    ensures numbers { IfOk result GivesNumbers }
+    ensures served { IfOk result (IsServedOverWhereKept (placed_of typed.now) (tree_of typed.now)) }
+    // no selector is left, and each part is one that all engines are asked for
+    ensures gathered { IfOk result (λ p. is_gathered p ≡ true) }
+    ensures asked { IfOk result (AsksAllWhereKept (all_engines engines) (placed_of typed.now) (tree_of typed.now)) }
+{
+    selectors_are_gathered();
+    gathered_plans_are_kept();
+    let plan = planned(alloc, typed, options, patterns)?;
+    gather_selectors(alloc, plan, engines, patterns)
 }
 
 /// The plan of a query's text, behind the rewrites that are chosen; or the one refusal of the text, with its place, counted in

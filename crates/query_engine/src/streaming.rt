@@ -4,6 +4,7 @@ ghost use Rattle.frac_text.specs.Times.{time_limit};
 ghost use Rattle.logical_plan.specs.Placements.{TellApart};
 ghost use Rattle.logical_plan.specs.Validity.{IsWithinLimits};
 ghost use Rattle.match_rule.specs.Patterns.{HaveTheirPatterns};
+ghost use Rattle.phys_plan.specs.Asks.{AreBegun};
 ghost use Rattle.plan_tree.specs.Chains.{IsReady};
 ghost use Rattle.plan_tree.specs.Feeding.{HasGone};
 ghost use Rattle.plan_tree.specs.Nodes.{shape_of};
@@ -13,31 +14,34 @@ ghost use Rattle.plan_tree.specs.Worlds.{Gathers, no_gathers, over, world};
 ghost use Rattle.promql_ast.specs.Parts.{AreWithin, parts_of};
 ghost use Rattle.promql_meaning.specs.Meaning.{meaning_step};
 ghost use Rattle.promql_meaning.specs.Results.{grid_times, judged as outcome_of, result_of};
-ghost use Rattle.promql_meaning.specs.Selecting.{Asked, asked_over};
+ghost use Rattle.promql_meaning.specs.Selecting.{AllSeries, Asked, asked_over};
 ghost use Rattle.promql_type.specs.Judging.{judged};
 ghost use Rattle.promql_type.specs.Replacements.{AreKept};
 ghost use Rattle.promql_type.specs.TypedTrees.{placed_of, tree_of};
 ghost use Rattle.query_engine.specs.Bounds.{SpendsAtMost, evaluated_plan};
+ghost use Rattle.query_engine.specs.Engines.{DoNotRise, StandAt};
 ghost use Rattle.query_engine.specs.Planning.{choices_of};
 ghost use Rattle.remote_api.specs.Seen.{EngineSeen};
 ghost use Rattle.result_rows.specs.Taken.{HasTaken};
-ghost use Rattle.std.specs.Prelude.{◌≡◌, ◌<◌, List, None, Ok, Option, Some, map, IfErr, IfOk};
+ghost use Rattle.std.specs.Prelude.{◌≡◌, ◌<◌, ◌^◌, List, None, Ok, Option, Some, length, map, IfErr, IfOk};
+ghost use Rattle.step_table.specs.Groups.{Names};
 ghost use Rattle.step_table.specs.Timed.{StepAt, steps_over};
 ghost use Rattle.ticks.specs.Durations.{hundred_years};
 ghost use Rattle.ticks.specs.Works.{Counts};
 ghost use Rattle.ticks.specs.declared.walk.Walk.{Grid as GridWalk};
 
 use crate::options::Options;
-use crate::planning::evaluated;
+use crate::planning::{evaluated, gathered};
 use exchange::RunFault;
 use logical_plan::kept_patterns_are_placed;
 use match_rule::Patterns;
 use phys_plan::laws::steady_onces_stay;
 use phys_plan::{Unbuilt, build};
+use plan_parts::laws::gathers_are_meant;
 use plain_eval::{is_scalar, order_asked};
 use plan_serving::laws::served_plans_are_served_over;
 use plan_tree::Tree;
-use plan_tree::laws::fresh_trees_begin;
+use plan_tree::laws::{fresh_trees_begin, turns_follow};
 use plan_work::laws::spending_stays_within;
 use promql_meaning::Outcome;
 use promql_type::Typed;
@@ -67,7 +71,7 @@ fn finished(
 }
 
 /// The same outcome, with want of memory as the fault of a run.
-fn or_memory(made: Result<Outcome, AllocError>) -> Result<Outcome, RunFault>
+pub(crate) fn or_memory(made: Result<Outcome, AllocError>) -> Result<Outcome, RunFault>
     ensures same { IfOk result (λ outcome. made ≡ Ok outcome) }
     ensures memory { IfErr result (λ fault. fault ≡ run.Memory) }
 {
@@ -197,4 +201,72 @@ pub(crate) fn answered<W: Ledger>(
         Err(Unbuilt::Memory) => Err(AllocError),
         Err(Unbuilt::Invalid) => unreachable!(),
     }
+}
+
+/// The result of a typed query over a grid, of which these engines hold the samples, by the tree of kernels of its plan, rewritten as is
+/// chosen, whose selectors all engines are asked for. They were begun, and were asked nothing since. The tree is within the limits of
+/// the language, its patterns are kept, and no two of its label_replace calls stand at one place. The patterns stay as they are. An engine
+/// that fails or strays is told, and want of memory. On any answer no counter rises. (Prometheus querying; the engines are those of
+/// thanos-io/promql-engine's distributed queries.)
+pub(crate) fn answered_over<C: Courier, W: Ledger>(
+    alloc: Global,
+    typed: &Typed,
+    engines: &mut [Box<dyn Engine>],
+    patterns: &mut Patterns<'_>,
+    courier: &mut C,
+    grid: &Grid,
+    instant: bool,
+    options: &Options,
+    work: &mut Work<W>,
+) -> Result<Outcome, RunFault>
+    requires batch { 0 < options.now.batch }
+    requires within { AreWithin (HaveTheirPatterns patterns.old) hundred_years time_limit (parts_of (tree_of typed.now)) }
+    requires limits { IsWithinLimits hundred_years time_limit (tree_of typed.now) }
+    requires kept { AreKept patterns.old (judged (tree_of typed.now)).replacements (placed_of typed.now) }
+    requires apart { TellApart (judged (tree_of typed.now)).replacements }
+    requires begun { AreBegun (map (λ b. seen b) engines.old) }
+    requires few { length engines.old < 2 ^ 32 }
+    // where these are the engines at which samples stand
+    ensures result { IfOk result (λ outcome. (declared : List Names) (samples : AllSeries) → length declared ≡ length engines.old → StandAt declared (map (λ b. seen b) engines.old) samples
+        → outcome ≡ result_of (asked_over samples patterns.old grid.now) (tree_of typed.now) grid.now instant) }
+    ensures run { HasGone result (map (λ b. seen b) engines.old) (map (λ b. seen b) engines.new) }
+    ensures unmoved { DoNotRise work.old work.new }
+{
+    kept_patterns_are_placed();
+    steady_onces_stay();
+    grids_are_listed();
+    fresh_trees_begin();
+    spending_stays_within();
+    gathers_are_meant();
+    turns_follow();
+    let _ = typed.expr();
+    let Ok(plan) = gathered(alloc, typed, options, patterns, count_of(engines)) else {
+        return Err(RunFault::Memory);
+    };
+    // no selector is left that would read it
+    let store = Store::new(alloc);
+    match build(
+        alloc,
+        &plan,
+        &store,
+        &Walk::Grid(*grid),
+        grid,
+        options.batch,
+        patterns,
+        work,
+    ) {
+        Ok(mut tree) => collected(
+            alloc, typed, &mut tree, &store, engines, patterns, courier, grid, instant, work,
+        ),
+        Err(Unbuilt::Memory) => Err(RunFault::Memory),
+        Err(Unbuilt::Invalid) => unreachable!(),
+    }
+}
+
+/// How many engines there are.
+fn count_of(engines: &[Box<dyn Engine>]) -> u32
+    requires { length engines.now < 2 ^ 32 }
+    ensures { result ≡ length engines.now }
+{
+    engines.len() as u32
 }

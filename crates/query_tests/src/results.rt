@@ -5,9 +5,10 @@ ghost use Rattle.std.specs.Prelude.{◌≡◌};
 mod rows;
 
 use frac_text::write_number;
-use label_set::{Labels, METRIC_NAME, Text};
+use label_set::{Items, Labels, METRIC_NAME, Text};
 use promql_meaning::{Answer, Outcome, ResultSeries};
 use query_engine::{Options, evaluate};
+use remote_api::{Engine, InOrder};
 use sample_store::Store;
 use std::alloc::{AllocError, Global};
 use std::marker::Brand;
@@ -199,15 +200,23 @@ fn counted<W: Ledger>(
         batch,
         closed: false,
     };
-    evaluate(
+    let mut engines: Vec<Box<dyn Engine>> = Vec::new(alloc);
+    let mut declared = Items::new(alloc);
+    match evaluate(
         alloc,
         query.as_str(),
         &when.0,
         when.1,
         &options,
         store,
+        &mut engines,
+        &mut declared,
+        &mut InOrder::new(),
         &mut work,
-    )
+    ) {
+        Ok(outcome) => Ok(outcome),
+        Err(_) => Err(AllocError),
+    }
 }
 
 /// What a text comes to, with counters that nobody reads.

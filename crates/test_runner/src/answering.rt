@@ -7,11 +7,12 @@ ghost use Rattle.test_runner.specs.Loads.{samples_left};
 ghost use Rattle.test_runner.specs.Running.{AnswersLoads, IfOfLoads, IsAnswerOver};
 ghost use Rattle.test_runner.specs.declared.fault.RunnerFault.TheVariants.{Write};
 
+use crate::alone::evaluate_alone;
 use crate::batch::options_over;
 use crate::fault::RunnerFault;
 use crate::load::load_all;
 use promql_meaning::Outcome;
-use query_engine::{Options, evaluate};
+use query_engine::Options;
 use script_read::Script;
 use std::alloc::Global;
 use std::sync::ledger::Ledger;
@@ -42,6 +43,6 @@ pub fn answer<W: Ledger>(
 {
     let store = load_all(alloc, script)?;
     let options = options_over(options, &store);
-    let outcome = evaluate(alloc, text, grid, instant, &options, &store, work)?;
+    let outcome = evaluate_alone(alloc, text, grid, instant, &options, &store, work)?;
     Ok(outcome)
 }

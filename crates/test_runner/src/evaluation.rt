@@ -7,12 +7,13 @@ ghost use Rattle.test_runner.specs.Spending.{EvaluationSpends};
 ghost use Rattle.test_runner.specs.Steps.{IsJudgementOn, IsLine};
 ghost use Rattle.test_runner.specs.Verdicts.{judgement};
 
+use crate::alone::evaluate_alone;
 use crate::batch::options_over;
 use crate::text::verdict_line;
 use holders::Text;
 use match_rule::Patterns;
 use promql_meaning::Outcome;
-use query_engine::{Options, evaluate};
+use query_engine::Options;
 use sample_store::Store;
 use script_check::{Verdict, append_outcome, judge};
 use script_read::Expectations;
@@ -87,7 +88,7 @@ pub fn judge_evaluation<W: Ledger>(
 {
     let text = asked.text.as_str();
     let options = options_over(asked.options, store);
-    let outcome = evaluate(
+    let outcome = evaluate_alone(
         alloc,
         text,
         asked.grid,

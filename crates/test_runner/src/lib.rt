@@ -3,6 +3,7 @@
 //! Its rows of tests stand in `program_tests`.
 #![tactic(auto)]
 
+mod alone;
 mod answering;
 mod batch;
 mod begun;

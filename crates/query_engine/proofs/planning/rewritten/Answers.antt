@@ -16,5 +16,5 @@ returns-in_ok-planned-in-Ok-clause-plan c =
       placed = placed;
       stands = ready.stands;
       patterns = subst (λ (e : Expr). AreKept kept (judged e).replacements placed) ready.edge ready.placed;
-      plan = c.in_ok-planned-in-Ok.ensures ∙ ap (plan_of (choices_of c.args.options.now) kept placed) ready.edge;
+      plan = c.in_ok-planned-in-Ok.ensures.plan ∙ ap (plan_of (choices_of c.args.options.now) kept placed) ready.edge;
     }

@@ -11,12 +11,12 @@ pub returns-in_err-outcome-clause-bounded : goal.returns-in_err-outcome-clause-b
 returns-in_err-outcome-clause-bounded g c =
     let series = c.in_ok-store.store in
     let options = c.args.options.now in
-    spent_over (samples_left c.args.script.now) series c.args.text.now c.args.grid.now options c.args.work.now c.evaluate.new.work c.in_ok-store.ensures.left
-    (with_batch c.args.text.now c.args.text.now series c.args.grid.now options c.options_over-options.result _ c.args.work.now c.evaluate.new.work refl c.options_over-options.ensures.is c.evaluate.ensures.bounded)
+    spent_over (samples_left c.args.script.now) series c.args.text.now c.args.grid.now options c.args.work.now c.evaluate_alone.new.work c.in_ok-store.ensures.left
+    (with_batch c.args.text.now c.args.text.now series c.args.grid.now options c.options_over-options.result _ c.args.work.now c.evaluate_alone.new.work refl c.options_over-options.ensures.is c.evaluate_alone.ensures.bounded)
 
 pub returns-clause-bounded : goal.returns-clause-bounded
 returns-clause-bounded g c =
     let series = c.in_ok-store.store in
     let options = c.args.options.now in
-    spent_over (samples_left c.args.script.now) series c.args.text.now c.args.grid.now options c.args.work.now c.evaluate.new.work c.in_ok-store.ensures.left
-    (with_batch c.args.text.now c.args.text.now series c.args.grid.now options c.options_over-options.result _ c.args.work.now c.evaluate.new.work refl c.options_over-options.ensures.is c.evaluate.ensures.bounded)
+    spent_over (samples_left c.args.script.now) series c.args.text.now c.args.grid.now options c.args.work.now c.evaluate_alone.new.work c.in_ok-store.ensures.left
+    (with_batch c.args.text.now c.args.text.now series c.args.grid.now options c.options_over-options.result _ c.args.work.now c.evaluate_alone.new.work refl c.options_over-options.ensures.is c.evaluate_alone.ensures.bounded)

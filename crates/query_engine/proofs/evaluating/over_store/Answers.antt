@@ -13,7 +13,7 @@ use Rattle.query_engine.specs.Planning.{choices_of}
 use Rattle.query_engine.proofs.Results.{comes_to, not_refused}
 use Rattle.query_engine.proofs.Spent.{text_spends}
 use Rattle.query_engine.proofs.Streamed.{told_apart}
-use Rattle.query_engine.proofs.evaluating.evaluate.Goals as goal
+use Rattle.query_engine.proofs.evaluating.over_store.Goals as goal
 use Rattle.query_places.specs.Apart.{StandApart}
 
 pub answered-requires-clause-batch : goal.answered-requires-clause-batch
