@@ -77,6 +77,25 @@ take_size zero xs l = refl
 take_size (suc n) [] l = absurd (omega arith)
 take_size (suc n) (x ∷ xs) l = ap suc (take_size n xs (omega arith))
 
+pub take_front : {X : Type 0} (ys zs : List X) (n : ℕ) → length ys ≡ n → take n (ys ++ zs) ≡ ys
+take_front [] zs zero size = refl
+take_front [] zs (suc n) size = absurd (omega (arith, size))
+take_front (y ∷ ys) zs zero size = absurd (omega (arith, size))
+take_front (y ∷ ys) zs (suc n) size = ap (λ xs. y ∷ xs) (take_front ys zs n (omega (arith, size)))
+
+pub drop_front : {X : Type 0} (ys zs : List X) (n : ℕ) → length ys ≡ n → drop n (ys ++ zs) ≡ zs
+drop_front [] zs zero size = refl
+drop_front [] zs (suc n) size = absurd (omega (arith, size))
+drop_front (y ∷ ys) zs zero size = absurd (omega (arith, size))
+drop_front (y ∷ ys) zs (suc n) size = drop_front ys zs n (omega (arith, size))
+
+pub parts_size : {X : Type 0} (n : ℕ) (xs ys : List X) → n ≤ length xs → length ys ≡ n → length (ys ++ drop n xs) ≡ length xs
+parts_size zero xs [] l size = refl
+parts_size zero xs (y ∷ ys) l size = absurd (omega (arith, size))
+parts_size (suc n) xs [] l size = absurd (omega (arith, size))
+parts_size (suc n) [] (y ∷ ys) l size = absurd (omega (arith, l))
+parts_size (suc n) (x ∷ xs) (y ∷ ys) l size = ap suc (parts_size n xs ys (omega (arith, l)) (omega (arith, size)))
+
 -- ---- calls of one engine
 
 -- what a call of one box makes of all
@@ -195,10 +214,10 @@ back_get (y ∷ xs) x = back_get xs x
 
 -- it stands at the last place
 pub moved_there : {X : Type 0} (i n : ℕ) (xs : List X) (x : X) → n ≡ length xs → slice_get xs i ≡ Some x → slice_get (moved_last i xs) (n - 1) ≡ Some x
-moved_there i n xs x size e =
+moved_there {X} i n xs x size e =
     let s : suc (length (remove xs i)) ≡ length xs = removed_size i xs x e in
     let here : n - 1 ≡ length (remove xs i) = omega (arith, s, size) in
-    ap₂ (λ (ys : List _) (k : ℕ). slice_get (remove xs i ++ ys) k) (one_there i xs x e) here ∙ back_get (remove xs i) x
+    ap₂ (λ (ys : List X) (k : ℕ). slice_get (remove xs i ++ ys) k) (one_there i xs x e) here ∙ back_get (remove xs i) x
 
 both_size : {X : Type 0} (xs ys : List X) → length (xs ++ ys) ≡ length xs + length ys
 both_size [] ys = refl
@@ -213,9 +232,9 @@ moved_size i xs l =
     omega (arith, s, one, two)
 
 pub map_moved : {X Y : Type 0} (f : X → Y) (i : ℕ) (xs : List X) → map f (moved_last i xs) ≡ moved_last i (map f xs)
-map_moved f i xs =
+map_moved {X} {Y} f i xs =
     map_both f (remove xs i) (take 1 (drop i xs))
-    ∙ ap₂ (λ (a b : List _). a ++ b) (map_both f (take i xs) (drop (suc i) xs) ∙ ap₂ (λ (a b : List _). a ++ b) (map_take f i xs) (map_drop f (suc i) xs)) (map_take f 1 (drop i xs) ∙ ap (take 1) (map_drop f i xs))
+    ∙ ap₂ (λ (a b : List Y). a ++ b) (map_both f (take i xs) (drop (suc i) xs) ∙ ap₂ (λ (a b : List Y). a ++ b) (map_take f i xs) (map_drop f (suc i) xs)) (map_take f 1 (drop i xs) ∙ ap (take 1) (map_drop f i xs))
 
 -- the first of what stands from a place on
 pub front_of_rest : {X : Type 0} (i : ℕ) (xs : List X) → i < length xs → (d : X) × (take 1 (drop i xs) ≡ get_or xs i d ∷ [])

@@ -18,7 +18,7 @@ use Rattle.plan_work.specs.PlanBounds.{Bounding, costs, first_alone, inner_times
 use Rattle.promql_ast.specs.declared.tree.Moment.{Moment}
 use Rattle.promql_meaning.specs.Results.{grid_times}
 use Rattle.promql_meaning.specs.Selecting.{AllSeries, Asked, asked_over, lookback}
-use Rattle.sample_store.specs.Samples.{Pair, chosen, fewer, fewest, looked_at, numbers_with}
+use Rattle.sample_store.specs.Samples.{Pair, asked as asked_pair, fewer, fewest, looked_at, numbers_with}
 use Rattle.ticks.specs.Works.{Counts}
 use Rattle.ticks.specs.declared.grid.Grid.{Grid}
 use Rattle.ticks.specs.declared.moment.Ms.{Ms}
@@ -34,10 +34,10 @@ fewer_none count (Some pair) = omega arith
 fewest_none : (count : Pair → ℕ) (rules : List Rule) (most : ℕ) → most ≡ 0 → fewest count most rules ≡ 0
 fewest_none count [] most e = e
 fewest_none count (rule ∷ rules) most e =
-    fewest_none count rules (fewer count most _) (ap (λ n. fewer count n _) e ∙ fewer_none count _)
+    fewest_none count rules (fewer count most (asked_pair rule)) (ap (λ (n : ℕ). fewer count n (asked_pair rule)) e ∙ fewer_none count (asked_pair rule))
 
 looks_none : (rules : List Rule) → looked_at rules [] ≡ 0
-looks_none rules = fewest_none _ rules 0 refl
+looks_none rules = fewest_none (λ (pair : Pair). length (numbers_with pair 0 [])) rules 0 refl
 
 sum_none : {X : Type 0} (f : X → ℕ) → ((x : X) → f x ≡ 0) → (xs : List X) (a : ℕ) → fold (λ n x. n + f x) a xs ≡ a
 sum_none f none [] a = refl
@@ -46,7 +46,7 @@ sum_none f none (x ∷ xs) a =
 
 module _ (kept : Kept) where
   tests_none : (under more : List Rule) → filter_tests kept [] under more ≡ 0
-  tests_none under more = omega arith
+  tests_none under more = let z : looked_at (under ++ more) [] ≡ 0 = looks_none (under ++ more) in omega (arith, z)
 
   filters_none : (under : List Rule) (filters : List (List Rule)) → filters_test kept [] under filters ≡ 0
   filters_none under [] = refl

@@ -1,5 +1,5 @@
 -- What an evaluation over the first boxes of a list makes of all of them, and of one that is lost.
-use Rattle.std.proofs.Common.{◌≡◌, ◌∙◌, ℕ, ◌-◌, ◌<◌, ◌≤◌, true, List, [], ◌∷◌, drop, length, map, take, slice_get, refl, sym, ap, subst, arith, Option, Some, None}
+use Rattle.std.proofs.Common.{◌≡◌, ◌∙◌, ℕ, ◌-◌, ◌<◌, ◌≤◌, true, List, [], ◌∷◌, ◌++◌, drop, length, map, take, slice_get, refl, sym, ap, subst, arith, Option, Some, None}
 use Rattle.std.specs.Prelude.{Result, Ok, Err, IfErr, IfSome, MatchOption, remove}
 use Rattle.exchange.specs.Calls.{Each, Grows}
 use Rattle.exchange.specs.Faults.{Faulted, HasFailed, HasStrayed}
@@ -12,7 +12,7 @@ use Rattle.remote_api.specs.Seen.{EngineSeen, IsBegun, KeepsStrays}
 use Rattle.remote_api.specs.declared.frame.Stray.{Stray}
 use Rattle.step_table.specs.Groups.{Names}
 use Rattle.query_engine.specs.Engines.{AreSound, FaultedLast, IsNoFailure, Leaves, Loses, LosesNone, last_place, moved_last, named_by}
-use Rattle.query_engine.proofs.Boxes.{before_each, each_moved, each_whole, get_within, map_drop, map_moved, map_size, map_take, moved_size, moved_there, take_get, take_inside}
+use Rattle.query_engine.proofs.Boxes.{before_each, drop_front, each_moved, each_whole, map_drop, map_moved, map_size, map_take, moved_size, moved_there, parts_size, take_front, take_get, take_inside, take_size}
 
 -- ---- calls one behind another
 
@@ -117,6 +117,20 @@ module _ {B T : Type 0} (f : B → EngineSeen) (n : ℕ) (bs cs : List B) (r : R
       by_result (Err (run.OutOfStep i expected got)) h = tt
       by_result (Err (run.WrongCell i at)) h = tt
 
+-- a call for the first boxes leaves the others
+module _ {B T : Type 0} (f : B → EngineSeen) (n : ℕ) (bs ys : List B) (r : Result T RunFault) (inside : n ≤ length bs) (gone : HasGone r (map f (take n bs)) (map f ys)) where
+  front_size : length ys ≡ n
+  front_size = sym (map_size f ys) ∙ gone.many ∙ map_size f (take n bs) ∙ take_size n bs inside
+
+  pub front_gone : HasGone r (map f (take n bs)) (map f (take n (ys ++ drop n bs)))
+  front_gone = subst (λ (zs : List B). HasGone r (map f (take n bs)) (map f zs)) (sym (take_front ys (drop n bs) n front_size)) gone
+
+  pub front_rest : drop n (ys ++ drop n bs) ≡ drop n bs
+  front_rest = drop_front ys (drop n bs) n front_size
+
+  pub front_many : length (ys ++ drop n bs) ≡ length bs
+  front_many = parts_size n bs ys inside front_size
+
 -- ---- one that is lost
 
 module _ (es fs : List EngineSeen) (many : length fs ≡ length es) (grown : Each Grows es fs) where
@@ -152,10 +166,7 @@ module _ (es fs : List EngineSeen) (many : length fs ≡ length es) (grown : Eac
       last = h.last;
     }
 
-  -- a fault takes the labels of the engine that it names, and moves its box
-  abbrev Takes : Option ℕ → (before now : List Names) → (gs : List EngineSeen) → Type 0
-  Takes named before now gs = MatchOption named (now ≡ before) (λ i. now ≡ remove before i) × MatchOption named (gs ≡ fs) (λ i. gs ≡ moved_last i fs)
-
+  -- a fault takes the labels of the engine that it names, and its box was moved
   pub lost : {T : Type 0} (fault : RunFault) (before now : List Names) (gs : List EngineSeen) → length before ≤ length es → IfSome (named_by fault) (λ i. i < length before)
       → MatchOption (named_by fault) (now ≡ before) (λ i. now ≡ remove before i) → MatchOption (named_by fault) (gs ≡ fs) (λ i. gs ≡ moved_last i fs) → Leaves {T = T} (Err fault) before now es gs
   lost run.Memory before now gs within inside labels moved = record { labels = labels; many = ap length moved ∙ many; boxes = subst (Each Grows es) (sym moved) grown }
@@ -173,3 +184,19 @@ module _ (es fs : List EngineSeen) (many : length fs ≡ length es) (grown : Eac
 pub seen_moved : {B : Type 0} (f : B → EngineSeen) (named : Option ℕ) (bs cs : List B) → MatchOption named (cs ≡ bs) (λ i. cs ≡ moved_last i bs) → MatchOption named (map f cs ≡ map f bs) (λ i. map f cs ≡ moved_last i (map f bs))
 seen_moved f None bs cs is = ap (map f) is
 seen_moved f (Some i) bs cs is = ap (map f) is ∙ map_moved f i bs
+
+-- ---- without engines
+
+module _ {T : Type 0} (declared : List Names) (es : List EngineSeen) where
+  pub alone_leaves : (r : Result T RunFault) → IfErr r (λ fault. fault ≡ run.Memory) → Leaves r declared declared es es
+  alone_leaves (Ok x) m = none_lost es es refl (λ i e at. (e, at, grows_itself e)) declared declared refl
+  alone_leaves (Err fault) m =
+      subst (λ (f : RunFault). Leaves {T = T} (Err f) declared declared es es) (sym m) (none_lost es es refl (λ i e at. (e, at, grows_itself e)) declared declared refl)
+
+  pub alone_faulted : (r : Result T RunFault) → IfErr r (λ fault. fault ≡ run.Memory) → FaultedLast r es es
+  alone_faulted (Ok x) m = tt
+  alone_faulted (Err fault) m = subst (λ (f : RunFault). FaultedLast {T = T} (Err f) es es) (sym m) tt
+
+  pub alone_sound : (r : Result T RunFault) → IfErr r (λ fault. fault ≡ run.Memory) → IsNoFailure r
+  alone_sound (Ok x) m = tt
+  alone_sound (Err fault) m = subst (λ (f : RunFault). IsNoFailure {T = T} (Err f)) (sym m) tt

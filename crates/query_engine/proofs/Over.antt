@@ -19,6 +19,7 @@ use Rattle.plan_parts.specs.Requested.{AreMeant, asked_with}
 use Rattle.plan_tree.specs.Asking.{gathered_by}
 use Rattle.plan_tree.specs.Shapes.{Shape, rule}
 use Rattle.plan_tree.specs.Worlds.{Gathers, no_gathers, world}
+use Rattle.promql_ast.specs.Edged.{edged}
 use Rattle.promql_ast.specs.declared.tree.Expr.{Expr}
 use Rattle.promql_meaning.specs.Givens.{step_of}
 use Rattle.promql_meaning.specs.Meaning.{meaning, meaning_step}
@@ -35,8 +36,8 @@ use Rattle.ticks.specs.Walks.{IsInstant}
 use Rattle.ticks.specs.declared.grid.Grid.{Grid}
 use Rattle.ticks.specs.declared.walk.Walk.{Grid as GridWalk}
 use Rattle.query_engine.specs.Engines.{AreHeldBy, StandAt}
+use Rattle.query_engine.specs.Evaluating.{ComesTo, StandsFor, answered}
 use Rattle.query_engine.proofs.Streamed.{steps_are_meant}
-use Rattle.query_engine.proofs.Unread.{result_unread}
 
 -- ---- what is held
 
@@ -135,5 +136,19 @@ module _ (grid : Grid) (kept : Kept) (store : AllSeries) (p : Plan) (e : Expr) (
       (λ t inside. gives held gathers meant (stay (asked_with store kept grid held)) t inside ∙ ap step_of (sym (unread (asked_with store kept grid held) samples t)))
       (λ t. means all t parted_over stand.sets there)
 
-  pub result_meant : (instant : Bool) (outcome : Outcome) → outcome ≡ result_of all e grid instant → outcome ≡ result_of (asked_over samples kept grid) e grid instant
-  result_meant instant outcome is = is ∙ result_unread (asked_over samples kept grid) held e grid instant
+-- what is said of samples that stand at some boxes is said of those that stand at boxes which hold the same
+pub stand_moved : {E : Type 0} (Said : AllSeries → Outcome → Type 0) (n m : ℕ) (es fs : List EngineSeen) → m ≡ n
+    → ((declared : List Names) (engines : List Engine) → length declared ≡ n → AreHeldBy declared es engines → AreHeldBy declared fs engines) → (result : Result Outcome E)
+    → IfOk result (λ o. (declared : List Names) (samples : AllSeries) → length declared ≡ m → StandAt declared fs samples → Said samples o)
+    → IfOk result (λ o. (declared : List Names) (samples : AllSeries) → length declared ≡ n → StandAt declared es samples → Said samples o)
+stand_moved Said n m es fs same move (Ok o) said = λ declared samples size stand.
+    said declared samples (size ∙ sym same) (record { sets = stand.sets; engines = stand.engines; held = move declared stand.engines size stand.held; parted = stand.parted })
+stand_moved Said n m es fs same move (Err fault) said = tt
+
+-- an outcome that is the result of a text's tree is what the text comes to
+pub comes_over : {E : Type 0} (text : List ℕ) (kept : Kept) (grid : Grid) (e tree : Expr) (instant closed : Bool) (n : ℕ) (es : List EngineSeen) → StandsFor text kept e → tree ≡ edged closed e
+    → (result : Result Outcome E) → IfOk result (λ o. (declared : List Names) (samples : AllSeries) → length declared ≡ n → StandAt declared es samples → o ≡ result_of (asked_over samples kept grid) tree grid instant)
+    → IfOk result (λ o. (declared : List Names) (samples : AllSeries) → length declared ≡ n → StandAt declared es samples → ComesTo text samples grid instant closed o)
+comes_over text kept grid e tree instant closed n es stands edge (Ok o) is = λ declared samples size stand.
+    answered kept e o stands (is declared samples size stand ∙ ap (λ (x : Expr). result_of (asked_over samples kept grid) x grid instant) edge)
+comes_over text kept grid e tree instant closed n es stands edge (Err fault) is = tt

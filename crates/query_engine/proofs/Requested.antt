@@ -76,15 +76,14 @@ module _ (P : Part → Type 0) where
   below c p (of_once e) all = first c [] (subst All (there p (node.Once c) e ∙ of-Once step (λ q. q.node) p.at c) all)
 
   -- what holds of each part of a plan holds of the part of a request
-  asked_in : (r : Request) (p : Plan) → IsAskedIn r p → All (parts_asked p) → P (record { expr = r.part.expr; kind = r.part.kind; engines = r.engines })
-  asked_in r p (itself q e) all =
-      (subst All (there q (node.Gather r.part.expr r.part.kind r.engines) e ∙ of-Gather step (λ q. q.node) q.at r.part.expr r.part.kind r.engines) all).0
-  asked_in r p (under c q child inside) all = asked_in r c inside (below c q child all)
+  asked_in : (r : Request) {p : Plan} → IsAskedIn r p → All (parts_asked p) → P (record { expr = r.part.expr; kind = r.part.kind; engines = r.engines })
+  asked_in r (itself q e) = λ all. (subst All (there q (node.Gather r.part.expr r.part.kind r.engines) e ∙ of-Gather step (λ x. x.node) q.at r.part.expr r.part.kind r.engines) all).0
+  asked_in r (under c q child inside) = λ all. asked_in r inside (below c q child all)
 
 -- there is an engine under each number that the requests of a plan name which asks all engines
 pub have_engines : (requests : List Request) (es : List EngineSeen) (p : Plan) (count : ℕ) → count ≡ length es → AreAskedOf (all_engines count) (parts_asked p)
     → ((k : ℕ) (r : Request) → slice_get requests k ≡ Some r → IsAskedIn r p) → HaveEngines requests es
 have_engines requests es p count size all named k j i r r_at i_at =
-    let is = asked_in (IsAskedOf (all_engines count)) r p (named k r r_at) all in
+    let is = asked_in (IsAskedOf (all_engines count)) r (named k r r_at) all in
     let inside : i < 0 + count = range_inside 0 count j i (sym (ap (λ (numbers : List ℕ). slice_get numbers j) is.all) ∙ i_at) in
     omega (arith, inside, size)

@@ -1,6 +1,6 @@
 -- A plan that kernels serve without engines asks engines for no part.
 use Rattle.std.proofs.Common.{◌≡◌, ℕ, Bool, true, false, List, [], ◌∷◌, map, sym, subst}
-use Rattle.std.specs.Prelude.{◌&&◌}
+use Rattle.std.specs.Prelude.{◌&&◌, ◌||◌}
 use Rattle.std.specs.List.{AllByRecursion}
 use Rattle.holders.specs.Joins.{both_of}
 use Rattle.logical_plan.specs.declared.nodes.Plan.{Plan}
@@ -73,7 +73,7 @@ module _ (engines : List ℕ) where
   level (PlanNode-F.Subquery p range step moment) = kids true (p ∷ [])
   level (PlanNode-F.Element f p ps) = kids true (p ∷ ps)
   level (PlanNode-F.Stamp p) = kids true (p ∷ [])
-  level (PlanNode-F.Window f p ps) = kids _ (p ∷ ps)
+  level (PlanNode-F.Window f p ps) = kids ((serving p.0).ranges || (serving p.0).points) (p ∷ ps)
   level (PlanNode-F.Absent labels p) = kids true (p ∷ [])
   level (PlanNode-F.Buckets p q) = kids true (p ∷ q ∷ [])
   level (PlanNode-F.Relabel rule p) = kids true (p ∷ [])

@@ -130,9 +130,15 @@ fn over_first<C: Courier, W: Ledger>(
     ensures many { length engines.new ≡ length engines.old }
     ensures unmoved { DoNotRise work.old work.new }
 {
-    let (asked, _) = engines.split_at_mut(count);
     over_boxes(
-        alloc, text, grid, instant, options, asked, courier, work,
+        alloc,
+        text,
+        grid,
+        instant,
+        options,
+        &mut engines[..count],
+        courier,
+        work,
     )
 }
 
