@@ -131,6 +131,13 @@ module _ {B T : Type 0} (f : B → EngineSeen) (n : ℕ) (bs ys : List B) (r : R
   pub front_many : length (ys ++ drop n bs) ≡ length bs
   front_many = parts_size n bs ys inside front_size
 
+-- a number among the declared ones is one of a box
+pub named_boxes : (fault : RunFault) (n m : ℕ) → n ≤ m → IfSome (named_by fault) (λ i. i < n) → IfSome (named_by fault) (λ i. i < m)
+named_boxes run.Memory n m l h = tt
+named_boxes (run.EngineFault i) n m l h = omega (arith, l, h)
+named_boxes (run.OutOfStep i expected got) n m l h = omega (arith, l, h)
+named_boxes (run.WrongCell i at) n m l h = omega (arith, l, h)
+
 -- ---- one that is lost
 
 module _ (es fs : List EngineSeen) (many : length fs ≡ length es) (grown : Each Grows es fs) where

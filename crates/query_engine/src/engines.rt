@@ -1,9 +1,8 @@
 //! Boxes of engines: their asks are forgotten, and one is lost.
 ghost use Rattle.exchange.specs.Calls.{Each, IsCalled};
-ghost use Rattle.exchange.specs.Faults.{Blames};
 ghost use Rattle.query_engine.specs.Engines.{moved_last, named_by};
 ghost use Rattle.remote_api.specs.Seen.{IsBegun};
-ghost use Rattle.std.specs.Prelude.{◌≡◌, ◌<◌, Option, None, Some, IfSome, MatchOption, length, map, remove};
+ghost use Rattle.std.specs.Prelude.{◌≡◌, ◌<◌, IfSome, MatchOption, length, map, remove};
 
 use exchange::RunFault;
 use holders::Items;

@@ -7,7 +7,7 @@ ghost use Rattle.query_engine.specs.Bounds.{Spends};
 ghost use Rattle.query_engine.specs.Engines.{AreSound, DoNotRise, FaultedLast, IsNoFailure, Leaves, StandAt};
 ghost use Rattle.query_engine.specs.Evaluating.{ComesTo, IsRefused};
 ghost use Rattle.query_engine.specs.Planning.{choices_of};
-ghost use Rattle.std.specs.Prelude.{◌≡◌, ◌<◌, ◌≤◌, ◌^◌, ◌++◌, List, [], IfErr, IfOk, drop, length, map, take};
+ghost use Rattle.std.specs.Prelude.{◌≡◌, ◌<◌, ◌≤◌, ◌^◌, List, [], IfErr, IfOk, drop, length, map, take};
 ghost use Rattle.step_table.specs.Groups.{Names};
 
 use crate::engines::{begin, lose};

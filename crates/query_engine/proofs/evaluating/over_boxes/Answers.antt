@@ -41,7 +41,7 @@ answered_over-requires-clause-apart g c =
 
 pub answered_over-requires-clause-begun : goal.answered_over-requires-clause-begun
 answered_over-requires-clause-begun g c =
-    begun_are _ _ (map_size _ c.begin.new.engines ∙ c.begin.ensures.len ∙ sym (map_size _ c.args.engines.now)) c.begin.ensures.begun
+    begun_are _ _ (map_size (λ b. (goal.Engine-dyn g (b.vtable, b.value)).seen b.value) c.begin.new.engines ∙ c.begin.ensures.len ∙ sym (map_size (λ b. (goal.Engine-dyn g (b.vtable, b.value)).seen b.value) c.args.engines.now)) c.begin.ensures.begun
 
 pub returns-in-Ok-typed_tree-clause-outcome : goal.returns-in-Ok-typed_tree-clause-outcome
 returns-in-Ok-typed_tree-clause-outcome g c =
@@ -63,17 +63,17 @@ returns-in-Err-Refused-clause-outcome g c declared samples size stand =
     (refused c.in-Err-Refused.refusal told)
 
 pub returns-in_default-clause-run : goal.returns-in_default-clause-run
-returns-in_default-clause-run g c = lacking _ _ (begun_gone _ _ (map_size _ c.begin.new.engines ∙ c.begin.ensures.len ∙ sym (map_size _ c.args.engines.now)) c.begin.ensures.begun)
+returns-in_default-clause-run g c = lacking _ _ (begun_gone _ _ (map_size (λ b. (goal.Engine-dyn g (b.vtable, b.value)).seen b.value) c.begin.new.engines ∙ c.begin.ensures.len ∙ sym (map_size (λ b. (goal.Engine-dyn g (b.vtable, b.value)).seen b.value) c.args.engines.now)) c.begin.ensures.begun)
 
 pub returns-in-Ok-typed_tree-clause-run : goal.returns-in-Ok-typed_tree-clause-run
 returns-in-Ok-typed_tree-clause-run g c =
-    behind c.turns_follow.ensures.follow c.answered_over.result _ _ _ (begun_gone _ _ (map_size _ c.begin.new.engines ∙ c.begin.ensures.len ∙ sym (map_size _ c.args.engines.now)) c.begin.ensures.begun) c.answered_over.ensures.run
+    behind c.turns_follow.ensures.follow c.answered_over.result _ _ _ (begun_gone _ _ (map_size (λ b. (goal.Engine-dyn g (b.vtable, b.value)).seen b.value) c.begin.new.engines ∙ c.begin.ensures.len ∙ sym (map_size (λ b. (goal.Engine-dyn g (b.vtable, b.value)).seen b.value) c.args.engines.now)) c.begin.ensures.begun) c.answered_over.ensures.run
 
 pub returns-in-Err-Refused-clause-run : goal.returns-in-Err-Refused-clause-run
-returns-in-Err-Refused-clause-run g c = given _ _ _ (begun_gone _ _ (map_size _ c.begin.new.engines ∙ c.begin.ensures.len ∙ sym (map_size _ c.args.engines.now)) c.begin.ensures.begun)
+returns-in-Err-Refused-clause-run g c = given _ _ _ (begun_gone _ _ (map_size (λ b. (goal.Engine-dyn g (b.vtable, b.value)).seen b.value) c.begin.new.engines ∙ c.begin.ensures.len ∙ sym (map_size (λ b. (goal.Engine-dyn g (b.vtable, b.value)).seen b.value) c.args.engines.now)) c.begin.ensures.begun)
 
 pub returns-in-Err-Memory-clause-run : goal.returns-in-Err-Memory-clause-run
-returns-in-Err-Memory-clause-run g c = lacking _ _ (begun_gone _ _ (map_size _ c.begin.new.engines ∙ c.begin.ensures.len ∙ sym (map_size _ c.args.engines.now)) c.begin.ensures.begun)
+returns-in-Err-Memory-clause-run g c = lacking _ _ (begun_gone _ _ (map_size (λ b. (goal.Engine-dyn g (b.vtable, b.value)).seen b.value) c.begin.new.engines ∙ c.begin.ensures.len ∙ sym (map_size (λ b. (goal.Engine-dyn g (b.vtable, b.value)).seen b.value) c.args.engines.now)) c.begin.ensures.begun)
 
 pub returns-in_default-clause-unmoved : goal.returns-in_default-clause-unmoved
 returns-in_default-clause-unmoved g c = idle_still c.args.work.now

@@ -1,6 +1,8 @@
-use Rattle.std.proofs.Common.{◌≡◌, ◌∙◌, length, map, refl, take}
+use Rattle.std.proofs.Common.{◌≡◌, ◌∙◌, ◌≤◌, List, length, map, refl, subst, sym, take}
+use Rattle.remote_api.specs.Seen.{EngineSeen}
+use Rattle.query_engine.specs.Engines.{AreSound, named_by}
 use Rattle.query_engine.proofs.Boxes.{map_size}
-use Rattle.query_engine.proofs.Lost.{all_faulted, all_grown, as_many, lost, lost_last, named_inside, none_failed, none_lost, seen_moved}
+use Rattle.query_engine.proofs.Lost.{all_faulted, all_grown, as_many, lost, lost_last, named_boxes, named_inside, none_failed, none_lost, seen_moved}
 use Rattle.query_engine.proofs.evaluating.over_declared.Goals as goal
 
 pub returns-in-Ok-clause-outcome : goal.returns-in-Ok-clause-outcome
@@ -8,17 +10,45 @@ returns-in-Ok-clause-outcome g c = λ samples stand. c.in-Ok.ensures.outcome c.a
 
 pub returns-in-Ok-clause-kept : goal.returns-in-Ok-clause-kept
 returns-in-Ok-clause-kept g c =
-    none_lost _ _ (as_many _ _ _ _ c.over_first.result c.over_first.ensures.run c.over_first.ensures.rest c.over_first.ensures.many)
-    (all_grown _ _ _ _ c.over_first.result c.over_first.ensures.run c.over_first.ensures.rest c.over_first.ensures.many) _ _ refl
+    let es = map (λ b. (goal.Engine-dyn g (b.vtable, b.value)).seen b.value) c.args.engines.now in
+    let fs = map (λ b. (goal.Engine-dyn g (b.vtable, b.value)).seen b.value) c.over_first.new.engines in
+    none_lost es fs
+    (as_many (λ b. (goal.Engine-dyn g (b.vtable, b.value)).seen b.value) (length c.args.declared.now) c.args.engines.now c.over_first.new.engines c.over_first.result c.over_first.ensures.run c.over_first.ensures.rest c.over_first.ensures.many)
+    (all_grown (λ b. (goal.Engine-dyn g (b.vtable, b.value)).seen b.value) (length c.args.declared.now) c.args.engines.now c.over_first.new.engines c.over_first.result c.over_first.ensures.run c.over_first.ensures.rest c.over_first.ensures.many)
+    c.args.declared.now c.args.declared.now refl
 
 pub lose-requires-clause-named : goal.lose-requires-clause-named
-lose-requires-clause-named g c = ?
+lose-requires-clause-named g c =
+    named_inside (λ b. (goal.Engine-dyn g (b.vtable, b.value)).seen b.value) (length c.args.declared.now) c.args.engines.now c.over_first.new.engines c.over_first.result c.over_first.ensures.run
 
 pub lose-requires-clause-boxes : goal.lose-requires-clause-boxes
-lose-requires-clause-boxes g c = ?
+lose-requires-clause-boxes g c =
+    named_boxes c.in-Err.fault (length c.args.declared.now) (length c.over_first.new.engines) (subst (λ n. length c.args.declared.now ≤ n) (sym c.over_first.ensures.many) c.requires.boxes)
+    (named_inside (λ b. (goal.Engine-dyn g (b.vtable, b.value)).seen b.value) (length c.args.declared.now) c.args.engines.now c.over_first.new.engines c.over_first.result c.over_first.ensures.run)
 
 pub returns-in-Err-clause-kept : goal.returns-in-Err-clause-kept
-returns-in-Err-clause-kept g c = ?
+returns-in-Err-clause-kept g c =
+    let es = map (λ b. (goal.Engine-dyn g (b.vtable, b.value)).seen b.value) c.args.engines.now in
+    let fs = map (λ b. (goal.Engine-dyn g (b.vtable, b.value)).seen b.value) c.over_first.new.engines in
+    let gs = map (λ b. (goal.Engine-dyn g (b.vtable, b.value)).seen b.value) c.lose.new.engines in
+    lost es fs
+    (as_many (λ b. (goal.Engine-dyn g (b.vtable, b.value)).seen b.value) (length c.args.declared.now) c.args.engines.now c.over_first.new.engines c.over_first.result c.over_first.ensures.run c.over_first.ensures.rest c.over_first.ensures.many)
+    (all_grown (λ b. (goal.Engine-dyn g (b.vtable, b.value)).seen b.value) (length c.args.declared.now) c.args.engines.now c.over_first.new.engines c.over_first.result c.over_first.ensures.run c.over_first.ensures.rest c.over_first.ensures.many)
+    c.in-Err.fault c.args.declared.now c.lose.new.declared gs (subst (λ n. length c.args.declared.now ≤ n) (sym (map_size (λ b. (goal.Engine-dyn g (b.vtable, b.value)).seen b.value) c.args.engines.now)) c.requires.boxes)
+    (named_inside (λ b. (goal.Engine-dyn g (b.vtable, b.value)).seen b.value) (length c.args.declared.now) c.args.engines.now c.over_first.new.engines c.over_first.result c.over_first.ensures.run)
+    c.lose.ensures.labels (seen_moved (λ b. (goal.Engine-dyn g (b.vtable, b.value)).seen b.value) (named_by c.in-Err.fault) c.over_first.new.engines c.lose.new.engines c.lose.ensures.boxes)
 
 pub returns-in-Err-clause-faulted : goal.returns-in-Err-clause-faulted
-returns-in-Err-clause-faulted g c = ?
+returns-in-Err-clause-faulted g c =
+    let es = map (λ b. (goal.Engine-dyn g (b.vtable, b.value)).seen b.value) c.args.engines.now in
+    let fs = map (λ b. (goal.Engine-dyn g (b.vtable, b.value)).seen b.value) c.over_first.new.engines in
+    let gs = map (λ b. (goal.Engine-dyn g (b.vtable, b.value)).seen b.value) c.lose.new.engines in
+    lost_last es fs
+    (as_many (λ b. (goal.Engine-dyn g (b.vtable, b.value)).seen b.value) (length c.args.declared.now) c.args.engines.now c.over_first.new.engines c.over_first.result c.over_first.ensures.run c.over_first.ensures.rest c.over_first.ensures.many)
+    (all_grown (λ b. (goal.Engine-dyn g (b.vtable, b.value)).seen b.value) (length c.args.declared.now) c.args.engines.now c.over_first.new.engines c.over_first.result c.over_first.ensures.run c.over_first.ensures.rest c.over_first.ensures.many)
+    c.in-Err.fault gs (seen_moved (λ b. (goal.Engine-dyn g (b.vtable, b.value)).seen b.value) (named_by c.in-Err.fault) c.over_first.new.engines c.lose.new.engines c.lose.ensures.boxes)
+    (all_faulted (λ b. (goal.Engine-dyn g (b.vtable, b.value)).seen b.value) (length c.args.declared.now) c.args.engines.now c.over_first.new.engines c.over_first.result c.over_first.ensures.run c.over_first.ensures.rest c.over_first.ensures.many)
+
+pub returns-in-Err-clause-sound : goal.returns-in-Err-clause-sound
+returns-in-Err-clause-sound g c =
+    none_failed (λ b. (goal.Engine-dyn g (b.vtable, b.value)).seen b.value) (length c.args.declared.now) c.args.engines.now c.over_first.new.engines c.over_first.result c.over_first.ensures.run

@@ -40,7 +40,7 @@ collected-requires-clause-ready g c =
     let p = c.in-Ok.plan in
     let tree = c.in-Ok-build.tree in
     let requests = tree.exchange.requests in
-    let size : length c.args.engines.now ≡ length es = sym (map_size _ c.args.engines.now) in
+    let size : length c.args.engines.now ≡ length es = sym (map_size (λ b. (goal.Engine-dyn g (b.vtable, b.value)).seen b.value) c.args.engines.now) in
     subst (λ (k : Kept). (known : Option Gathers) × IsReady c.new-store.result k known es tree) (sym c.build.ensures.same)
     (by_requests requests
     (λ none. (Some no_gathers, c.in-Ok-build.ensures.ready none es))
@@ -60,7 +60,7 @@ returns-in-Ok-build-clause-result g c =
     let requests = tree.exchange.requests in
     let shape = shape_of tree.node in
     let count = c.count_of.result in
-    let many : length c.args.engines.now ≡ length es = sym (map_size _ c.args.engines.now) in
+    let many : length c.args.engines.now ≡ length es = sym (map_size (λ b. (goal.Engine-dyn g (b.vtable, b.value)).seen b.value) c.args.engines.now) in
     let well_typed = subst (λ (x : Expr). (judged x).refusals ≡ []) c.expr.ensures.tree c.expr.ensures.well_typed in
     let placed = c.kept_patterns_are_placed.ensures kept (placed_of c.args.typed.now) e well_typed c.requires.kept c.requires.apart in
     let engines = have_engines requests es p count (c.count_of.ensures ∙ many) (c.in-Ok.ensures.asked kept hundred_years time_limit c.requires.within c.requires.kept) c.in-Ok-build.ensures.named in
