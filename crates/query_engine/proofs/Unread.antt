@@ -38,4 +38,5 @@ module _ (asked : Asked) (engines : List AllSeries) where
 
   pub result_unread : (e : Expr) (grid : Grid) (instant : Bool) → result_of beside e grid instant ≡ result_of asked e grid instant
   result_unread e grid instant =
-      ap (λ (m : ℤ → Step). judged instant e (steps_over m (grid_times grid))) (λ j t. step_of (meaning_unread e t j))
+      let same : meaning_step beside e ≡ meaning_step asked e = λ j t. step_of (meaning_unread e t j) in
+      ap (λ (m : ℤ → Step). judged instant e (steps_over m (grid_times grid))) same

@@ -205,6 +205,7 @@ pub fn evaluate<C: Courier, W: Ledger>(
     // where no engine is declared
     ensures outcome_alone { declared.old ≡ [] → IfOk result (ComesTo text.now store.now grid.now instant options.now.closed) }
     ensures fault_alone { declared.old ≡ [] → IfErr result (λ fault. fault ≡ run.Memory) }
+    ensures untouched { declared.old ≡ [] → engines.new.items ≡ engines.old.items }
     ensures bounded { declared.old ≡ [] → Spends text.now store.now grid.now (choices_of options.now) options.now.closed work.old work.new }
     ensures idle { declared.old ≡ [] → IfOk result (λ outcome. IsRefused outcome → work.new ≡ work.old) }
     // where engines are declared at which samples stand, whatever courier picks, and however they give what they owe

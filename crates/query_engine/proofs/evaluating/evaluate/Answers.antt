@@ -1,7 +1,27 @@
 use Rattle.std.proofs.Common.{map}
+use Rattle.promql_meaning.specs.declared.answer.Outcome.{Outcome}
+use Rattle.query_engine.specs.Evaluating.{ComesTo, IsRefused}
 use Rattle.query_engine.proofs.Lost.{alone_faulted, alone_leaves, alone_sound}
+use Rattle.query_engine.proofs.Streamed.{ok_at, then_judged}
 use Rattle.query_engine.proofs.evaluating.evaluate.Goals as goal
+
+pub returns-then-is_empty-clause-outcome_alone : goal.returns-then-is_empty-clause-outcome_alone
+returns-then-is_empty-clause-outcome_alone g c = λ none.
+    then_judged c.or_memory.result c.or_memory.ensures.same
+    (λ o was. ok_at (ComesTo c.args.text.now c.args.store.now c.args.grid.now c.args.instant c.args.options.now.closed) c.over_store.result o was c.over_store.ensures.outcome)
+
+pub returns-then-is_empty-clause-idle : goal.returns-then-is_empty-clause-idle
+returns-then-is_empty-clause-idle g c = λ none.
+    then_judged c.or_memory.result c.or_memory.ensures.same (λ o was. ok_at (λ (x : Outcome). IsRefused x → _) c.over_store.result o was c.over_store.ensures.idle)
 
 pub returns-then-is_empty-clause-kept : goal.returns-then-is_empty-clause-kept
 returns-then-is_empty-clause-kept g c =
     alone_leaves c.args.declared.now (map (λ b. (goal.Engine-dyn g (b.vtable, b.value)).seen b.value) c.args.engines.now.items) c.or_memory.result c.or_memory.ensures.memory
+
+pub returns-then-is_empty-clause-faulted : goal.returns-then-is_empty-clause-faulted
+returns-then-is_empty-clause-faulted g c =
+    alone_faulted c.args.declared.now (map (λ b. (goal.Engine-dyn g (b.vtable, b.value)).seen b.value) c.args.engines.now.items) c.or_memory.result c.or_memory.ensures.memory
+
+pub returns-then-is_empty-clause-sound : goal.returns-then-is_empty-clause-sound
+returns-then-is_empty-clause-sound g c = λ sound.
+    alone_sound c.args.declared.now (map (λ b. (goal.Engine-dyn g (b.vtable, b.value)).seen b.value) c.args.engines.now.items) c.or_memory.result c.or_memory.ensures.memory

@@ -1,4 +1,5 @@
 use Rattle.std.proofs.Common.{◌≡◌, ◌∙◌, ◌≤◌, List, length, map, refl, subst, sym, take}
+use Rattle.std.specs.Prelude.{Err}
 use Rattle.remote_api.specs.Seen.{EngineSeen}
 use Rattle.query_engine.specs.Engines.{AreSound, named_by}
 use Rattle.query_engine.proofs.Boxes.{map_size}
@@ -19,12 +20,12 @@ returns-in-Ok-clause-kept g c =
 
 pub lose-requires-clause-named : goal.lose-requires-clause-named
 lose-requires-clause-named g c =
-    named_inside (λ b. (goal.Engine-dyn g (b.vtable, b.value)).seen b.value) (length c.args.declared.now) c.args.engines.now c.over_first.new.engines c.over_first.result c.over_first.ensures.run
+    named_inside (λ b. (goal.Engine-dyn g (b.vtable, b.value)).seen b.value) (length c.args.declared.now) c.args.engines.now c.over_first.new.engines (Err c.in-Err.fault) c.in-Err.ensures.run
 
 pub lose-requires-clause-boxes : goal.lose-requires-clause-boxes
 lose-requires-clause-boxes g c =
     named_boxes c.in-Err.fault (length c.args.declared.now) (length c.over_first.new.engines) (subst (λ n. length c.args.declared.now ≤ n) (sym c.over_first.ensures.many) c.requires.boxes)
-    (named_inside (λ b. (goal.Engine-dyn g (b.vtable, b.value)).seen b.value) (length c.args.declared.now) c.args.engines.now c.over_first.new.engines c.over_first.result c.over_first.ensures.run)
+    (named_inside (λ b. (goal.Engine-dyn g (b.vtable, b.value)).seen b.value) (length c.args.declared.now) c.args.engines.now c.over_first.new.engines (Err c.in-Err.fault) c.in-Err.ensures.run)
 
 pub returns-in-Err-clause-kept : goal.returns-in-Err-clause-kept
 returns-in-Err-clause-kept g c =
@@ -32,10 +33,10 @@ returns-in-Err-clause-kept g c =
     let fs = map (λ b. (goal.Engine-dyn g (b.vtable, b.value)).seen b.value) c.over_first.new.engines in
     let gs = map (λ b. (goal.Engine-dyn g (b.vtable, b.value)).seen b.value) c.lose.new.engines in
     lost es fs
-    (as_many (λ b. (goal.Engine-dyn g (b.vtable, b.value)).seen b.value) (length c.args.declared.now) c.args.engines.now c.over_first.new.engines c.over_first.result c.over_first.ensures.run c.over_first.ensures.rest c.over_first.ensures.many)
-    (all_grown (λ b. (goal.Engine-dyn g (b.vtable, b.value)).seen b.value) (length c.args.declared.now) c.args.engines.now c.over_first.new.engines c.over_first.result c.over_first.ensures.run c.over_first.ensures.rest c.over_first.ensures.many)
+    (as_many (λ b. (goal.Engine-dyn g (b.vtable, b.value)).seen b.value) (length c.args.declared.now) c.args.engines.now c.over_first.new.engines (Err c.in-Err.fault) c.in-Err.ensures.run c.over_first.ensures.rest c.over_first.ensures.many)
+    (all_grown (λ b. (goal.Engine-dyn g (b.vtable, b.value)).seen b.value) (length c.args.declared.now) c.args.engines.now c.over_first.new.engines (Err c.in-Err.fault) c.in-Err.ensures.run c.over_first.ensures.rest c.over_first.ensures.many)
     c.in-Err.fault c.args.declared.now c.lose.new.declared gs (subst (λ n. length c.args.declared.now ≤ n) (sym (map_size (λ b. (goal.Engine-dyn g (b.vtable, b.value)).seen b.value) c.args.engines.now)) c.requires.boxes)
-    (named_inside (λ b. (goal.Engine-dyn g (b.vtable, b.value)).seen b.value) (length c.args.declared.now) c.args.engines.now c.over_first.new.engines c.over_first.result c.over_first.ensures.run)
+    (named_inside (λ b. (goal.Engine-dyn g (b.vtable, b.value)).seen b.value) (length c.args.declared.now) c.args.engines.now c.over_first.new.engines (Err c.in-Err.fault) c.in-Err.ensures.run)
     c.lose.ensures.labels (seen_moved (λ b. (goal.Engine-dyn g (b.vtable, b.value)).seen b.value) (named_by c.in-Err.fault) c.over_first.new.engines c.lose.new.engines c.lose.ensures.boxes)
 
 pub returns-in-Err-clause-faulted : goal.returns-in-Err-clause-faulted
@@ -44,11 +45,11 @@ returns-in-Err-clause-faulted g c =
     let fs = map (λ b. (goal.Engine-dyn g (b.vtable, b.value)).seen b.value) c.over_first.new.engines in
     let gs = map (λ b. (goal.Engine-dyn g (b.vtable, b.value)).seen b.value) c.lose.new.engines in
     lost_last es fs
-    (as_many (λ b. (goal.Engine-dyn g (b.vtable, b.value)).seen b.value) (length c.args.declared.now) c.args.engines.now c.over_first.new.engines c.over_first.result c.over_first.ensures.run c.over_first.ensures.rest c.over_first.ensures.many)
-    (all_grown (λ b. (goal.Engine-dyn g (b.vtable, b.value)).seen b.value) (length c.args.declared.now) c.args.engines.now c.over_first.new.engines c.over_first.result c.over_first.ensures.run c.over_first.ensures.rest c.over_first.ensures.many)
+    (as_many (λ b. (goal.Engine-dyn g (b.vtable, b.value)).seen b.value) (length c.args.declared.now) c.args.engines.now c.over_first.new.engines (Err c.in-Err.fault) c.in-Err.ensures.run c.over_first.ensures.rest c.over_first.ensures.many)
+    (all_grown (λ b. (goal.Engine-dyn g (b.vtable, b.value)).seen b.value) (length c.args.declared.now) c.args.engines.now c.over_first.new.engines (Err c.in-Err.fault) c.in-Err.ensures.run c.over_first.ensures.rest c.over_first.ensures.many)
     c.in-Err.fault gs (seen_moved (λ b. (goal.Engine-dyn g (b.vtable, b.value)).seen b.value) (named_by c.in-Err.fault) c.over_first.new.engines c.lose.new.engines c.lose.ensures.boxes)
-    (all_faulted (λ b. (goal.Engine-dyn g (b.vtable, b.value)).seen b.value) (length c.args.declared.now) c.args.engines.now c.over_first.new.engines c.over_first.result c.over_first.ensures.run c.over_first.ensures.rest c.over_first.ensures.many)
+    (all_faulted (λ b. (goal.Engine-dyn g (b.vtable, b.value)).seen b.value) (length c.args.declared.now) c.args.engines.now c.over_first.new.engines (Err c.in-Err.fault) c.in-Err.ensures.run c.over_first.ensures.rest c.over_first.ensures.many)
 
 pub returns-in-Err-clause-sound : goal.returns-in-Err-clause-sound
 returns-in-Err-clause-sound g c =
-    none_failed (λ b. (goal.Engine-dyn g (b.vtable, b.value)).seen b.value) (length c.args.declared.now) c.args.engines.now c.over_first.new.engines c.over_first.result c.over_first.ensures.run
+    none_failed (λ b. (goal.Engine-dyn g (b.vtable, b.value)).seen b.value) (length c.args.declared.now) c.args.engines.now c.over_first.new.engines (Err c.in-Err.fault) c.in-Err.ensures.run
