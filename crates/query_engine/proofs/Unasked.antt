@@ -1,5 +1,5 @@
 -- A plan that kernels serve without engines asks engines for no part.
-use Rattle.std.proofs.Common.{◌≡◌, ℕ, Bool, true, false, List, [], ◌∷◌, map, sym, subst}
+use Rattle.std.proofs.Common.{◌≡◌, ℕ, Bool, true, false, List, [], ◌∷◌, map, refl, sym, subst}
 use Rattle.std.specs.Prelude.{◌&&◌, ◌||◌}
 use Rattle.std.specs.List.{AllByRecursion}
 use Rattle.holders.specs.Joins.{both_of}
@@ -13,7 +13,7 @@ use Rattle.plan_serving.specs.Serving.{IsServed, Serving, are_served, node_servi
 use Rattle.promql_type.specs.Replacements.{Kept}
 
 left_true : (a b : Bool) → (a && b) ≡ true → a ≡ true
-left_true true b e = e
+left_true true b e = refl
 left_true false b e = e
 
 right_true : (a b : Bool) → (a && b) ≡ true → b ≡ true
