@@ -22,9 +22,12 @@ use crate::reading::typed_tree;
 use logical_plan::{Plan, lower};
 use match_rule::Patterns;
 use opt_remote::gather_selectors;
-use opt_remote::laws::{gathered_plans_are_kept, selectors_are_gathered};
+use opt_remote::laws::{
+    gathered_plans_are_kept, gathered_plans_are_served, selectors_are_gathered,
+};
 use plan_serving::laws::{
     lowered_plans_are_served, lowered_plans_give_numbers, onces_keep_serving,
+    served_plans_are_served_over,
 };
 use promql_lex::LexFault;
 use promql_type::{TypeFault, Typed};
@@ -110,6 +113,8 @@ pub(crate) fn gathered(
 {
     selectors_are_gathered();
     gathered_plans_are_kept();
+    gathered_plans_are_served();
+    served_plans_are_served_over();
     let plan = planned(alloc, typed, options, patterns)?;
     gather_selectors(alloc, plan, engines, patterns)
 }

@@ -35,6 +35,7 @@ use crate::planning::{evaluated, gathered};
 use exchange::RunFault;
 use logical_plan::kept_patterns_are_placed;
 use match_rule::Patterns;
+use opt_remote::laws::stores_are_not_read;
 use phys_plan::laws::steady_onces_stay;
 use phys_plan::{Unbuilt, build};
 use plan_parts::laws::gathers_are_meant;
@@ -238,6 +239,7 @@ pub(crate) fn answered_over<C: Courier, W: Ledger>(
     fresh_trees_begin();
     spending_stays_within();
     gathers_are_meant();
+    stores_are_not_read();
     turns_follow();
     let _ = typed.expr();
     let Ok(plan) = gathered(alloc, typed, options, patterns, count_of(engines)) else {

@@ -1,3 +1,4 @@
+use Rattle.opt_remote.specs.Gathering.{all_engines}
 use Rattle.promql_type.specs.TypedTrees.{placed_of, tree_of}
 use Rattle.query_engine.specs.Planning.{choices_of, plan_of}
 use Rattle.query_engine.proofs.Gathering.{asked_all, asked_gathered, asked_means, asked_numbers, asked_onces, asked_plan, asked_served, asked_valid}
@@ -37,8 +38,9 @@ returns-clause-asked c =
     asked_all c.in_ok-plan.plan (tree_of c.args.typed.now) (placed_of c.args.typed.now) c.args.engines c.args.patterns.now c.selectors_are_gathered.ensures.all_asked c.in_ok-plan.ensures.served
     c.gather_selectors.result c.gather_selectors.ensures.plan
 
--- the law comes from opt_remote
 pub returns-clause-served : goal.returns-clause-served
 returns-clause-served c =
-    asked_served c.in_ok-plan.plan (tree_of c.args.typed.now) (placed_of c.args.typed.now) c.args.engines c.args.patterns.now ? c.in_ok-plan.ensures.served
+    asked_served c.in_ok-plan.plan (tree_of c.args.typed.now) (placed_of c.args.typed.now) c.args.engines c.args.patterns.now
+    (λ now served. c.gathered_plans_are_served.ensures.served (all_engines c.args.engines) c.args.patterns.now (c.gathered_plans_are_served.ensures.rising c.args.engines) now c.in_ok-plan.plan
+    (c.served_plans_are_served_over.ensures now c.in_ok-plan.plan served)) c.in_ok-plan.ensures.served
     c.gather_selectors.result c.gather_selectors.ensures.plan

@@ -75,7 +75,7 @@ returns-in-Ok-build-clause-result g c =
             c.in-Ok-build.ensures.asks some (Some (gathered_by grid kept es requests)) es c.requires.begun engines
                 (record { tell = all_tell declared es stand.engines (size ∙ many) stand.held; gathered = refl }))) in
     let meant = steps_meant grid kept store p e (placed_of c.args.typed.now) shape requests count (c.grids_are_listed.ensures grid) c.in-Ok.ensures.means placed c.in-Ok-build.ensures.gives
-        (λ asked. c.steady_onces_stay.ensures asked p c.in-Ok.ensures.onces) ? declared samples es (size ∙ sym c.count_of.ensures) stand choice.0 choice.1 in
+        (λ asked. c.steady_onces_stay.ensures asked p c.in-Ok.ensures.onces) (λ asked samples t. c.stores_are_not_read.ensures asked samples p t c.in-Ok.ensures.gathered) declared samples es (size ∙ sym c.count_of.ensures) stand choice.0 choice.1 in
     gives choice.0 (asked_with samples kept grid (held_by stand.engines)) choice.2 meant ∙ result_unread (asked_over samples kept grid) (held_by stand.engines) e grid c.args.instant)
 
 -- nothing was spent yet
