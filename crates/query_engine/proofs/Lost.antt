@@ -11,7 +11,7 @@ use Rattle.plan_tree.specs.RunLaws.{CallsFollow, as_done, done}
 use Rattle.remote_api.specs.Seen.{EngineSeen, IsBegun, KeepsStrays}
 use Rattle.remote_api.specs.declared.frame.Stray.{Stray}
 use Rattle.step_table.specs.Groups.{Names}
-use Rattle.query_engine.specs.Engines.{AreSound, FaultedLast, IsNoFailure, Leaves, Loses, LosesNone, last_place, moved_last, named_by}
+use Rattle.query_engine.specs.Engines.{AreSoundAndTell, FaultedLast, IsNoFault, Leaves, Loses, LosesNone, last_place, moved_last, named_by}
 use Rattle.query_engine.proofs.Boxes.{before_each, drop_front, each_moved, each_whole, map_drop, map_moved, map_size, map_take, moved_size, moved_there, parts_size, take_front, take_get, take_inside, take_size}
 
 -- ---- calls one behind another
@@ -65,7 +65,7 @@ failed_whole : (n i : ℕ) (es fs : List EngineSeen) → HasFailed i (take n es)
 failed_whole n i es fs h = record { e = h.e; f = h.f; e_at = take_get es n i h.e h.e_at; f_at = take_get fs n i h.f h.f_at; rose = h.rose; unsound = h.unsound }
 
 strayed_whole : (n i : ℕ) (one : Stray) (es fs : List EngineSeen) → HasStrayed i one (take n es) (take n fs) → HasStrayed i one es fs
-strayed_whole n i one es fs h = record { e = h.e; f = h.f; e_at = take_get es n i h.e h.e_at; f_at = take_get fs n i h.f h.f_at; rose = h.rose; last = h.last }
+strayed_whole n i one es fs h = record { e = h.e; f = h.f; e_at = take_get es n i h.e h.e_at; f_at = take_get fs n i h.f h.f_at; rose = h.rose; last = h.last; untold = h.untold }
 
 faulted_whole : {T : Type 0} (r : Result T RunFault) (n : ℕ) (es fs : List EngineSeen) → Faulted r (take n es) (take n fs) → Faulted r es fs
 faulted_whole (Ok x) n es fs h = tt
@@ -106,16 +106,16 @@ module _ {B T : Type 0} (f : B → EngineSeen) (n : ℕ) (bs cs : List B) (r : R
     pub all_faulted : Faulted r es fs
     all_faulted = faulted_whole r n es fs fronts.fault
 
-  -- where the declared boxes are sound none has failed
-  pub none_failed : AreSound (take n es) → IsNoFailure r
-  none_failed sound = by_result r fronts.fault
+  -- where the declared boxes are sound and tell, none has failed or strayed
+  pub none_at_fault : AreSoundAndTell (take n es) → IsNoFault r
+  none_at_fault good = by_result r fronts.fault
     where
-      by_result : (s : Result T RunFault) → Faulted s (take n es) (take n fs) → IsNoFailure s
+      by_result : (s : Result T RunFault) → Faulted s (take n es) (take n fs) → IsNoFault s
       by_result (Ok x) h = tt
       by_result (Err run.Memory) h = tt
-      by_result (Err (run.EngineFault i)) h = h.unsound (sound i h.e h.e_at)
-      by_result (Err (run.OutOfStep i expected got)) h = tt
-      by_result (Err (run.WrongCell i at)) h = tt
+      by_result (Err (run.EngineFault i)) h = h.unsound (good i h.e h.e_at).0
+      by_result (Err (run.OutOfStep i expected got)) h = h.untold (good i h.e h.e_at).1
+      by_result (Err (run.WrongCell i at)) h = h.untold (good i h.e h.e_at).1
 
 -- a call for the first boxes leaves the others
 module _ {B T : Type 0} (f : B → EngineSeen) (n : ℕ) (bs ys : List B) (r : Result T RunFault) (inside : n ≤ length bs) (gone : HasGone r (map f (take n bs)) (map f ys)) where
@@ -171,6 +171,7 @@ module _ (es fs : List EngineSeen) (many : length fs ≡ length es) (grown : Eac
       f_at = ap (λ (l : List EngineSeen). slice_get l (length es - 1)) moved ∙ moved_there i (length es) fs h.f (sym many) h.f_at;
       rose = h.rose;
       last = h.last;
+      untold = h.untold;
     }
 
   -- a fault takes the labels of the engine that it names, and its box was moved
@@ -204,6 +205,6 @@ module _ {T : Type 0} (declared : List Names) (es : List EngineSeen) where
   alone_faulted (Ok x) m = tt
   alone_faulted (Err fault) m = subst (λ (f : RunFault). FaultedLast {T = T} (Err f) es es) (sym m) tt
 
-  pub alone_sound : (r : Result T RunFault) → IfErr r (λ fault. fault ≡ run.Memory) → IsNoFailure r
-  alone_sound (Ok x) m = tt
-  alone_sound (Err fault) m = subst (λ (f : RunFault). IsNoFailure {T = T} (Err f)) (sym m) tt
+  pub alone_never : (r : Result T RunFault) → IfErr r (λ fault. fault ≡ run.Memory) → IsNoFault r
+  alone_never (Ok x) m = tt
+  alone_never (Err fault) m = subst (λ (f : RunFault). IsNoFault {T = T} (Err f)) (sym m) tt

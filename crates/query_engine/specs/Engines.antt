@@ -5,6 +5,7 @@ use Rattle.std.specs.List.{AllByRecursion}
 use Rattle.std.specs.Option.{option_map}
 use Rattle.exchange.specs.Calls.{Each, Grows}
 use Rattle.exchange.specs.Faults.{HasFailed, HasStrayed}
+use Rattle.exchange.specs.Standing.{Tells}
 use Rattle.exchange.specs.declared.fault.RunFault.{RunFault}
 use Rattle.exchange.specs.declared.fault.RunFault.TheVariants as run
 use Rattle.label_set.specs.Labels.{IsLabelSet}
@@ -90,13 +91,14 @@ FaultedLast (Err (run.OutOfStep i expected got)) es fs = HasStrayed (last_place 
 FaultedLast (Err (run.WrongCell i at)) es fs = HasStrayed (last_place es) (stray.WrongCell at) (moved_last i es) fs
 FaultedLast (Err run.Memory) es fs = ⊤
 
--- ---- sound engines
+-- ---- engines that neither fail nor stray
 
--- each of some engines is sound
-abbrev pub AreSound : List EngineSeen → Type 0
-AreSound es = (i : ℕ) (e : EngineSeen) → slice_get es i ≡ Some e → e.sound ≡ true
+-- each of some engines is sound, and tells what it holds
+abbrev pub AreSoundAndTell : List EngineSeen → Type 0
+AreSoundAndTell es = (i : ℕ) (e : EngineSeen) → slice_get es i ≡ Some e → (e.sound ≡ true) × Tells e
 
--- no engine is told to have failed
-abbrev pub IsNoFailure : {T : Type 0} → Result T RunFault → Type 0
-IsNoFailure (Err (run.EngineFault i)) = ⊥
-IsNoFailure r = ⊤
+-- no engine is told to have failed or strayed
+abbrev pub IsNoFault : {T : Type 0} → Result T RunFault → Type 0
+IsNoFault (Ok x) = ⊤
+IsNoFault (Err run.Memory) = ⊤
+IsNoFault (Err fault) = ⊥

@@ -1,7 +1,7 @@
 use Rattle.std.proofs.Common.{map}
 use Rattle.promql_meaning.specs.declared.answer.Outcome.{Outcome}
 use Rattle.query_engine.specs.Evaluating.{ComesTo, IsRefused}
-use Rattle.query_engine.proofs.Lost.{alone_faulted, alone_leaves, alone_sound}
+use Rattle.query_engine.proofs.Lost.{alone_faulted, alone_leaves, alone_never}
 use Rattle.query_engine.proofs.Streamed.{ok_at, then_judged}
 use Rattle.query_engine.proofs.evaluating.evaluate.Goals as goal
 
@@ -22,6 +22,6 @@ pub returns-then-is_empty-clause-faulted : goal.returns-then-is_empty-clause-fau
 returns-then-is_empty-clause-faulted g c =
     alone_faulted c.args.declared.now (map (λ b. (goal.Engine-dyn g (b.vtable, b.value)).seen b.value) c.args.engines.now.items) c.or_memory.result c.or_memory.ensures.memory
 
-pub returns-then-is_empty-clause-sound : goal.returns-then-is_empty-clause-sound
-returns-then-is_empty-clause-sound g c = λ sound.
-    alone_sound c.args.declared.now (map (λ b. (goal.Engine-dyn g (b.vtable, b.value)).seen b.value) c.args.engines.now.items) c.or_memory.result c.or_memory.ensures.memory
+pub returns-then-is_empty-clause-never : goal.returns-then-is_empty-clause-never
+returns-then-is_empty-clause-never g c = λ good.
+    alone_never c.args.declared.now (map (λ b. (goal.Engine-dyn g (b.vtable, b.value)).seen b.value) c.args.engines.now.items) c.or_memory.result c.or_memory.ensures.memory

@@ -1,9 +1,9 @@
 use Rattle.std.proofs.Common.{◌≡◌, ◌∙◌, ◌≤◌, List, length, map, refl, subst, sym, take}
 use Rattle.std.specs.Prelude.{Err}
 use Rattle.remote_api.specs.Seen.{EngineSeen}
-use Rattle.query_engine.specs.Engines.{AreSound, named_by}
+use Rattle.query_engine.specs.Engines.{named_by}
 use Rattle.query_engine.proofs.Boxes.{map_size}
-use Rattle.query_engine.proofs.Lost.{all_faulted, all_grown, as_many, lost, lost_last, named_boxes, named_inside, none_failed, none_lost, seen_moved}
+use Rattle.query_engine.proofs.Lost.{all_faulted, all_grown, as_many, lost, lost_last, named_boxes, named_inside, none_at_fault, none_lost, seen_moved}
 use Rattle.query_engine.proofs.evaluating.over_declared.Goals as goal
 
 pub returns-in-Ok-clause-outcome : goal.returns-in-Ok-clause-outcome
@@ -50,6 +50,6 @@ returns-in-Err-clause-faulted g c =
     c.in-Err.fault gs (seen_moved (λ b. (goal.Engine-dyn g (b.vtable, b.value)).seen b.value) (named_by c.in-Err.fault) c.over_first.new.engines c.lose.new.engines c.lose.ensures.boxes)
     (all_faulted (λ b. (goal.Engine-dyn g (b.vtable, b.value)).seen b.value) (length c.args.declared.now) c.args.engines.now c.over_first.new.engines (Err c.in-Err.fault) c.in-Err.ensures.run c.over_first.ensures.rest c.over_first.ensures.many)
 
-pub returns-in-Err-clause-sound : goal.returns-in-Err-clause-sound
-returns-in-Err-clause-sound g c =
-    none_failed (λ b. (goal.Engine-dyn g (b.vtable, b.value)).seen b.value) (length c.args.declared.now) c.args.engines.now c.over_first.new.engines (Err c.in-Err.fault) c.in-Err.ensures.run
+pub returns-in-Err-clause-never : goal.returns-in-Err-clause-never
+returns-in-Err-clause-never g c =
+    none_at_fault (λ b. (goal.Engine-dyn g (b.vtable, b.value)).seen b.value) (length c.args.declared.now) c.args.engines.now c.over_first.new.engines (Err c.in-Err.fault) c.in-Err.ensures.run
