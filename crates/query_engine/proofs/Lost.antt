@@ -11,7 +11,7 @@ use Rattle.plan_tree.specs.RunLaws.{CallsFollow, as_done, done}
 use Rattle.remote_api.specs.Seen.{EngineSeen, IsBegun, KeepsStrays}
 use Rattle.remote_api.specs.declared.frame.Stray.{Stray}
 use Rattle.step_table.specs.Groups.{Names}
-use Rattle.query_engine.specs.Engines.{AreSoundAndTell, FaultedLast, IsNoFault, Leaves, Loses, LosesNone, last_place, moved_last, named_by}
+use Rattle.query_engine.specs.Engines.{AreSoundAndTell, FaultedLast, IsNoFault, Leaves, Loses, LosesNamed, LosesNone, last_place, moved_last, named_by}
 use Rattle.query_engine.proofs.Boxes.{before_each, drop_front, each_moved, each_whole, map_drop, map_moved, map_size, map_take, moved_size, moved_there, parts_size, take_front, take_get, take_inside, take_size}
 
 -- ---- calls one behind another
@@ -175,18 +175,18 @@ module _ (es fs : List EngineSeen) (many : length fs ≡ length es) (grown : Eac
     }
 
   -- a fault takes the labels of the engine that it names, and its box was moved
-  pub lost : {T : Type 0} (fault : RunFault) (before now : List Names) (gs : List EngineSeen) → length before ≤ length es → IfSome (named_by fault) (λ i. i < length before)
-      → MatchOption (named_by fault) (now ≡ before) (λ i. now ≡ remove before i) → MatchOption (named_by fault) (gs ≡ fs) (λ i. gs ≡ moved_last i fs) → Leaves {T = T} (Err fault) before now es gs
+  pub lost : (fault : RunFault) (before now : List Names) (gs : List EngineSeen) → length before ≤ length es → IfSome (named_by fault) (λ i. i < length before)
+      → MatchOption (named_by fault) (now ≡ before) (λ i. now ≡ remove before i) → MatchOption (named_by fault) (gs ≡ fs) (λ i. gs ≡ moved_last i fs) → LosesNamed (named_by fault) before now es gs
   lost run.Memory before now gs within inside labels moved = record { labels = labels; many = ap length moved ∙ many; boxes = subst (Each Grows es) (sym moved) grown }
   lost (run.EngineFault i) before now gs within inside labels moved = one_lost i before now gs inside within labels moved
   lost (run.OutOfStep i expected got) before now gs within inside labels moved = one_lost i before now gs inside within labels moved
   lost (run.WrongCell i at) before now gs within inside labels moved = one_lost i before now gs inside within labels moved
 
-  pub lost_last : {S T : Type 0} (fault : RunFault) (gs : List EngineSeen) → MatchOption (named_by fault) (gs ≡ fs) (λ i. gs ≡ moved_last i fs) → Faulted {T = S} (Err fault) es fs → FaultedLast {T = T} (Err fault) es gs
-  lost_last run.Memory gs moved h = tt
-  lost_last (run.EngineFault i) gs moved h = failed_last i gs moved h
-  lost_last (run.OutOfStep i expected got) gs moved h = strayed_last i _ gs moved h
-  lost_last (run.WrongCell i at) gs moved h = strayed_last i _ gs moved h
+  pub lost_last : (T : Type 0) (fault : RunFault) (gs : List EngineSeen) → MatchOption (named_by fault) (gs ≡ fs) (λ i. gs ≡ moved_last i fs) → Faulted {T = T} (Err fault) es fs → FaultedLast {T = T} (Err fault) es gs
+  lost_last T run.Memory gs moved h = tt
+  lost_last T (run.EngineFault i) gs moved h = failed_last i gs moved h
+  lost_last T (run.OutOfStep i expected got) gs moved h = strayed_last i _ gs moved h
+  lost_last T (run.WrongCell i at) gs moved h = strayed_last i _ gs moved h
 
 -- boxes that were moved, as they are seen
 pub seen_moved : {B : Type 0} (f : B → EngineSeen) (named : Option ℕ) (bs cs : List B) → MatchOption named (cs ≡ bs) (λ i. cs ≡ moved_last i bs) → MatchOption named (map f cs ≡ map f bs) (λ i. map f cs ≡ moved_last i (map f bs))

@@ -1,5 +1,6 @@
-use Rattle.std.proofs.Common.{map}
+use Rattle.std.proofs.Common.{length, map, subst, sym, take}
 use Rattle.promql_meaning.specs.declared.answer.Outcome.{Outcome}
+use Rattle.query_engine.specs.Engines.{AreSoundAndTell}
 use Rattle.query_engine.specs.Evaluating.{ComesTo, IsRefused}
 use Rattle.query_engine.proofs.Lost.{alone_faulted, alone_leaves, alone_never}
 use Rattle.query_engine.proofs.Streamed.{ok_at, then_judged}
@@ -25,3 +26,7 @@ returns-then-is_empty-clause-faulted g c =
 pub returns-then-is_empty-clause-never : goal.returns-then-is_empty-clause-never
 returns-then-is_empty-clause-never g c = λ good.
     alone_never c.args.declared.now (map (λ b. (goal.Engine-dyn g (b.vtable, b.value)).seen b.value) c.args.engines.now.items) c.or_memory.result c.or_memory.ensures.memory
+
+pub returns-clause-never : goal.returns-clause-never
+returns-clause-never g c = λ good.
+    c.over_declared.ensures.never (subst (λ bs. AreSoundAndTell (take (length c.args.declared.now) (map (λ b. (goal.Engine-dyn g (b.vtable, b.value)).seen b.value) bs))) (sym c.as_mut_slice.ensures.value) good)
