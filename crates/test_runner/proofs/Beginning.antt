@@ -8,6 +8,7 @@ use Rattle.query_engine.specs.declared.options.Options.{Options}
 use Rattle.sample_store.specs.Samples.{AllSeries}
 use Rattle.script_check.specs.Verdicts.{PatternList}
 use Rattle.script_read.specs.Outcomes.{then_try}
+use Rattle.script_read.specs.Series.{LabelList}
 use Rattle.script_read.specs.declared.script.Command.{Command}
 use Rattle.script_read.specs.declared.script.What.{What}
 use Rattle.script_read.specs.declared.script.What.TheVariants.{Clear, Load, Eval}
@@ -30,20 +31,20 @@ no_answer fault series e = cc
 
 -- ---- they have no verdicts
 
-quiet_verdicts : (closed : Bool) (kept : PatternList) (commands : List Command) (series left : AllSeries) → AreQuiet commands → left_by_all commands series ≡ Ok left → AreVerdicts closed kept series commands []
-quiet_verdicts closed kept [] series left quiet is = ended series
-quiet_verdicts closed kept (c ∷ cs) series left quiet is = by_first (λ now rest. quiet_verdicts closed kept cs now left quiet.1 rest) (left_by c.what series) refl is
+quiet_verdicts : (closed : Bool) (declared : List LabelList) (kept : PatternList) (commands : List Command) (series left : AllSeries) → AreQuiet commands → left_by_all declared commands series ≡ Ok left → AreVerdicts closed declared kept series commands []
+quiet_verdicts closed declared kept [] series left quiet is = ended series
+quiet_verdicts closed declared kept (c ∷ cs) series left quiet is = by_first (λ now rest. quiet_verdicts closed declared kept cs now left quiet.1 rest) (left_by declared c.what series) refl is
   where
-    by_first : ((now : AllSeries) → left_by_all cs now ≡ Ok left → AreVerdicts closed kept now cs []) → (r : Result AllSeries RunnerFault) → left_by c.what series ≡ r → then_try r (left_by_all cs) ≡ Ok left
-        → AreVerdicts closed kept series (c ∷ cs) []
+    by_first : ((now : AllSeries) → left_by_all declared cs now ≡ Ok left → AreVerdicts closed declared kept now cs []) → (r : Result AllSeries RunnerFault) → left_by declared c.what series ≡ r → then_try r (left_by_all declared cs) ≡ Ok left
+        → AreVerdicts closed declared kept series (c ∷ cs) []
     by_first later (Ok now) put rest = changed series now c cs [] quiet.0 put (later now rest)
     by_first later (Err fault) put rest = absurd (no_answer fault left rest)
 
-pub quiet_carried : (closed : Bool) (kept : PatternList) (path : List ℕ) (commands : List Command) (series left : AllSeries) (before : Option (List ℕ)) (totals : Totals) → AreQuiet commands → left_by_all commands series ≡ Ok left
-    → totals.passed ≡ 0 → totals.failed ≡ 0 → CarriedOut closed kept path series commands before before totals
-quiet_carried closed kept path commands series left before totals quiet is passed failed = record {
+pub quiet_carried : (closed : Bool) (declared : List LabelList) (kept : PatternList) (path : List ℕ) (commands : List Command) (series left : AllSeries) (before : Option (List ℕ)) (totals : Totals) → AreQuiet commands → left_by_all declared commands series ≡ Ok left
+    → totals.passed ≡ 0 → totals.failed ≡ 0 → CarriedOut closed declared kept path series commands before before totals
+quiet_carried closed declared kept path commands series left before totals quiet is passed failed = record {
   verdicts = [];
-  are = quiet_verdicts closed kept commands series left quiet is;
+  are = quiet_verdicts closed declared kept commands series left quiet is;
   written = sym (appended-nil before);
   passed = passed;
   failed = failed;
@@ -51,15 +52,15 @@ quiet_carried closed kept path commands series left before totals quiet is passe
 
 -- ---- they spend nothing
 
-pub quiet_spend : (options : Options) (commands rest : List Command) (series left : AllSeries) (now after : Counts) → AreQuiet commands → left_by_all commands series ≡ Ok left → CommandsSpend options left rest now after
+pub quiet_spend : (options : Options) (commands rest : List Command) (series left : AllSeries) (now after : Counts) → AreQuiet commands → left_by_all [] commands series ≡ Ok left → CommandsSpend options left rest now after
     → CommandsSpend options series (commands ++ rest) now after
 quiet_spend options [] rest series left now after quiet is spends = subst (λ (s : AllSeries). CommandsSpend options s rest now after) (sym (same is)) spends
   where
     same : ◌≡◌ {A = Result AllSeries RunnerFault} (Ok series) (Ok left) → series ≡ left
     same e = cc
-quiet_spend options (c ∷ cs) rest series left now after quiet is spends = by_first (λ mid more. quiet_spend options cs rest mid left now after quiet.1 more spends) (left_by c.what series) refl is
+quiet_spend options (c ∷ cs) rest series left now after quiet is spends = by_first (λ mid more. quiet_spend options cs rest mid left now after quiet.1 more spends) (left_by [] c.what series) refl is
   where
-    by_first : ((mid : AllSeries) → left_by_all cs mid ≡ Ok left → CommandsSpend options mid (cs ++ rest) now after) → (r : Result AllSeries RunnerFault) → left_by c.what series ≡ r → then_try r (left_by_all cs) ≡ Ok left
+    by_first : ((mid : AllSeries) → left_by_all [] cs mid ≡ Ok left → CommandsSpend options mid (cs ++ rest) now after) → (r : Result AllSeries RunnerFault) → left_by [] c.what series ≡ r → then_try r (left_by_all [] cs) ≡ Ok left
         → CommandsSpend options series (c ∷ (cs ++ rest)) now after
     by_first later (Ok mid) put more = further series mid c (cs ++ rest) now now after (change_spends options series c.what now quiet.0) put (later mid more)
     by_first later (Err fault) put more = absurd (no_answer fault left more)
@@ -71,7 +72,7 @@ not_evaluation Clear e = tt
 not_evaluation (Load interval lines) e = tt
 not_evaluation (Eval grid instant text expected) e = absurd (cc)
 
-evaluation_leaves : (what : What) (series : AllSeries) → is_evaluation what ≡ true → left_by what series ≡ Ok series
+evaluation_leaves : (what : What) (series : AllSeries) → is_evaluation what ≡ true → left_by [] what series ≡ Ok series
 evaluation_leaves Clear series e = absurd (cc)
 evaluation_leaves (Load interval lines) series e = absurd (cc)
 evaluation_leaves (Eval grid instant text expected) series e = refl
@@ -97,27 +98,27 @@ both : (a b : Bool) → a && b ≡ true → (a ≡ true) × (b ≡ true)
 both true b e = (refl, e)
 both false b e = absurd (cc)
 
-settled : (commands : List Command) → are_evaluations commands ≡ true → (series : AllSeries) → left_by_all commands series ≡ Ok series
+settled : (commands : List Command) → are_evaluations commands ≡ true → (series : AllSeries) → left_by_all [] commands series ≡ Ok series
 settled [] e series = refl
 settled (c ∷ cs) e series =
     let each = both (is_evaluation c.what) (are_evaluations cs) e in
-    ap (λ (r : Result AllSeries RunnerFault). then_try r (left_by_all cs)) (evaluation_leaves c.what series each.0) ∙ settled cs each.1 series
+    ap (λ (r : Result AllSeries RunnerFault). then_try r (left_by_all [] cs)) (evaluation_leaves c.what series each.0) ∙ settled cs each.1 series
 
-pub settled_rest : (rest : List Command) (all : Bool) → all ≡ are_evaluations rest → all ≡ true → (series : AllSeries) → left_by_all rest series ≡ Ok series
+pub settled_rest : (rest : List Command) (all : Bool) → all ≡ are_evaluations rest → all ≡ true → (series : AllSeries) → left_by_all [] rest series ≡ Ok series
 settled_rest rest all are holds series = settled rest (sym are ∙ holds) series
 
 -- ---- what they leave, where those behind them change nothing
 
-pub front_begun : (commands given : List Command) (front : ℕ) (series : AllSeries) → given ≡ commands → ChangesStandInFront given front → left_by_all commands [] ≡ Ok series → HasBegun commands series front
+pub front_begun : (commands given : List Command) (front : ℕ) (series : AllSeries) → given ≡ commands → ChangesStandInFront given front → left_by_all [] commands [] ≡ Ok series → HasBegun commands series front
 front_begun commands given front series same stand is =
     let stands = subst (λ (cs : List Command). ChangesStandInFront cs front) same stand in
     record {
       within = stands.within;
       quiet = stands.quiet;
-      left = by_front stands (left_by_all (take front commands) []) (sym (left_join (take front commands) (drop front commands) []) ∙ ap (λ (cs : List Command). left_by_all cs []) (take-append-drop front commands) ∙ is);
+      left = by_front stands (left_by_all [] (take front commands) []) (sym (left_join [] (take front commands) (drop front commands) []) ∙ ap (λ (cs : List Command). left_by_all [] cs []) (take-append-drop front commands) ∙ is);
     }
   where
-    by_front : ChangesStandInFront commands front → (r : Result AllSeries RunnerFault) → then_try r (left_by_all (drop front commands)) ≡ Ok series → r ≡ Ok series
+    by_front : ChangesStandInFront commands front → (r : Result AllSeries RunnerFault) → then_try r (left_by_all [] (drop front commands)) ≡ Ok series → r ≡ Ok series
     by_front stands (Ok mid) h = sym (stands.settled mid) ∙ h
     by_front stands (Err fault) h = h
 

@@ -11,6 +11,7 @@ use Rattle.script_check.specs.Verdicts.{PatternList}
 use Rattle.ticks.specs.declared.grid.Grid.{Grid}
 use Rattle.ticks.specs.declared.moment.Ms.{Ms}
 use Rattle.script_read.specs.Outcomes.{then_try}
+use Rattle.script_read.specs.Series.{LabelList}
 use Rattle.script_read.specs.declared.script.Command.{Command}
 use Rattle.script_read.specs.declared.script.Expectations.{Expectations}
 use Rattle.script_read.specs.declared.script.SeriesLine.{SeriesLine}
@@ -22,7 +23,7 @@ use Rattle.test_runner.specs.Running.{CarriedOut, IfCut, IfOfLoads, WasCutOff}
 use Rattle.test_runner.specs.Steps.{IsLine, WroteLess, WroteLine, nothing, partly}
 use Rattle.test_runner.specs.Verdicts.{AreVerdicts, IsJudgement, IsNoEvaluation, Judged, ended, changed, evaluated, evaluation_lines, is_evaluation}
 use Rattle.test_runner.specs.declared.fault.RunnerFault.{RunnerFault}
-use Rattle.test_runner.specs.declared.fault.RunnerFault.TheVariants.{Refused, Range, Write, Memory}
+use Rattle.test_runner.specs.declared.fault.RunnerFault.TheVariants.{Refused, Range, Run, Write, Memory}
 use Rattle.test_runner.specs.declared.totals.Totals.{Totals}
 use Rattle.edge_io.specs.Fronts.{appended-appended, appended-nil, front_last, front_none}
 use Rattle.holders.specs.Answers.{on_err}
@@ -33,33 +34,33 @@ tried : (r : Result AllSeries RunnerFault) (f g h : AllSeries → Result AllSeri
 tried (Err fault) f g h same = refl
 tried (Ok s) f g h same = same s
 
-pub left_join : (xs ys : List Command) (series : AllSeries) → left_by_all (xs ++ ys) series ≡ then_try (left_by_all xs series) (left_by_all ys)
-left_join [] ys series = refl
-left_join (x ∷ xs) ys series = tried (left_by x.what series) (left_by_all (xs ++ ys)) (left_by_all xs) (left_by_all ys) (left_join xs ys)
+pub left_join : (declared : List LabelList) (xs ys : List Command) (series : AllSeries) → left_by_all declared (xs ++ ys) series ≡ then_try (left_by_all declared xs series) (left_by_all declared ys)
+left_join declared [] ys series = refl
+left_join declared (x ∷ xs) ys series = tried (left_by declared x.what series) (left_by_all declared (xs ++ ys)) (left_by_all declared xs) (left_by_all declared ys) (left_join declared xs ys)
 
-module _ (xs : List Command) (x : Command) (series mid : AllSeries) (left : left_by_all xs series ≡ Ok mid) where
+module _ (declared : List LabelList) (xs : List Command) (x : Command) (series mid : AllSeries) (left : left_by_all declared xs series ≡ Ok mid) where
   -- one command more
-  pub left_more : (now : AllSeries) → left_by x.what mid ≡ Ok now → left_by_all (xs ++ x ∷ []) series ≡ Ok now
-  left_more now h = left_join xs (x ∷ []) series ∙ ap (λ (r : Result AllSeries RunnerFault). then_try r (left_by_all (x ∷ []))) left ∙ ap (λ (r : Result AllSeries RunnerFault). then_try r (left_by_all [])) h
+  pub left_more : (now : AllSeries) → left_by declared x.what mid ≡ Ok now → left_by_all declared (xs ++ x ∷ []) series ≡ Ok now
+  left_more now h = left_join declared xs (x ∷ []) series ∙ ap (λ (r : Result AllSeries RunnerFault). then_try r (left_by_all declared (x ∷ []))) left ∙ ap (λ (r : Result AllSeries RunnerFault). then_try r (left_by_all declared [])) h
 
   -- a command that is refused
-  pub left_refused : (ys : List Command) (fault : RunnerFault) → left_by x.what mid ≡ Err fault → left_by_all (xs ++ x ∷ ys) series ≡ Err fault
-  left_refused ys fault h = left_join xs (x ∷ ys) series ∙ ap (λ (r : Result AllSeries RunnerFault). then_try r (left_by_all (x ∷ ys))) left ∙ ap (λ (r : Result AllSeries RunnerFault). then_try r (left_by_all ys)) h
+  pub left_refused : (ys : List Command) (fault : RunnerFault) → left_by declared x.what mid ≡ Err fault → left_by_all declared (xs ++ x ∷ ys) series ≡ Err fault
+  left_refused ys fault h = left_join declared xs (x ∷ ys) series ∙ ap (λ (r : Result AllSeries RunnerFault). then_try r (left_by_all declared (x ∷ ys))) left ∙ ap (λ (r : Result AllSeries RunnerFault). then_try r (left_by_all declared ys)) h
 
 -- ---- verdicts
 
-module _ {closed : Bool} {kept : PatternList} {mid : AllSeries} {ys : List Command} {ws : List Judged} (later : AreVerdicts closed kept mid ys ws) where
+module _ {closed : Bool} {declared : List LabelList} {kept : PatternList} {mid : AllSeries} {ys : List Command} {ws : List Judged} (later : AreVerdicts closed declared kept mid ys ws) where
   -- the verdicts of commands, and of those behind them
-  pub verdicts_join : (series : AllSeries) (xs : List Command) (vs : List Judged) → AreVerdicts closed kept series xs vs → left_by_all xs series ≡ Ok mid → AreVerdicts closed kept series (xs ++ ys) (vs ++ ws)
+  pub verdicts_join : (series : AllSeries) (xs : List Command) (vs : List Judged) → AreVerdicts closed declared kept series xs vs → left_by_all declared xs series ≡ Ok mid → AreVerdicts closed declared kept series (xs ++ ys) (vs ++ ws)
   verdicts_join series xs vs (ended s) left =
       let same : mid ≡ s = cc in
-      subst (λ (z : AllSeries). AreVerdicts closed kept z ys ws) same later
+      subst (λ (z : AllSeries). AreVerdicts closed declared kept z ys ws) same later
   verdicts_join series xs vs (changed s now c cs v none put rest) left =
       changed s now c (cs ++ ys) (v ++ ws) none put
-      (verdicts_join now cs v rest (ap (λ (r : Result AllSeries RunnerFault). then_try r (left_by_all cs)) (sym put) ∙ left))
+      (verdicts_join now cs v rest (ap (λ (r : Result AllSeries RunnerFault). then_try r (left_by_all declared cs)) (sym put) ∙ left))
   verdicts_join series xs vs (evaluated s c grid instant text expected judged cs v what is rest) left =
       evaluated s c grid instant text expected judged (cs ++ ys) (v ++ ws) what is
-      (verdicts_join s cs v rest (ap (λ (w : What). then_try (left_by w s) (left_by_all cs)) (sym what) ∙ left))
+      (verdicts_join s cs v rest (ap (λ (w : What). then_try (left_by declared w s) (left_by_all declared cs)) (sym what) ∙ left))
 
 -- ---- a verdict for each evaluation
 
@@ -71,15 +72,15 @@ no_evaluation (Eval grid instant text expected) none = absurd none
 abbrev lines_of : Bool → Command → List Command → List ℕ
 lines_of b command commands = map (λ (c : Command). c.line) (cond b (command ∷ filter (λ (c : Command). is_evaluation c.what) commands) (filter (λ (c : Command). is_evaluation c.what) commands))
 
-pub verdict_lines : (closed : Bool) (kept : PatternList) (series : AllSeries) (commands : List Command) (verdicts : List Judged) → AreVerdicts closed kept series commands verdicts
+pub verdict_lines : (closed : Bool) (declared : List LabelList) (kept : PatternList) (series : AllSeries) (commands : List Command) (verdicts : List Judged) → AreVerdicts closed declared kept series commands verdicts
     → map (λ (judged : Judged). judged.line) verdicts ≡ evaluation_lines commands
-verdict_lines closed kept series commands verdicts (ended s) = refl
-verdict_lines closed kept series commands verdicts (changed s now c cs v none put rest) =
-    verdict_lines closed kept now cs v rest ∙ ap (λ b. lines_of b c cs) (sym (no_evaluation c.what none))
-verdict_lines closed kept series commands verdicts (evaluated s c grid instant text expected judged cs v what is rest) =
+verdict_lines closed declared kept series commands verdicts (ended s) = refl
+verdict_lines closed declared kept series commands verdicts (changed s now c cs v none put rest) =
+    verdict_lines closed declared kept now cs v rest ∙ ap (λ b. lines_of b c cs) (sym (no_evaluation c.what none))
+verdict_lines closed declared kept series commands verdicts (evaluated s c grid instant text expected judged cs v what is rest) =
     let line : judged.line ≡ c.line = ap (λ (one : Judged). one.line) is.is in
     ap (λ n. n ∷ map (λ (one : Judged). one.line) v) line
-    ∙ ap (λ ns. c.line ∷ ns) (verdict_lines closed kept s cs v rest)
+    ∙ ap (λ ns. c.line ∷ ns) (verdict_lines closed declared kept s cs v rest)
     ∙ ap (λ b. lines_of b c cs) (sym (ap is_evaluation what))
 
 pub passed_or_failed : (verdicts : List Judged) → passed_in verdicts + failed_in verdicts ≡ length verdicts
@@ -89,10 +90,10 @@ passed_or_failed verdicts =
     let both = length-filter_both (λ (judged : Judged). has_passed judged) (λ (judged : Judged). not (has_passed judged)) (λ judged. refl) verdicts in
     omega (arith, passed, failed, both)
 
-module _ (closed : Bool) (kept : PatternList) (series : AllSeries) (commands : List Command) (verdicts : List Judged) (are : AreVerdicts closed kept series commands verdicts) where
+module _ (closed : Bool) (declared : List LabelList) (kept : PatternList) (series : AllSeries) (commands : List Command) (verdicts : List Judged) (are : AreVerdicts closed declared kept series commands verdicts) where
   pub verdicts_number : passed_in verdicts + failed_in verdicts ≡ length (evaluation_lines commands)
   verdicts_number =
-      passed_or_failed verdicts ∙ sym (length-map verdicts (λ (judged : Judged). judged.line)) ∙ ap length (verdict_lines closed kept series commands verdicts are)
+      passed_or_failed verdicts ∙ sym (length-map verdicts (λ (judged : Judged). judged.line)) ∙ ap length (verdict_lines closed declared kept series commands verdicts are)
 
   -- no more than there are commands
   pub verdicts_few : passed_in verdicts + failed_in verdicts ≤ length commands
@@ -123,14 +124,14 @@ failed_join vs ws = sum_by-append (λ (judged : Judged). cond (not (has_passed j
 lines_join : (path : List ℕ) (vs ws : List Judged) → lines_text path (vs ++ ws) ≡ lines_text path vs ++ lines_text path ws
 lines_join path vs ws = flat_map-append (verdict_text path) vs ws
 
-pub cut_none : (closed : Bool) (kept : PatternList) (path : List ℕ) (series : AllSeries) (commands : List Command) (before : Option (List ℕ)) → WasCutOff closed kept path series commands before before
-cut_none closed kept path series commands before = record { done = []; left = commands; parts = refl; verdicts = []; are = ended series; front = front_none before [] }
+pub cut_none : (closed : Bool) (declared : List LabelList) (kept : PatternList) (path : List ℕ) (series : AllSeries) (commands : List Command) (before : Option (List ℕ)) → WasCutOff closed declared kept path series commands before before
+cut_none closed declared kept path series commands before = record { done = []; left = commands; parts = refl; verdicts = []; are = ended series; front = front_none before [] }
 
-module _ {closed : Bool} {kept : PatternList} {path : List ℕ} {before between now : Option (List ℕ)} {sofar : Totals} (series mid : AllSeries) (xs : List Command)
-    (ran : CarriedOut closed kept path series xs before between sofar) (left : left_by_all xs series ≡ Ok mid) where
+module _ {closed : Bool} {declared : List LabelList} {kept : PatternList} {path : List ℕ} {before between now : Option (List ℕ)} {sofar : Totals} (series mid : AllSeries) (xs : List Command)
+    (ran : CarriedOut closed declared kept path series xs before between sofar) (left : left_by_all declared xs series ≡ Ok mid) where
   -- and so were those behind them
-  pub carried_join : (ys : List Command) (more all : Totals) → CarriedOut closed kept path mid ys between now more
-      → all.passed ≡ sofar.passed + more.passed → all.failed ≡ sofar.failed + more.failed → CarriedOut closed kept path series (xs ++ ys) before now all
+  pub carried_join : (ys : List Command) (more all : Totals) → CarriedOut closed declared kept path mid ys between now more
+      → all.passed ≡ sofar.passed + more.passed → all.failed ≡ sofar.failed + more.failed → CarriedOut closed declared kept path series (xs ++ ys) before now all
   carried_join ys more all then passed failed = record {
     verdicts = ran.verdicts ++ then.verdicts;
     are = verdicts_join then.are series xs ran.verdicts ran.are left;
@@ -142,7 +143,7 @@ module _ {closed : Bool} {kept : PatternList} {path : List ℕ} {before between 
   }
 
   -- or they were cut off
-  pub cut_join : (ys zs : List Command) → WasCutOff closed kept path mid ys between now → WasCutOff closed kept path series (xs ++ (ys ++ zs)) before now
+  pub cut_join : (ys zs : List Command) → WasCutOff closed declared kept path mid ys between now → WasCutOff closed declared kept path series (xs ++ (ys ++ zs)) before now
   cut_join ys zs cut = record {
     done = xs ++ cut.done;
     left = cut.left ++ zs;
@@ -153,10 +154,10 @@ module _ {closed : Bool} {kept : PatternList} {path : List ℕ} {before between 
   }
 
 -- no more are counted than there are commands
-pub few_counted : {closed : Bool} {kept : PatternList} {path : List ℕ} {series : AllSeries} {commands : List Command} {before now : Option (List ℕ)} {totals : Totals}
-    → CarriedOut closed kept path series commands before now totals → totals.passed + totals.failed ≤ length commands
-few_counted {closed} {kept} {path} {series} {commands} ran =
-    let few = verdicts_few closed kept series commands ran.verdicts ran.are in
+pub few_counted : {closed : Bool} {declared : List LabelList} {kept : PatternList} {path : List ℕ} {series : AllSeries} {commands : List Command} {before now : Option (List ℕ)} {totals : Totals}
+    → CarriedOut closed declared kept path series commands before now totals → totals.passed + totals.failed ≤ length commands
+few_counted {closed} {declared} {kept} {path} {series} {commands} ran =
+    let few = verdicts_few closed declared kept series commands ran.verdicts ran.are in
     omega (arith, few, ran.passed, ran.failed)
 
 -- ---- a script's commands, parted at one of them
@@ -177,6 +178,7 @@ module _ (commands : List Command) (i : ℕ) (command : Command) (lt : i < lengt
 pub cut_by_any : (fault : RunnerFault) (Cut : Type 0) → Cut → IfCut fault Cut
 cut_by_any (Refused refusal) Cut h = tt
 cut_by_any (Range at) Cut h = tt
+cut_by_any (Run fault) Cut h = tt
 cut_by_any Write Cut h = h
 cut_by_any Memory Cut h = h
 
@@ -187,12 +189,14 @@ when_cut (Err fault) Cut h = cut_by_any fault Cut h
 pub cut_on : (fault : RunnerFault) (Cut More : Type 0) → IfCut fault Cut → (Cut → More) → IfCut fault More
 cut_on (Refused refusal) Cut More h goes = tt
 cut_on (Range at) Cut More h goes = tt
+cut_on (Run fault) Cut More h goes = tt
 cut_on Write Cut More h goes = goes h
 cut_on Memory Cut More h goes = goes h
 
 pub explained_on : (said all : Result AllSeries RunnerFault) (fault : RunnerFault) → IfOfLoads said fault → (said ≡ Err fault → all ≡ Err fault) → IfOfLoads all fault
 explained_on said all (Refused refusal) h goes = goes h
 explained_on said all (Range at) h goes = goes h
+explained_on said all (Run fault) h goes = tt
 explained_on said all Write h goes = tt
 explained_on said all Memory h goes = tt
 
@@ -202,9 +206,9 @@ pub is_change : (what : What) → (what ≡ Clear) ⊎ ((interval : Ms) × (line
 is_change what change = ⊎_elim (λ clear. subst IsNoEvaluation (sym clear) tt) (λ load. subst IsNoEvaluation (sym load.2) tt) change
 
 -- a command that is no evaluation
-pub carried_change : (closed : Bool) (kept : PatternList) (path : List ℕ) (series left : AllSeries) (command : Command) (before : Option (List ℕ)) (totals : Totals) → IsNoEvaluation command.what → left_by command.what series ≡ Ok left
-    → totals.passed ≡ 0 → totals.failed ≡ 0 → CarriedOut closed kept path series (command ∷ []) before before totals
-carried_change closed kept path series left command before totals none put passed failed = record {
+pub carried_change : (closed : Bool) (declared : List LabelList) (kept : PatternList) (path : List ℕ) (series left : AllSeries) (command : Command) (before : Option (List ℕ)) (totals : Totals) → IsNoEvaluation command.what → left_by declared command.what series ≡ Ok left
+    → totals.passed ≡ 0 → totals.failed ≡ 0 → CarriedOut closed declared kept path series (command ∷ []) before before totals
+carried_change closed declared kept path series left command before totals none put passed failed = record {
   verdicts = [];
   are = changed series left command [] [] none put (ended left);
   written = sym (appended-nil before);
@@ -215,14 +219,14 @@ carried_change closed kept path series left command before totals none put passe
 one_line : (path : List ℕ) (judged : Judged) → verdict_text path judged ≡ lines_text path (judged ∷ [])
 one_line path judged = sym (append-nil (verdict_text path judged))
 
-module _ (closed : Bool) (kept : PatternList) (path : List ℕ) (series : AllSeries) (command : Command) (grid : Grid) (instant : Bool) (text : List ℕ) (expected : Expectations) (what : command.what ≡ Eval grid instant text expected)
+module _ (closed : Bool) (declared : List LabelList) (kept : PatternList) (path : List ℕ) (series : AllSeries) (command : Command) (grid : Grid) (instant : Bool) (text : List ℕ) (expected : Expectations) (what : command.what ≡ Eval grid instant text expected)
     (before now : Option (List ℕ)) where
-  one_verdict : (judged : Judged) → IsJudgement closed kept series command.line text grid instant expected judged → AreVerdicts closed kept series (command ∷ []) (judged ∷ [])
+  one_verdict : (judged : Judged) → IsJudgement closed kept series command.line text grid instant expected judged → AreVerdicts closed declared kept series (command ∷ []) (judged ∷ [])
   one_verdict judged such = evaluated series command grid instant text expected judged [] [] what such (ended series)
 
   -- an evaluation
   pub carried_evaluation : (passed : Bool) (totals : Totals) → WroteLine path (IsJudgement closed kept series command.line text grid instant expected) before now passed
-      → totals.passed ≡ cond passed 1 0 → totals.failed ≡ cond passed 0 1 → CarriedOut closed kept path series (command ∷ []) before now totals
+      → totals.passed ≡ cond passed 1 0 → totals.failed ≡ cond passed 0 1 → CarriedOut closed declared kept path series (command ∷ []) before now totals
   carried_evaluation passed totals wrote some none =
       let line = wrote.is_line in
       let judged = line.judged in
@@ -235,8 +239,8 @@ module _ (closed : Bool) (kept : PatternList) (path : List ℕ) (series : AllSer
       }
 
   -- an evaluation that was cut off
-  pub cut_evaluation : WroteLess path (IsJudgement closed kept series command.line text grid instant expected) before now → WasCutOff closed kept path series (command ∷ []) before now
-  cut_evaluation (nothing same) = subst (λ (w : Option (List ℕ)). WasCutOff closed kept path series (command ∷ []) before w) (sym same) (cut_none closed kept path series (command ∷ []) before)
+  pub cut_evaluation : WroteLess path (IsJudgement closed kept series command.line text grid instant expected) before now → WasCutOff closed declared kept path series (command ∷ []) before now
+  cut_evaluation (nothing same) = subst (λ (w : Option (List ℕ)). WasCutOff closed declared kept path series (command ∷ []) before w) (sym same) (cut_none closed declared kept path series (command ∷ []) before)
   cut_evaluation (partly piece passed line front) = record {
     done = command ∷ [];
     left = [];

@@ -1,5 +1,13 @@
+pub mod Gone
+pub mod Putting
+pub mod Places
+pub mod Calling
+pub mod Parts
 pub mod Loading
 pub mod Standing
+pub mod Moving
+pub mod Serving
 pub mod Carrying
 pub mod Spending
 pub mod Beginning
+pub mod Engines

@@ -1,5 +1,5 @@
 -- What evaluations and commands spend.
-use Rattle.std.proofs.Common.{◌≡◌, ℕ, List, ◌∷◌, Result, Ok, Err, IfOk, ap, refl, subst, sym}
+use Rattle.std.proofs.Common.{◌≡◌, ℕ, List, [], ◌∷◌, Result, Ok, Err, IfOk, ap, refl, subst, sym}
 use Rattle.query_engine.specs.Bounds.{Spends, nothing}
 use Rattle.query_engine.specs.Planning.{choices_of}
 use Rattle.query_engine.specs.declared.options.Options.{Options}
@@ -39,7 +39,7 @@ cut_as options series command commands (Load interval lines) before after is sam
     subst (λ (now : Counts). CommandsSpend options series (command ∷ commands) before now) (sym same) (ended series (command ∷ commands) before)
 cut_as options series command commands (Eval grid instant text expected) before after is spends =
     further series series command commands before after after (evaluation_spends options series command.what (Eval grid instant text expected) before after is spends)
-    (ap (λ (w : What). left_by w series) is) (ended series commands after)
+    (ap (λ (w : What). left_by [] w series) is) (ended series commands after)
 
 pub cut_there : (options : Options) (series : AllSeries) (command : Command) (commands : List Command) (before after : Counts) → CommandSpends options series command.what before after
     → CommandsSpend options series (command ∷ commands) before after

@@ -15,12 +15,17 @@ use Rattle.sample_store.specs.declared.refusal.StoreRefusal.TheVariants.{Conflic
 use Rattle.sample_store.specs.Laws.{held_same, others_now, samples_now, time_cmp_total, time_cmp_ties}
 use Rattle.ticks.specs.declared.moment.Ms.{Ms}
 use Rattle.xfrac.specs.declared.value.Held.{Held}
-use Rattle.test_runner.specs.Loads.{IsSaid, Slot, Empty, Filled, Outside, Stands, is_beyond, line_put, line_slots, slot_put, slots_put, unless_refused}
+use Rattle.test_runner.specs.Loads.{IsSaid, Slot, Empty, Filled, Outside, Stands, is_beyond, items_put, line_put, lines_put, left_by, left_by_all, samples_left, is_placed, line_slots, slot_put, slots_put, unless_refused}
 use Rattle.script_read.specs.Outcomes.{then_try}
 use Rattle.script_read.specs.Series.{LabelList}
+use Rattle.test_runner.specs.declared.fault.LoadRefusal.TheVariants.{Unplaced}
 use Rattle.test_runner.specs.declared.fault.RunnerFault.{RunnerFault}
-use Rattle.test_runner.specs.declared.fault.RunnerFault.TheVariants.{Range}
+use Rattle.test_runner.specs.declared.fault.RunnerFault.TheVariants.{Range, Refused}
+use Rattle.script_read.specs.declared.script.Command.{Command}
+use Rattle.script_read.specs.declared.script.Script.{Script}
 use Rattle.script_read.specs.declared.script.SeriesLine.{SeriesLine}
+use Rattle.script_read.specs.declared.script.What.{What}
+use Rattle.script_read.specs.declared.script.What.TheVariants.{Clear, Load, Eval}
 
 -- ---- entries by a key
 
@@ -208,9 +213,9 @@ module _ (line : ℕ) (labels : LabelList) (interval : Ms) where
             (λ behind. inr behind) (said_by_one start (Filled held) slots names t h said)) stands),
       )
 
-pub load_puts : (interval : Ms) (line : SeriesLine) (before now : AllSeries) → line_put interval line before ≡ Ok now
+items_puts : (interval : Ms) (line : SeriesLine) (before now : AllSeries) → items_put interval line before ≡ Ok now
     → (labels : LabelList) (at : Ms) (held : Held) → Stands now labels at held ↔ (Stands before labels at held ⊎ IsSaid interval line labels at held)
-load_puts interval line before now e labels at held =
+items_puts interval line before now e labels at held =
     let all = goes line.line line.labels interval (line_slots line.items) 0 before now e labels at held in (
       λ stands. ⊎_elim (λ stood. inl stood)
           (λ said. inr (record { labels_are = sym said.labels_are; place = said.place; filled = said.filled; time = sym said.time ∙ ap (λ n. pos n *ℤ interval.0) (zero-add said.place) }))
@@ -218,3 +223,46 @@ load_puts interval line before now e labels at held =
       λ stands. all.1 (⊎_elim (λ stood. inl stood)
           (λ said. inr (record { labels_are = sym said.labels_are; place = said.place; filled = said.filled; time = ap (λ n. pos n *ℤ interval.0) (zero-add said.place) ∙ sym said.time })) stands),
     )
+
+-- ---- lines with a place
+
+module _ (declared : List LabelList) where
+  -- what is put of a line isn't refused, so that its series has a place
+  placed_items : (interval : Ms) (line : SeriesLine) (before now : AllSeries) → line_put declared interval line before ≡ Ok now → items_put interval line before ≡ Ok now
+  placed_items interval line before now e = by (is_placed declared line.labels) e
+    where
+      by : (b : Bool) → cond b (items_put interval line before) (Err (Refused (Unplaced line.line))) ≡ Ok now → items_put interval line before ≡ Ok now
+      by true h = h
+      by false h = absurd (cc)
+
+  pub load_puts : (interval : Ms) (line : SeriesLine) (before now : AllSeries) → line_put declared interval line before ≡ Ok now
+      → (labels : LabelList) (at : Ms) (held : Held) → Stands now labels at held ↔ (Stands before labels at held ⊎ IsSaid interval line labels at held)
+  load_puts interval line before now e = items_puts interval line before now (placed_items interval line before now e)
+
+  -- ---- engines change nothing of what is left
+
+  abbrev Same : (f g : AllSeries → Result AllSeries RunnerFault) → Type 0
+  Same f g = (s now : AllSeries) → f s ≡ Ok now → g s ≡ Ok now
+
+  same_on : (r q : Result AllSeries RunnerFault) (f g : AllSeries → Result AllSeries RunnerFault) → ((s : AllSeries) → r ≡ Ok s → q ≡ Ok s) → Same f g → (now : AllSeries) → then_try r f ≡ Ok now → then_try q g ≡ Ok now
+  same_on (Ok s) q f g first later now h = ap (λ (z : Result AllSeries RunnerFault). then_try z g) (first s refl) ∙ later s now h
+  same_on (Err fault) q f g first later now h = absurd (cc)
+
+  same_lines : (interval : Ms) (lines : List SeriesLine) → Same (lines_put declared interval lines) (lines_put [] interval lines)
+  same_lines interval [] s now h = h
+  same_lines interval (line ∷ lines) s now h =
+      same_on (line_put declared interval line s) (line_put [] interval line s) (lines_put declared interval lines) (lines_put [] interval lines)
+      (λ mid e. placed_items interval line s mid e) (same_lines interval lines) now h
+
+  same_what : (what : What) → Same (left_by declared what) (left_by [] what)
+  same_what Clear s now h = h
+  same_what (Load interval lines) s now h = same_lines interval lines s now h
+  same_what (Eval grid instant text expected) s now h = h
+
+  same_all : (commands : List Command) → Same (left_by_all declared commands) (left_by_all [] commands)
+  same_all [] s now h = h
+  same_all (c ∷ cs) s now h =
+      same_on (left_by declared c.what s) (left_by [] c.what s) (left_by_all declared cs) (left_by_all [] cs) (λ mid e. same_what c.what s mid e) (same_all cs) now h
+
+  pub same_left : (script : Script) (series : AllSeries) → samples_left declared script ≡ Ok series → samples_left [] script ≡ Ok series
+  same_left script series h = same_all script.commands [] series h

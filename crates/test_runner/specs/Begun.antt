@@ -10,10 +10,10 @@ use Rattle.test_runner.specs.Verdicts.{IsNoEvaluation}
 pub record ChangesStandInFront (commands : List Command) (front : ℕ) : Type 0 where
   pub within : front ≤ length commands
   pub quiet : AllByRecursion (λ (one : Command). IsNoEvaluation one.what) (take front commands)
-  pub settled : (series : AllSeries) → left_by_all (drop front commands) series ≡ Ok series
+  pub settled : (series : AllSeries) → left_by_all [] (drop front commands) series ≡ Ok series
 
 -- So many commands in front were carried out, which evaluate nothing and leave these series.
 pub record HasBegun (commands : List Command) (series : AllSeries) (done : ℕ) : Type 0 where
   pub within : done ≤ length commands
   pub quiet : AllByRecursion (λ (one : Command). IsNoEvaluation one.what) (take done commands)
-  pub left : left_by_all (take done commands) [] ≡ Ok series
+  pub left : left_by_all [] (take done commands) [] ≡ Ok series

@@ -1,5 +1,7 @@
 pub mod Loads
 pub mod Loading
+pub mod Parts
+pub mod Boxes
 pub mod Verdicts
 pub mod Lines
 pub mod Running

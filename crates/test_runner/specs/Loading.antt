@@ -1,13 +1,11 @@
 -- What loading gives, unless memory runs out.
-use Rattle.std.specs.Prelude.{◌≡◌, ℕ, ◌++◌, Option, None, Some, Result, Ok, Err, List}
-use Rattle.script_read.specs.Series.{LabelList}
-use Rattle.sample_store.specs.Samples.{AllSeries, IsNumberOf}
+use Rattle.std.specs.Prelude.{◌≡◌, ℕ, Bool, true, false, Result, Ok, Err, IsOk, OnOk}
+use Rattle.sample_store.specs.Samples.{AllSeries}
 use Rattle.sample_store.specs.declared.refusal.StoreRefusal.{StoreRefusal}
 use Rattle.sample_store.specs.declared.refusal.StoreRefusal.TheVariants.{Memory as NoRoom}
-use Rattle.ticks.specs.declared.moment.Ms.{Ms}
-use Rattle.test_runner.specs.Loads.{Slot, refused_for, slots_put}
+use Rattle.test_runner.specs.Loads.{refused_for}
 use Rattle.test_runner.specs.declared.fault.RunnerFault.{RunnerFault}
-use Rattle.test_runner.specs.declared.fault.RunnerFault.TheVariants.{Refused, Write, Memory}
+use Rattle.test_runner.specs.declared.fault.RunnerFault.TheVariants.{Refused, Run, Write, Memory}
 
 -- what comes of a line's sample that the store refuses
 abbrev pub fault_for : ℕ → StoreRefusal → RunnerFault
@@ -21,16 +19,22 @@ Leaves (Err Memory) now said = Unit {0}
 Leaves (Err Write) now said = ⊥
 Leaves (Err fault) now said = said ≡ Err fault
 
--- a line's series has the number that is known of it, if one is
-abbrev pub IsKnown : AllSeries → LabelList → Option ℕ → Type 0
-IsKnown series labels None = Unit {0}
-IsKnown series labels (Some s) = IsNumberOf series labels s
+-- what may be put: anything where it is judged as it is put, else what isn't refused
+abbrev pub Allowed : Bool → Result AllSeries RunnerFault → Type 0
+Allowed true said = Unit {0}
+Allowed false said = IsOk said
 
--- slots were put, and others behind them stand from the next place on; or they are refused, whatever stands behind them
-abbrev pub PutsOn : ℕ → LabelList → Ms → ℕ → List Slot → AllSeries → Result ℕ RunnerFault → AllSeries → Type 0
-PutsOn line labels interval place slots before (Ok next) now =
-    (rest : List Slot) → slots_put line labels interval place (slots ++ rest) before ≡ slots_put line labels interval next rest now
-PutsOn line labels interval place slots before (Err Memory) now = Unit {0}
-PutsOn line labels interval place slots before (Err Write) now = ⊥
-PutsOn line labels interval place slots before (Err fault) now =
-    (rest : List Slot) → slots_put line labels interval place (slots ++ rest) before ≡ Err fault
+-- something holds where no engine has failed
+abbrev pub UnlessFailed : {X : Type 0} → Result X RunnerFault → Type 0 → Type 0
+UnlessFailed (Err (Run fault)) Holds = Unit {0}
+UnlessFailed result Holds = Holds
+
+-- loads may be put where some series are held
+abbrev pub MayPut : Bool → (AllSeries → Type 0) → (AllSeries → Result AllSeries RunnerFault) → Type 0
+MayPut judges Held put = (series : AllSeries) × Held series × Allowed judges (put series)
+
+-- loads were put: whatever series were held before, those are held now that the loads leave of them; or their fault is answered,
+-- unless memory ran out or an engine failed
+abbrev pub HasPut : {X : Type 0} → Bool → (Held Holds : AllSeries → Type 0) → (AllSeries → Result AllSeries RunnerFault) → Result X RunnerFault → Type 0
+HasPut judges Held Holds put result =
+    (series : AllSeries) → Held series → Allowed judges (put series) → (now : AllSeries) × OnOk result (Holds now) × UnlessFailed result (Leaves result now (put series))

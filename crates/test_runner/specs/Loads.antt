@@ -1,11 +1,13 @@
--- The samples that the commands of a script put into the store, and the first refusal of its loads. (The promqltest
--- format; the limits and the order of the refusals are this project's own.)
+-- The samples that the commands of a script put into the store, or into the engines that have declared labels, and the
+-- first refusal of its loads. (The promqltest format; the engines, the limits and the order of the refusals are this
+-- project's own.)
 --
--- Commands are judged in order, their lines in order, and the items of a line from left to right. A sample is refused
--- for its value or its time, for another value at its time, for a series too many and for a sample too many, in this
--- order.
-use Rattle.std.specs.Prelude.{◌≡◌, slice_get, ℕ, zero, suc, ◌+◌, ◌^◌, Bool, if◌then◌else◌, List, [], ◌∷◌, nat_lt, Option, None, Some, Result, Ok, Err, ℤ, pos, ◌*ℤ◌, unsigned_abs, replicate}
+-- Commands are judged in order, their lines in order, and the items of a line from left to right. Where engines are
+-- declared, a line is refused whose series is that of none of them. A sample is refused for its value or its time, for
+-- another value at its time, for a series too many and for a sample too many, in this order.
+use Rattle.std.specs.Prelude.{◌≡◌, slice_get, ℕ, zero, suc, ◌+◌, ◌^◌, Bool, true, if◌then◌else◌, List, [], ◌∷◌, nat_lt, Option, None, Some, is_some, position, Result, Ok, Err, ℤ, pos, ◌*ℤ◌, unsigned_abs, replicate}
 use Rattle.std.specs.List.{flat_map}
+use Rattle.parting_laws.specs.Parted.{has_declared}
 use Rattle.sample_store.specs.Samples.{AllSeries, held_in, refusal_of, samples_of, with_sample}
 use Rattle.sample_store.specs.declared.refusal.StoreRefusal.{StoreRefusal}
 use Rattle.sample_store.specs.declared.refusal.StoreRefusal.TheVariants.{Conflict as Differing, TooManySeries as SeriesFull}
@@ -21,7 +23,7 @@ use Rattle.script_read.specs.Series.{LabelList}
 use Rattle.script_read.specs.declared.script.Command.{Command}
 use Rattle.script_read.specs.declared.script.Script.{Script}
 use Rattle.test_runner.specs.declared.fault.LoadRefusal.{LoadRefusal}
-use Rattle.test_runner.specs.declared.fault.LoadRefusal.TheVariants.{Conflict, TooManySamples, TooManySeries}
+use Rattle.test_runner.specs.declared.fault.LoadRefusal.TheVariants.{Conflict, TooManySamples, TooManySeries, Unplaced}
 use Rattle.test_runner.specs.declared.fault.RunnerFault.{RunnerFault}
 use Rattle.test_runner.specs.declared.fault.RunnerFault.TheVariants.{Range, Refused}
 use Rattle.script_read.specs.declared.script.SeriesItem.{SeriesItem}
@@ -84,13 +86,28 @@ slots_put line labels interval place [] series = Ok series
 slots_put line labels interval place (slot ∷ slots) series =
     then_try (slot_put line labels (pos place *ℤ interval.0) slot series) (slots_put line labels interval (place + 1) slots)
 
--- the store with the samples of the lines of a load
-abbrev pub line_put : Ms → SeriesLine → AllSeries → Result AllSeries RunnerFault
-line_put interval line series = slots_put line.line line.labels interval 0 (line_slots line.items) series
+-- the first of some declared labels that a series has, counted from 0
+abbrev pub engine_of : List LabelList → LabelList → Option ℕ
+engine_of declared labels = position (λ (names : LabelList). has_declared names labels) declared
 
-abbrev pub lines_put : Ms → List SeriesLine → AllSeries → Result AllSeries RunnerFault
-lines_put interval [] series = Ok series
-lines_put interval (line ∷ lines) series = then_try (line_put interval line series) (lines_put interval lines)
+-- whether a series has its place: in the store, where no engine is declared, or at one of the engines
+abbrev pub is_placed : List LabelList → LabelList → Bool
+is_placed [] labels = true
+is_placed (names ∷ declared) labels = is_some (engine_of (names ∷ declared) labels)
+
+-- the store with the samples of a line
+abbrev pub items_put : Ms → SeriesLine → AllSeries → Result AllSeries RunnerFault
+items_put interval line series = slots_put line.line line.labels interval 0 (line_slots line.items) series
+
+-- the same, unless the line's series has no place
+abbrev pub line_put : List LabelList → Ms → SeriesLine → AllSeries → Result AllSeries RunnerFault
+line_put declared interval line series =
+    if is_placed declared line.labels then items_put interval line series else Err (Refused (Unplaced line.line))
+
+-- the store with the samples of the lines of a load
+abbrev pub lines_put : List LabelList → Ms → List SeriesLine → AllSeries → Result AllSeries RunnerFault
+lines_put declared interval [] series = Ok series
+lines_put declared interval (line ∷ lines) series = then_try (line_put declared interval line series) (lines_put declared interval lines)
 
 -- a sample stands in the store
 abbrev pub Stands : AllSeries → LabelList → Ms → Held → Type 0
@@ -104,16 +121,16 @@ pub record IsSaid (interval : Ms) (line : SeriesLine) (labels : LabelList) (at :
   pub time : at.0 ≡ pos place *ℤ interval.0
 
 -- what a command leaves in the store
-abbrev pub left_by : What → AllSeries → Result AllSeries RunnerFault
-left_by Clear series = Ok []
-left_by (Load interval lines) series = lines_put interval lines series
-left_by (Eval grid instant text expected) series = Ok series
+abbrev pub left_by : List LabelList → What → AllSeries → Result AllSeries RunnerFault
+left_by declared Clear series = Ok []
+left_by declared (Load interval lines) series = lines_put declared interval lines series
+left_by declared (Eval grid instant text expected) series = Ok series
 
-abbrev pub left_by_all : List Command → AllSeries → Result AllSeries RunnerFault
-left_by_all [] series = Ok series
-left_by_all (command ∷ commands) series = then_try (left_by command.what series) (left_by_all commands)
+abbrev pub left_by_all : List LabelList → List Command → AllSeries → Result AllSeries RunnerFault
+left_by_all declared [] series = Ok series
+left_by_all declared (command ∷ commands) series = then_try (left_by declared command.what series) (left_by_all declared commands)
 
--- the samples that the loads of a script leave, none standing as it begins, or why they are refused: nothing else than
--- `Range` and `Refused` comes
-abbrev pub samples_left : Script → Result AllSeries RunnerFault
-samples_left script = left_by_all script.commands []
+-- the samples that the loads of a script leave, none standing as it begins, or why they are refused, where engines have declared
+-- these labels: nothing else than `Range` and `Refused` comes
+abbrev pub samples_left : List LabelList → Script → Result AllSeries RunnerFault
+samples_left declared script = left_by_all declared script.commands []

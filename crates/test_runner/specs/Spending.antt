@@ -1,5 +1,5 @@
 -- What scripts spend at most. (This project's own.)
-use Rattle.std.specs.Prelude.{◌≡◌, List, ◌∷◌, Ok}
+use Rattle.std.specs.Prelude.{◌≡◌, List, [], ◌∷◌, Ok}
 use Rattle.query_engine.specs.Bounds.{Spends}
 use Rattle.query_engine.specs.Planning.{choices_of}
 use Rattle.query_engine.specs.declared.options.Options.{Options}
@@ -24,5 +24,5 @@ CommandSpends options series _ before after = after ≡ before
 -- nothing.
 pub data CommandsSpend (options : Options) : AllSeries → List Command → (before after : Counts) → Type 0 where
   ended : (series : AllSeries) (commands : List Command) (now : Counts) → CommandsSpend options series commands now now
-  further : (series left : AllSeries) (command : Command) (commands : List Command) (before between after : Counts) → CommandSpends options series command.what before between → left_by command.what series ≡ Ok left
+  further : (series left : AllSeries) (command : Command) (commands : List Command) (before between after : Counts) → CommandSpends options series command.what before between → left_by [] command.what series ≡ Ok left
       → CommandsSpend options left commands between after → CommandsSpend options series (command ∷ commands) before after

@@ -7,6 +7,7 @@ use Rattle.query_engine.specs.Evaluating.{ComesTo}
 use Rattle.ticks.specs.declared.grid.Grid.{Grid}
 use Rattle.script_check.specs.OutcomeTexts.{outcome_text}
 use Rattle.script_check.specs.Verdicts.{PatternList, verdict_of}
+use Rattle.script_read.specs.Series.{LabelList}
 use Rattle.script_read.specs.declared.script.Command.{Command}
 use Rattle.script_read.specs.declared.script.Expectations.{Expectations}
 use Rattle.script_read.specs.declared.script.What.{What}
@@ -37,14 +38,15 @@ abbrev pub IsNoEvaluation : What → Type 0
 IsNoEvaluation (Eval grid instant text expected) = ⊥
 IsNoEvaluation _ = Unit {0}
 
--- The verdicts of commands, in order, behind commands that left these series: each evaluation has one.
-pub data AreVerdicts (closed : Bool) (kept : PatternList) : AllSeries → List Command → List Judged → Type 0 where
-  ended : (series : AllSeries) → AreVerdicts closed kept series [] []
-  changed : (series now : AllSeries) (command : Command) (commands : List Command) (verdicts : List Judged) → IsNoEvaluation command.what → left_by command.what series ≡ Ok now
-      → AreVerdicts closed kept now commands verdicts → AreVerdicts closed kept series (command ∷ commands) verdicts
+-- The verdicts of commands, in order, behind commands that left these series, where engines have declared these labels: each evaluation
+-- has one.
+pub data AreVerdicts (closed : Bool) (declared : List LabelList) (kept : PatternList) : AllSeries → List Command → List Judged → Type 0 where
+  ended : (series : AllSeries) → AreVerdicts closed declared kept series [] []
+  changed : (series now : AllSeries) (command : Command) (commands : List Command) (verdicts : List Judged) → IsNoEvaluation command.what → left_by declared command.what series ≡ Ok now
+      → AreVerdicts closed declared kept now commands verdicts → AreVerdicts closed declared kept series (command ∷ commands) verdicts
   evaluated : (series : AllSeries) (command : Command) (grid : Grid) (instant : Bool) (text : List ℕ) (expected : Expectations) (judged : Judged) (commands : List Command) (verdicts : List Judged)
-      → command.what ≡ Eval grid instant text expected → IsJudgement closed kept series command.line text grid instant expected judged → AreVerdicts closed kept series commands verdicts
-      → AreVerdicts closed kept series (command ∷ commands) (judged ∷ verdicts)
+      → command.what ≡ Eval grid instant text expected → IsJudgement closed kept series command.line text grid instant expected judged → AreVerdicts closed declared kept series commands verdicts
+      → AreVerdicts closed declared kept series (command ∷ commands) (judged ∷ verdicts)
 
 abbrev pub is_evaluation : What → Bool
 is_evaluation (Eval grid instant text expected) = true

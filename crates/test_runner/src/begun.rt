@@ -1,15 +1,16 @@
 //! What a script begins with: all its loads are judged, and where they stand in front of its evaluations, their store is kept.
 ghost use Rattle.script_read.specs.declared.script.Command.{Command};
 ghost use Rattle.std.specs.List.{AllByRecursion, list_all};
-ghost use Rattle.std.specs.Prelude.{◌≡◌, ◌≤◌, length, take, IfErr, IfOk, IfSome, IsOk};
+ghost use Rattle.std.specs.Prelude.{◌≡◌, ◌≤◌, [], length, take, IfErr, IfOk, IfSome, IsOk};
 ghost use Rattle.test_runner.specs.Begun.{ChangesStandInFront, HasBegun};
+ghost use Rattle.test_runner.specs.Boxes.{IsNoRun};
 ghost use Rattle.test_runner.specs.Loads.{samples_left};
 ghost use Rattle.test_runner.specs.Running.{AnswersLoads, IfOfLoads};
 ghost use Rattle.test_runner.specs.Verdicts.{IsNoEvaluation, is_evaluation};
 ghost use Rattle.test_runner.specs.declared.fault.RunnerFault.TheVariants.{Write};
 
 use crate::fault::RunnerFault;
-use crate::load::load_all;
+use crate::storing::load_all;
 use sample_store::Store;
 use script_read::{Command, Script, What};
 use std::alloc::Global;
@@ -21,7 +22,7 @@ pub(crate) struct Begun {
     pub done: usize,
 }
 
-fn is_evaluation(what: &What) -> bool
+pub(crate) fn is_evaluation(what: &What) -> bool
     ensures { result ≡ is_evaluation what.now }
 {
     matches!(what, What::Eval { .. })
@@ -65,12 +66,13 @@ fn changes_in_front(commands: &[Command]) -> Option<usize>
 #[tactic(auto, using(crate::proofs::Beginning::front_begun, crate::proofs::Beginning::none_begun))]
 pub(crate) fn begin(alloc: Global, script: &Script) -> Result<Begun, RunnerFault>
     ensures begun { IfOk result (λ begun. HasBegun script.now.commands begun.store begun.done) }
-    ensures judged { IfOk result (λ _. IsOk (samples_left script.now)) }
-    ensures refused { AnswersLoads (samples_left script.now) result }
-    ensures explained { IfErr result (IfOfLoads (samples_left script.now)) }
+    ensures judged { IfOk result (λ _. IsOk (samples_left [] script.now)) }
+    ensures refused { AnswersLoads (samples_left [] script.now) result }
+    ensures explained { IfErr result (IfOfLoads (samples_left [] script.now)) }
     ensures unwritten { IfErr result (λ fault. fault ≡ Write → ⊥) }
+    ensures sure { IsNoRun result }
 {
-    let store = load_all(alloc, script)?;
+    let store = load_all(alloc, &[], script)?;
     match changes_in_front(script.commands.as_slice()) {
         Some(done) => Ok(Begun { store, done }),
         None => Ok(Begun {

@@ -49,7 +49,7 @@ fn is_pass(verdict: &Verdict) -> bool
 }
 
 /// An outcome against what is expected of it. The only error is want of memory.
-fn judge_outcome(
+pub(crate) fn judge_outcome(
     alloc: Global,
     path: &str,
     asked: Evaluation<'_>,

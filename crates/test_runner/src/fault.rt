@@ -1,15 +1,19 @@
 //! Why a script isn't run to its end.
 use edge_io::SinkFail;
+use exchange::RunFault;
 use std::alloc::{AllocError, AllocFailed};
 use thiserror::Error;
 use xfrac::Held;
 
-/// Why the store refuses a load, with the line of the first refused sample, counted from 1.
+/// Why a load is refused, with the line of the first refused sample, counted from 1.
 #[derive(Clone, Copy, Debug, PartialEq, Eq, Error)]
 pub enum LoadRefusal {
     /// The sample `given` by the line differs from the one that is `kept` at its time.
     #[error("line {line} has another value at the time of a sample")]
     Conflict { line: u32, kept: Held, given: Held },
+    /// The series of the line has the labels of no declared engine.
+    #[error("line {line} has a series of no engine")]
+    Unplaced { line: u32 },
     /// A sample of the line is the 2,000,001st.
     #[error("line {line} has a sample too many")]
     TooManySamples { line: u32 },
@@ -27,6 +31,9 @@ pub enum RunnerFault {
     /// A sample's value or time, on this line, is outside the limits. Nothing of the script was run.
     #[error("line {0} has a number outside the limits")]
     Range(u32),
+    /// An engine failed.
+    #[error("an engine failed")]
+    Run(RunFault),
     /// A write failed.
     #[error("a write failed")]
     Write,

@@ -1,32 +1,21 @@
-//! Loading: the samples of a script's series lines, put into the store or refused. Faults are passed on by `match`, since at
-//! `?` the checker can't follow one that holds samples.
-ghost use Rattle.test_runner.specs.Loads.{Filled, is_beyond, left_by, left_by_all, line_put, lines_put, run_slots, sample_put, samples_left, slot_put, slots_of};
-ghost use Rattle.test_runner.specs.Loading.{IsKnown, Leaves, PutsOn, fault_for};
-ghost use Rattle.test_runner.specs.Running.{AnswersLoads, IfOfLoads};
-ghost use Rattle.test_runner.specs.declared.fault.RunnerFault.TheVariants.{Write};
-ghost use Rattle.sample_store.specs.Samples.{refusal_of, with_sample};
-ghost use Rattle.std.specs.Prelude.{◌≡◌, ◌≤◌, ◌<◌, ◌+◌, ◌^◌, pos, ◌*ℤ◌, Ok, Err, false, true, IfErr, IfOk, IsErr, IsOkUnless, MatchOption, MatchResult, OnErr, OnOk};
+//! Loading: the samples of a script's series lines, put where they go to. Faults are passed on by `match`, since at `?` the checker
+//! can't follow one that holds samples.
+ghost use Rattle.test_runner.specs.Loads.{Filled, is_beyond, is_placed, items_put, left_by, left_by_all, line_put, line_slots, lines_put, run_slots, slot_put, slots_of, slots_put};
+ghost use Rattle.test_runner.specs.Loading.{HasPut, MayPut};
+ghost use Rattle.test_runner.specs.Parts.{HasGone};
+ghost use Rattle.std.specs.Prelude.{◌≡◌, ◌≤◌, ◌<◌, ◌+◌, ◌^◌, [], ◌∷◌, pos, ◌*ℤ◌, Ok, Err, false, true, length, IfOk, IfSome, IsErr, MatchOption, MatchResult};
 ghost use Rattle.xfrac.specs.Arithmetic.{arithmetic};
 
 use crate::fault::{LoadRefusal, RunnerFault};
+use crate::into::{Loaded, Target};
+use crate::placing::is_placed;
 use label_set::Labels;
-use sample_store::{Store, StoreRefusal};
-use script_read::{Command, Script, SeriesItem, SeriesLine, What};
-use std::alloc::Global;
+use script_read::{Command, SeriesItem, SeriesLine, What};
 use ticks::Ms;
 use xfrac::{ArithOp, Held, XFrac, arith};
 
 /// No sample's time is further from 0 than this, in milliseconds.
 const TIME_LIMIT: u128 = 100_000_000_000_000;
-
-/// A series that samples are put into: its line, its labels, the time between its places, and how many samples it may have room for.
-#[derive(Clone, Copy)]
-struct Target<'a> {
-    line: u32,
-    labels: &'a Labels,
-    interval: Ms,
-    room: u32,
-}
 
 /// The time of a place, counted from 0, unless it is beyond the limit.
 fn time_of(place: u128, interval: Ms) -> Option<Ms>
@@ -42,81 +31,16 @@ fn time_of(place: u128, interval: Ms) -> Option<Ms>
     }
 }
 
-/// What comes of a line's sample that the store refuses.
-fn fault_for(line: u32, refusal: StoreRefusal) -> RunnerFault
-    ensures { result ≡ fault_for line refusal }
-{
-    match refusal {
-        StoreRefusal::Conflict { kept, given } => {
-            RunnerFault::Refused(LoadRefusal::Conflict { line, kept, given })
-        },
-        StoreRefusal::TooManySeries => RunnerFault::Refused(LoadRefusal::TooManySeries { line }),
-        StoreRefusal::TooManySamples => RunnerFault::Refused(LoadRefusal::TooManySamples { line }),
-        StoreRefusal::Memory => RunnerFault::Memory,
-    }
-}
-
-/// Puts a sample into the series with these labels, whose number is told from then on.
-fn append_first(
-    store: &mut Store,
-    labels: &Labels,
-    room: u32,
-    series: &mut Option<u32>,
-    at: Ms,
-    held: &Held,
-) -> Result<(), StoreRefusal>
-    ensures refused { MatchOption (refusal_of store.old labels.now at held.now) (IsOkUnless result StoreRefusal.Memory) (λ e. result ≡ Err e) }
-    ensures ok { OnOk result (store.new ≡ with_sample store.old labels.now at held.now) }
-    ensures err { OnErr result (store.new ≡ store.old) }
-    ensures known { IsKnown store.new labels.now series.new }
-{
-    let answer = store.append_before(labels, at, held, room);
-    *series = store.find(labels);
-    answer
-}
-
-/// The same where the number may be known; then the labels aren't looked up.
-fn append_next(
-    store: &mut Store,
-    labels: &Labels,
-    room: u32,
-    series: &mut Option<u32>,
-    at: Ms,
-    held: &Held,
-) -> Result<(), StoreRefusal>
-    requires { IsKnown store.old labels.now series.old }
-    ensures refused { MatchOption (refusal_of store.old labels.now at held.now) (IsOkUnless result StoreRefusal.Memory) (λ e. result ≡ Err e) }
-    ensures ok { OnOk result (store.new ≡ with_sample store.old labels.now at held.now) }
-    ensures err { OnErr result (store.new ≡ store.old) }
-    ensures known { IsKnown store.new labels.now series.new }
-{
-    match *series {
-        Some(s) => store.append_to(s, at, held),
-        None => append_first(store, labels, room, series, at, held),
-    }
-}
-
-fn append(
-    store: &mut Store,
-    target: Target<'_>,
-    series: &mut Option<u32>,
-    at: Ms,
-    held: &Held,
-) -> Result<(), RunnerFault>
-    requires { IsKnown store.old target.labels.now series.old }
-    ensures put { Leaves result store.new (sample_put target.entry.line target.entry.labels.now at held.now store.old) }
-    ensures known { IsKnown store.new target.entry.labels.now series.new }
-{
-    match append_next(store, target.labels, target.room, series, at, held) {
-        Ok(()) => Ok(()),
-        Err(refusal) => Err(fault_for(target.line, refusal)),
-    }
-}
-
 fn out_of_range<T>(line: u32) -> Result<T, RunnerFault>
     ensures { result ≡ Err (RunnerFault.Range line) }
 {
     Err(RunnerFault::Range(line))
+}
+
+fn unplaced(line: u32) -> Result<(), RunnerFault>
+    ensures { result ≡ Err (RunnerFault.Refused (LoadRefusal.Unplaced line)) }
+{
+    Err(RunnerFault::Refused(LoadRefusal::Unplaced { line }))
 }
 
 /// How many samples items have, as far as a number below 2^32 tells.
@@ -134,20 +58,48 @@ fn samples_in(items: &[SeriesItem]) -> u32 {
 }
 
 /// Puts the sample of a place.
-fn put_sample(
-    store: &mut Store,
+fn put_sample<T: Loaded>(
+    into: &mut T,
     target: Target<'_>,
     series: &mut Option<u32>,
     place: u128,
     held: &Held,
 ) -> Result<(), RunnerFault>
-    requires { IsKnown store.old target.labels.now series.old }
-    ensures put { Leaves result store.new (slot_put target.entry.line target.entry.labels.now (pos place *ℤ target.entry.interval.0) (Filled held.now) store.old) }
-    ensures known { IsKnown store.new target.entry.labels.now series.new }
+    requires may { MayPut T.judges (T.holds into.old target.declared.now) (slot_put target.line target.labels.now (pos place *ℤ target.interval.0) (Filled held.now)) }
+    requires place { is_placed target.declared.now target.labels.now ≡ true }
+    requires known { IfSome series.old (T.knows into.old target.declared.now target.labels.now) }
+    ensures put { HasPut T.judges (T.holds into.old target.entry.declared.now) (T.holds into.new target.entry.declared.now) (slot_put target.entry.line target.entry.labels.now (pos place *ℤ target.entry.interval.0) (Filled held.now)) result }
+    ensures known { IfSome series.new (T.knows into.new target.entry.declared.now target.entry.labels.now) }
+    ensures gone { HasGone (length target.entry.declared.now) result (T.engines into.old) (T.engines into.new) }
+    ensures names { T.names into.new ≡ T.names into.old }
 {
     match time_of(place, target.interval) {
-        Some(at) => append(store, target, series, at, held),
+        Some(at) => into.put(target, series, at, held),
         None => out_of_range(target.line),
+    }
+}
+
+/// The same, and answers the place behind it.
+fn put_one<T: Loaded>(
+    into: &mut T,
+    target: Target<'_>,
+    series: &mut Option<u32>,
+    place: u128,
+    held: &Held,
+) -> Result<u128, RunnerFault>
+    requires near { place < 2 ^ 101 }
+    requires may { MayPut T.judges (T.holds into.old target.declared.now) (slots_put target.line target.labels.now target.interval place (Filled held.now ∷ [])) }
+    requires place { is_placed target.declared.now target.labels.now ≡ true }
+    requires known { IfSome series.old (T.knows into.old target.declared.now target.labels.now) }
+    ensures put { HasPut T.judges (T.holds into.old target.entry.declared.now) (T.holds into.new target.entry.declared.now) (slots_put target.entry.line target.entry.labels.now target.entry.interval place (Filled held.now ∷ [])) result }
+    ensures behind { IfOk result (λ next. next ≡ place + 1) }
+    ensures known { IfSome series.new (T.knows into.new target.entry.declared.now target.entry.labels.now) }
+    ensures gone { HasGone (length target.entry.declared.now) result (T.engines into.old) (T.engines into.new) }
+    ensures names { T.names into.new ≡ T.names into.old }
+{
+    match put_sample(into, target, series, place, held) {
+        Ok(()) => Ok(place + 1),
+        Err(fault) => Err(fault),
     }
 }
 
@@ -163,8 +115,8 @@ fn next_value(line: u32, value: &XFrac, by: &XFrac) -> Result<XFrac, RunnerFault
 }
 
 /// Puts the values of a run from a place on, and answers the place behind them.
-fn put_run(
-    store: &mut Store,
+fn put_run<T: Loaded>(
+    into: &mut T,
     target: Target<'_>,
     series: &mut Option<u32>,
     start: u128,
@@ -173,15 +125,20 @@ fn put_run(
     more: u32,
 ) -> Result<u128, RunnerFault>
     requires near { start < 2 ^ 100 }
-    requires known { IsKnown store.old target.labels.now series.old }
-    ensures put { PutsOn target.entry.line target.entry.labels.now target.entry.interval start (run_slots more first.now by.now) store.old result store.new }
+    requires may { MayPut T.judges (T.holds into.old target.declared.now) (slots_put target.line target.labels.now target.interval start (run_slots more first.now by.now)) }
+    requires place { is_placed target.declared.now target.labels.now ≡ true }
+    requires known { IfSome series.old (T.knows into.old target.declared.now target.labels.now) }
+    ensures put { HasPut T.judges (T.holds into.old target.entry.declared.now) (T.holds into.new target.entry.declared.now) (slots_put target.entry.line target.entry.labels.now target.entry.interval start (run_slots more first.now by.now)) result }
+    ensures behind { IfOk result (λ next. next ≡ start + length (run_slots more first.now by.now)) }
     ensures near { IfOk result (λ next. next ≤ start + 2 ^ 32) }
-    ensures known { IsKnown store.new target.entry.labels.now series.new }
+    ensures known { IfSome series.new (T.knows into.new target.entry.declared.now target.entry.labels.now) }
+    ensures gone { HasGone (length target.entry.declared.now) result (T.engines into.old) (T.engines into.new) }
+    ensures names { T.names into.new ≡ T.names into.old }
 {
     let mut place = start;
     let mut value = *first;
     for _ in 0..more {
-        match put_sample(store, target, series, place, &Held::Value(value)) {
+        match put_sample(into, target, series, place, &Held::Value(value)) {
             Ok(()) => {}
             Err(fault) => return Err(fault),
         }
@@ -191,51 +148,53 @@ fn put_run(
         }
         place += 1;
     }
-    match put_sample(store, target, series, place, &Held::Value(value)) {
-        Ok(()) => Ok(place + 1),
-        Err(fault) => Err(fault),
-    }
+    put_one(into, target, series, place, &Held::Value(value))
 }
 
 /// Puts the samples of an item from a place on, and answers the place behind it. Gaps are skipped in one step.
-fn put_item(
-    store: &mut Store,
+fn put_item<T: Loaded>(
+    into: &mut T,
     target: Target<'_>,
     series: &mut Option<u32>,
     place: u128,
     item: &SeriesItem,
 ) -> Result<u128, RunnerFault>
     requires near { place < 2 ^ 100 }
-    requires known { IsKnown store.old target.labels.now series.old }
-    ensures put { PutsOn target.entry.line target.entry.labels.now target.entry.interval place (slots_of item.now) store.old result store.new }
+    requires may { MayPut T.judges (T.holds into.old target.declared.now) (slots_put target.line target.labels.now target.interval place (slots_of item.now)) }
+    requires place { is_placed target.declared.now target.labels.now ≡ true }
+    requires known { IfSome series.old (T.knows into.old target.declared.now target.labels.now) }
+    ensures put { HasPut T.judges (T.holds into.old target.entry.declared.now) (T.holds into.new target.entry.declared.now) (slots_put target.entry.line target.entry.labels.now target.entry.interval place (slots_of item.now)) result }
+    ensures behind { IfOk result (λ next. next ≡ place + length (slots_of item.now)) }
     ensures near { IfOk result (λ next. next ≤ place + 2 ^ 32) }
-    ensures known { IsKnown store.new target.entry.labels.now series.new }
+    ensures known { IfSome series.new (T.knows into.new target.entry.declared.now target.entry.labels.now) }
+    ensures gone { HasGone (length target.entry.declared.now) result (T.engines into.old) (T.engines into.new) }
+    ensures names { T.names into.new ≡ T.names into.old }
 {
     match item {
         SeriesItem::Gap(places) => Ok(place + u128::from(*places)),
-        SeriesItem::Stale => match put_sample(store, target, series, place, &Held::Stale) {
-            Ok(()) => Ok(place + 1),
-            Err(fault) => Err(fault),
-        },
+        SeriesItem::Stale => put_one(into, target, series, place, &Held::Stale),
         SeriesItem::Run { first, by, more } => {
-            put_run(store, target, series, place, first, by, *more)
+            put_run(into, target, series, place, first, by, *more)
         },
     }
 }
 
-fn put_line(store: &mut Store, interval: Ms, line: &SeriesLine) -> Result<(), RunnerFault>
-    ensures { Leaves result store.new (line_put interval line.now store.old) }
+/// Puts the samples of items.
+fn put_items<T: Loaded>(
+    into: &mut T,
+    target: Target<'_>,
+    items: &[SeriesItem],
+) -> Result<(), RunnerFault>
+    requires may { MayPut T.judges (T.holds into.old target.declared.now) (slots_put target.line target.labels.now target.interval 0 (line_slots items.now)) }
+    requires place { is_placed target.declared.now target.labels.now ≡ true }
+    ensures put { HasPut T.judges (T.holds into.old target.entry.declared.now) (T.holds into.new target.entry.declared.now) (slots_put target.entry.line target.entry.labels.now target.entry.interval 0 (line_slots items.now)) result }
+    ensures gone { HasGone (length target.entry.declared.now) result (T.engines into.old) (T.engines into.new) }
+    ensures names { T.names into.new ≡ T.names into.old }
 {
-    let target = Target {
-        line: line.line,
-        labels: &line.labels,
-        interval,
-        room: samples_in(line.items.as_slice()).saturating_sub(1),
-    };
     let mut series = None;
     let mut place = 0;
-    for item in line.items.as_slice() {
-        match put_item(store, target, &mut series, place, item) {
+    for item in items {
+        match put_item(into, target, &mut series, place, item) {
             Ok(next) => place = next,
             Err(fault) => return Err(fault),
         }
@@ -243,12 +202,63 @@ fn put_line(store: &mut Store, interval: Ms, line: &SeriesLine) -> Result<(), Ru
     Ok(())
 }
 
-/// Puts the samples of a load into the store. After an error the store has those before the refused one.
-pub fn put_lines(store: &mut Store, interval: Ms, lines: &[SeriesLine]) -> Result<(), RunnerFault>
-    ensures { Leaves result store.new (lines_put interval lines.now store.old) }
+/// Puts the samples of a line.
+fn put_series<T: Loaded>(
+    into: &mut T,
+    declared: &[Labels],
+    interval: Ms,
+    line: &SeriesLine,
+) -> Result<(), RunnerFault>
+    requires may { MayPut T.judges (T.holds into.old declared.now) (items_put interval line.now) }
+    requires place { is_placed declared.now line.now.labels ≡ true }
+    ensures put { HasPut T.judges (T.holds into.old declared.now) (T.holds into.new declared.now) (items_put interval line.now) result }
+    ensures gone { HasGone (length declared.now) result (T.engines into.old) (T.engines into.new) }
+    ensures names { T.names into.new ≡ T.names into.old }
+{
+    let items = line.items.as_slice();
+    let target = Target {
+        declared,
+        line: line.line,
+        labels: &line.labels,
+        interval,
+        room: samples_in(items).saturating_sub(1),
+    };
+    put_items(into, target, items)
+}
+
+/// The same, unless the line's series has no place.
+fn put_line<T: Loaded>(
+    into: &mut T,
+    declared: &[Labels],
+    interval: Ms,
+    line: &SeriesLine,
+) -> Result<(), RunnerFault>
+    requires { MayPut T.judges (T.holds into.old declared.now) (line_put declared.now interval line.now) }
+    ensures put { HasPut T.judges (T.holds into.old declared.now) (T.holds into.new declared.now) (line_put declared.now interval line.now) result }
+    ensures gone { HasGone (length declared.now) result (T.engines into.old) (T.engines into.new) }
+    ensures names { T.names into.new ≡ T.names into.old }
+{
+    if is_placed(declared, &line.labels) {
+        put_series(into, declared, interval, line)
+    } else {
+        unplaced(line.line)
+    }
+}
+
+/// Puts the samples of a load. After an error those before the refused one were put.
+fn put_lines<T: Loaded>(
+    into: &mut T,
+    declared: &[Labels],
+    interval: Ms,
+    lines: &[SeriesLine],
+) -> Result<(), RunnerFault>
+    requires { MayPut T.judges (T.holds into.old declared.now) (lines_put declared.now interval lines.now) }
+    ensures put { HasPut T.judges (T.holds into.old declared.now) (T.holds into.new declared.now) (lines_put declared.now interval lines.now) result }
+    ensures gone { HasGone (length declared.now) result (T.engines into.old) (T.engines into.new) }
+    ensures names { T.names into.new ≡ T.names into.old }
 {
     for line in lines {
-        match put_line(store, interval, line) {
+        match put_line(into, declared, interval, line) {
             Ok(()) => {}
             Err(fault) => return Err(fault),
         }
@@ -256,43 +266,43 @@ pub fn put_lines(store: &mut Store, interval: Ms, lines: &[SeriesLine]) -> Resul
     Ok(())
 }
 
-/// Clears or loads the store where a command says so.
-pub fn change_store(store: &mut Store, what: &What) -> Result<(), RunnerFault>
-    ensures { Leaves result store.new (left_by what.now store.old) }
+/// Clears or loads where a command says so, where engines have declared these labels.
+pub(crate) fn change<T: Loaded>(
+    into: &mut T,
+    declared: &[Labels],
+    what: &What,
+) -> Result<(), RunnerFault>
+    requires { MayPut T.judges (T.holds into.old declared.now) (left_by declared.now what.now) }
+    ensures put { HasPut T.judges (T.holds into.old declared.now) (T.holds into.new declared.now) (left_by declared.now what.now) result }
+    ensures gone { HasGone (length declared.now) result (T.engines into.old) (T.engines into.new) }
+    ensures names { T.names into.new ≡ T.names into.old }
 {
     match what {
         What::Clear => {
-            store.clear();
+            into.clear(declared);
             Ok(())
         }
-        What::Load { interval, lines } => put_lines(store, *interval, lines.as_slice()),
+        What::Load { interval, lines } => put_lines(into, declared, *interval, lines.as_slice()),
         What::Eval { .. } => Ok(()),
     }
 }
 
-fn change_by_all(store: &mut Store, commands: &[Command]) -> Result<(), RunnerFault>
-    ensures { Leaves result store.new (left_by_all commands.now store.old) }
+/// Clears and loads as commands say.
+pub(crate) fn change_all<T: Loaded>(
+    into: &mut T,
+    declared: &[Labels],
+    commands: &[Command],
+) -> Result<(), RunnerFault>
+    requires { MayPut T.judges (T.holds into.old declared.now) (left_by_all declared.now commands.now) }
+    ensures put { HasPut T.judges (T.holds into.old declared.now) (T.holds into.new declared.now) (left_by_all declared.now commands.now) result }
+    ensures gone { HasGone (length declared.now) result (T.engines into.old) (T.engines into.new) }
+    ensures names { T.names into.new ≡ T.names into.old }
 {
     for command in commands {
-        match change_store(store, &command.what) {
+        match change(into, declared, &command.what) {
             Ok(()) => {}
             Err(fault) => return Err(fault),
         }
     }
     Ok(())
-}
-
-/// The store that the loads of a script leave. `Refused` and `Range` come exactly where a load is refused, with the first
-/// refusal; the only other error is want of memory.
-pub fn load_all(alloc: Global, script: &Script) -> Result<Store, RunnerFault>
-    ensures left { IfOk result (λ store. samples_left script.now ≡ Ok store) }
-    ensures refused { AnswersLoads (samples_left script.now) result }
-    ensures explained { IfErr result (IfOfLoads (samples_left script.now)) }
-    ensures unwritten { IfErr result (λ fault. fault ≡ Write → ⊥) }
-{
-    let mut store = Store::new(alloc);
-    match change_by_all(&mut store, script.commands.as_slice()) {
-        Ok(()) => Ok(store),
-        Err(fault) => Err(fault),
-    }
 }

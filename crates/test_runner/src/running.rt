@@ -1,8 +1,9 @@
-//! Running a script: each evaluation is judged over the samples that were loaded before it, and its line is written.
+//! Running a script over a store: each evaluation is judged over the samples that were loaded before it, and its line is written.
 ghost use Rattle.edge_io.specs.Causes.{HasCause};
 ghost use Rattle.query_engine.specs.Batches.{IsBatch};
 ghost use Rattle.script_check.specs.Verdicts.{HasItsPatterns, HasPatterns, KeepsPatterns};
 ghost use Rattle.std.specs.Prelude.{◌≡◌, ◌<◌, ◌+◌, ◌^◌, [], ◌∷◌, Ok, length, IfErr, IfOk, IsErrOf};
+ghost use Rattle.test_runner.specs.Boxes.{IsNoRun};
 ghost use Rattle.test_runner.specs.Begun.{HasBegun};
 ghost use Rattle.test_runner.specs.Loads.{left_by, samples_left};
 ghost use Rattle.test_runner.specs.Running.{AnswersLoads, CarriedOut, HasRun, IfCut, IfOfLoads, WasCut, WasCutOff};
@@ -12,7 +13,7 @@ ghost use Rattle.test_runner.specs.Steps.{IsJudgementOn, WroteLess, WroteLine};
 use crate::begun::{Begun, begin};
 use crate::evaluation::{Evaluation, judge_evaluation};
 use crate::fault::RunnerFault;
-use crate::load::change_store;
+use crate::storing::change_store;
 use crate::totals::Totals;
 use edge_io::{Sink, SinkFail, write_all};
 use match_rule::Patterns;
@@ -61,15 +62,16 @@ fn run_command<S: Sink, W: Ledger>(
 ) -> Result<Totals, RunnerFault>
     requires kept { HasItsPatterns searches.old command.now.what }
     requires batch { IsBatch options.now.batch }
-    ensures left { IfOk result (λ _. left_by command.now.what store.old ≡ Ok store.new) }
+    ensures left { IfOk result (λ _. left_by [] command.now.what store.old ≡ Ok store.new) }
     ensures rests { IfOk result (λ totals. totals.passed + totals.failed ≡ 0 → work.new ≡ work.old) }
-    ensures ran { IfOk result (CarriedOut options.now.closed searches.old path.now store.old (command.now ∷ []) (S.written out.old) (S.written out.new)) }
-    ensures cut { IfErr result (λ fault. IfCut fault (WasCutOff options.now.closed searches.old path.now store.old (command.now ∷ []) (S.written out.old) (S.written out.new))) }
-    ensures explained { IfErr result (IfOfLoads (left_by command.now.what store.old)) }
+    ensures ran { IfOk result (CarriedOut options.now.closed [] searches.old path.now store.old (command.now ∷ []) (S.written out.old) (S.written out.new)) }
+    ensures cut { IfErr result (λ fault. IfCut fault (WasCutOff options.now.closed [] searches.old path.now store.old (command.now ∷ []) (S.written out.old) (S.written out.new))) }
+    ensures explained { IfErr result (IfOfLoads (left_by [] command.now.what store.old)) }
     ensures cause { HasCause (S.faults out.old) (S.faults out.new) (IsErrOf result RunnerFault.Write) }
     ensures never { S.sound out.old → IsErrOf result RunnerFault.Write → ⊥ }
     ensures sound { S.sound out.old → S.sound out.new }
     ensures same { searches.new ≡ searches.old }
+    ensures sure { IsNoRun result }
     ensures bounded { CommandSpends options.now store.old command.now.what work.old work.new }
 {
     match &command.what {
@@ -113,14 +115,15 @@ fn run_commands<S: Sink, W: Ledger>(
     requires few { length script.now.commands < 2 ^ 32 }
     requires begun { HasBegun script.now.commands begun.store begun.done }
     requires batch { IsBatch options.now.batch }
-    ensures ran { IfOk result (HasRun options.now.closed searches.old path.now script.now (S.written out.old) (S.written out.new)) }
+    ensures ran { IfOk result (HasRun options.now.closed [] searches.old path.now script.now (S.written out.old) (S.written out.new)) }
     ensures rests { IfOk result (λ totals. totals.passed + totals.failed ≡ 0 → work.new ≡ work.old) }
-    ensures cut { IfErr result (λ fault. IfCut fault (WasCut options.now.closed searches.old path.now script.now (S.written out.old) (S.written out.new))) }
-    ensures explained { IfErr result (IfOfLoads (samples_left script.now)) }
+    ensures cut { IfErr result (λ fault. IfCut fault (WasCut options.now.closed [] searches.old path.now script.now (S.written out.old) (S.written out.new))) }
+    ensures explained { IfErr result (IfOfLoads (samples_left [] script.now)) }
     ensures cause { HasCause (S.faults out.old) (S.faults out.new) (IsErrOf result RunnerFault.Write) }
     ensures never { S.sound out.old → IsErrOf result RunnerFault.Write → ⊥ }
     ensures sound { S.sound out.old → S.sound out.new }
     ensures same { searches.new ≡ searches.old }
+    ensures sure { IsNoRun result }
     ensures bounded { CommandsSpend options.now [] script.now.commands work.old work.new }
 {
     let Begun { mut store, done } = begun;
@@ -136,13 +139,8 @@ fn run_commands<S: Sink, W: Ledger>(
     Ok(totals)
 }
 
-/// Runs a script under a path: first all its loads are judged, then its commands are carried out in order, and each
-/// evaluation's line is written as it ends. All are evaluated with the same options, but for the batch, which is lowered where many
-/// series are loaded. `searches` keeps the patterns that the script names. `Refused` and `Range` come
-/// exactly where a load is refused, with the first refusal; then nothing was evaluated or written. After `Write`, which
-/// comes only where a write failed, and after want of memory, a front of the lines of the script's first evaluations was
-/// written. On any answer the counters rise by at most what the plans of its evaluations cost. (The files of promqltest.)
-pub fn run<S: Sink, W: Ledger>(
+/// Runs a script over a store.
+pub(crate) fn run_alone<S: Sink, W: Ledger>(
     alloc: Global,
     path: &str,
     script: &Script,
@@ -156,20 +154,21 @@ pub fn run<S: Sink, W: Ledger>(
     requires batch { IsBatch options.now.batch }
 
     // Each evaluation's verdict was written, and these are their numbers. Nothing is counted but by evaluations.
-    ensures ran { IfOk result (HasRun options.now.closed searches.old path.now script.now (S.written out.old) (S.written out.new)) }
+    ensures ran { IfOk result (HasRun options.now.closed [] searches.old path.now script.now (S.written out.old) (S.written out.new)) }
     ensures rests { IfOk result (λ totals. totals.passed + totals.failed ≡ 0 → work.new ≡ work.old) }
 
     // A refusal of loads comes exactly where they are refused; then nothing was written or evaluated.
-    ensures refused { AnswersLoads (samples_left script.now) result }
-    ensures explained { IfErr result (IfOfLoads (samples_left script.now)) }
-    ensures untouched { IfErr (samples_left script.now) (λ _. (out.new ≡ out.old) × (work.new ≡ work.old)) }
+    ensures refused { AnswersLoads (samples_left [] script.now) result }
+    ensures explained { IfErr result (IfOfLoads (samples_left [] script.now)) }
+    ensures untouched { IfErr (samples_left [] script.now) (λ _. (out.new ≡ out.old) × (work.new ≡ work.old)) }
 
     // `Write` comes only from the sink. After it, and after want of memory, a front was written.
     ensures cause { HasCause (S.faults out.old) (S.faults out.new) (IsErrOf result RunnerFault.Write) }
     ensures never { S.sound out.old → IsErrOf result RunnerFault.Write → ⊥ }
     ensures sound { S.sound out.old → S.sound out.new }
-    ensures cut { IfErr result (λ fault. IfCut fault (WasCut options.now.closed searches.old path.now script.now (S.written out.old) (S.written out.new))) }
+    ensures cut { IfErr result (λ fault. IfCut fault (WasCut options.now.closed [] searches.old path.now script.now (S.written out.old) (S.written out.new))) }
     ensures same { searches.new ≡ searches.old }
+    ensures sure { IsNoRun result }
 
     // The counters rise by at most what the plans of the evaluations cost, each over the samples that stand then.
     ensures bounded { CommandsSpend options.now [] script.now.commands work.old work.new }

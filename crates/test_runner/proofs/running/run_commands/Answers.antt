@@ -10,6 +10,7 @@ use Rattle.test_runner.specs.Running.{CarriedOut, IfCut, WasCutOff}
 use Rattle.test_runner.specs.Spending.{CommandsSpend, ended, further}
 use Rattle.test_runner.proofs.Carrying.{at_drop, at_take, carried_join, cut_join, cut_on, explained_on, few_counted, left_more, left_refused, parted}
 use Rattle.test_runner.proofs.Beginning.{quiet_carried, quiet_spend, rest_holds}
+use Rattle.test_runner.proofs.Serving.{sure_as}
 use Rattle.test_runner.proofs.Spending.{cut_there}
 use Rattle.test_runner.proofs.running.run_commands.Goals as goal
 
@@ -19,7 +20,7 @@ loop-i-init g c =
     let done = c.args.begun.done in
     let begun : HasBegun all c.args.begun.store done = subst (λ (cs : List Command). HasBegun cs c.args.begun.store done) (sym c.as_slice-commands.ensures) c.requires.begun in
     record {
-      ran = quiet_carried _ _ _ (take done all) [] c.args.begun.store _ _ begun.quiet begun.left refl refl;
+      ran = quiet_carried _ [] _ _ (take done all) [] c.args.begun.store _ _ begun.quiet begun.left refl refl;
       left = begun.left;
       rests = λ _. refl;
       kept = rest_holds (λ (one : Command). HasItsPatterns c.args.searches.now one.what) done all (subst (AllByRecursion (λ (one : Command). HasItsPatterns c.args.searches.now one.what)) (sym c.as_slice-commands.ensures) c.requires.kept);
@@ -67,11 +68,11 @@ loop-i-preserved g c =
     let now = g.S.Sink.written c.run_command.new.out in
     let to = at_take all i command c.loop-i-test.true c.index-commands-i.is in
     let has = subst (AllByRecursion (λ (one : Command). HasItsPatterns kept one.what)) (at_drop all i command c.loop-i-test.true c.index-commands-i.is) sofar.kept in
-    let more = subst (λ (k : PatternList). CarriedOut c.args.options.now.closed k path mid (command ∷ []) between now c.in_ok-more.more) sofar.same c.in_ok-more.ensures.ran in
+    let more = subst (λ (k : PatternList). CarriedOut c.args.options.now.closed [] k path mid (command ∷ []) between now c.in_ok-more.more) sofar.same c.in_ok-more.ensures.ran in
     let both = carried_join [] mid (take i all) sofar.ran sofar.left (command ∷ []) c.in_ok-more.more c.plus-totals.result more c.plus-totals.ensures.passed c.plus-totals.ensures.failed in
     record {
-      ran = subst (λ (cs : List Command). CarriedOut c.args.options.now.closed kept path [] cs (g.S.Sink.written c.args.out.now) now c.plus-totals.result) to both;
-      left = subst (λ (cs : List Command). left_by_all cs [] ≡ Ok c.run_command.new.store) to (left_more (take i all) command [] mid sofar.left c.run_command.new.store c.in_ok-more.ensures.left);
+      ran = subst (λ (cs : List Command). CarriedOut c.args.options.now.closed [] kept path [] cs (g.S.Sink.written c.args.out.now) now c.plus-totals.result) to both;
+      left = subst (λ (cs : List Command). left_by_all [] cs [] ≡ Ok c.run_command.new.store) to (left_more [] (take i all) command [] mid sofar.left c.run_command.new.store c.in_ok-more.ensures.left);
       rests = λ none. c.in_ok-more.ensures.rests (omega (arith, c.plus-totals.ensures.passed, c.plus-totals.ensures.failed, none)) ∙ sofar.rests (omega (arith, c.plus-totals.ensures.passed, c.plus-totals.ensures.failed, none));
       kept = has.1;
       same = c.in_ok-more.ensures.same ∙ sofar.same;
@@ -114,10 +115,10 @@ returns-in_err-more-clause-cut g c =
     let now = g.S.Sink.written c.run_command.new.out in
     let fault = c.in_err-more.field-0.0 in
     let p = err_from_is_err_and c.from_residual.result c.from_residual.ensures.1 in
-    let here = subst (λ (k : PatternList). IfCut fault (WasCutOff c.args.options.now.closed k path mid (command ∷ []) between now)) sofar.same c.in_err-more.ensures.cut in
+    let here = subst (λ (k : PatternList). IfCut fault (WasCutOff c.args.options.now.closed [] k path mid (command ∷ []) between now)) sofar.same c.in_err-more.ensures.cut in
     let whole = parted all i command c.loop-i-test.true c.index-commands-i.is ∙ c.as_slice-commands.ensures in
-    rw (p.1, p.2) (cut_on fault (WasCutOff c.args.options.now.closed kept path mid (command ∷ []) between now) (WasCutOff c.args.options.now.closed kept path [] c.args.script.now.commands before now) here
-    (λ cut. subst (λ (cs : List Command). WasCutOff c.args.options.now.closed kept path [] cs before now) whole (cut_join [] mid (take i all) sofar.ran sofar.left (command ∷ []) (drop (i + 1) all) cut)))
+    rw (p.1, p.2) (cut_on fault (WasCutOff c.args.options.now.closed [] kept path mid (command ∷ []) between now) (WasCutOff c.args.options.now.closed [] kept path [] c.args.script.now.commands before now) here
+    (λ cut. subst (λ (cs : List Command). WasCutOff c.args.options.now.closed [] kept path [] cs before now) whole (cut_join [] mid (take i all) sofar.ran sofar.left (command ∷ []) (drop (i + 1) all) cut)))
 
 pub returns-in_err-more-clause-explained : goal.returns-in_err-more-clause-explained
 returns-in_err-more-clause-explained g c =
@@ -128,5 +129,10 @@ returns-in_err-more-clause-explained g c =
     let fault = c.in_err-more.field-0.0 in
     let p = err_from_is_err_and c.from_residual.result c.from_residual.ensures.1 in
     let whole = parted all i command c.loop-i-test.true c.index-commands-i.is ∙ c.as_slice-commands.ensures in
-    rw (p.1, p.2) (explained_on (left_by command.what mid) (left_by_all c.args.script.now.commands []) fault c.in_err-more.ensures.explained
-    (λ h. subst (λ (cs : List Command). left_by_all cs [] ≡ Err fault) whole (left_refused (take i all) command [] mid c.loop-i.invariant.left (drop (i + 1) all) fault h)))
+    rw (p.1, p.2) (explained_on (left_by [] command.what mid) (left_by_all [] c.args.script.now.commands []) fault c.in_err-more.ensures.explained
+    (λ h. subst (λ (cs : List Command). left_by_all [] cs [] ≡ Err fault) whole (left_refused [] (take i all) command [] mid c.loop-i.invariant.left (drop (i + 1) all) fault h)))
+
+pub returns-in_err-more-clause-sure : goal.returns-in_err-more-clause-sure
+returns-in_err-more-clause-sure g c =
+    let p = err_from_is_err_and c.from_residual.result c.from_residual.ensures.1 in
+    rw (p.1, p.2) (sure_as _ _ c.in_err-more.field-0.0 c.in_err-more.ensures.sure)

@@ -11,8 +11,8 @@ use Rattle.test_runner.proofs.running.run_commands.Given as goal
 -- the commands so far were carried out
 abbrev pub invariant-loop-i : goal.invariant-loop-i
 invariant-loop-i g l = record {
-  ran : CarriedOut l.options.closed l.fn.searches l.path [] (take l.i l.commands) (g.S.Sink.written l.fn.out) (g.S.Sink.written l.out) l.totals;
-  left : left_by_all (take l.i l.commands) [] ≡ Ok l.store;
+  ran : CarriedOut l.options.closed [] l.fn.searches l.path [] (take l.i l.commands) (g.S.Sink.written l.fn.out) (g.S.Sink.written l.out) l.totals;
+  left : left_by_all [] (take l.i l.commands) [] ≡ Ok l.store;
   rests : l.totals.passed + l.totals.failed ≡ 0 → l.work ≡ l.fn.work;
   kept : AllByRecursion (λ (command : Command). HasItsPatterns l.fn.searches command.what) (drop l.i l.commands);
   same : l.searches ≡ l.fn.searches;

@@ -1,9 +1,0 @@
-use Rattle.test_runner.proofs.Carrying.{cut_none, when_cut}
-use Rattle.test_runner.proofs.running.run.Goals as goal
-use Rattle.test_runner.specs.Spending.{ended}
-
-pub returns-in_err-begun-clause-cut : goal.returns-in_err-begun-clause-cut
-returns-in_err-begun-clause-cut g c = when_cut c.from_residual.result _ (cut_none _ _ _ _ _ _)
-
-pub returns-in_err-begun-clause-bounded : goal.returns-in_err-begun-clause-bounded
-returns-in_err-begun-clause-bounded g c = ended _ _ _
