@@ -4,6 +4,8 @@
 #[cfg(test)]
 mod engines;
 #[cfg(test)]
+mod gathered;
+#[cfg(test)]
 mod reports;
 #[cfg(test)]
 mod rows;

@@ -4,6 +4,7 @@ use crate::rows::rows_hold;
 use edge_io::{Fetch, Fetched, Library, MemLibrary, MemSink, Sink, SinkFail};
 use holders::{Items, Text};
 use promql_tool::{Status, choices_leave_reports, run_tool};
+use remote_api::{Engine, InOrder};
 use std::alloc::{AllocError, Global};
 use std::marker::Brand;
 use std::sync::ledger::{Blank, Ledger};
@@ -389,8 +390,17 @@ fn run_counted<W: Ledger, L: Library, S: Sink>(
     requires parts { blank.parts ≡ W.parts }
     requires three { blank.parts ≡ 3 }
 {
+    let mut engines: Vec<Box<dyn Engine>> = Vec::new(alloc);
     let mut work = Work::<W>::new(blank);
-    run_tool(alloc, words, library, out, &mut work)
+    run_tool(
+        alloc,
+        words,
+        library,
+        out,
+        &mut engines,
+        &mut InOrder::new(),
+        &mut work,
+    )
 }
 
 fn run_words<L: Library, S: Sink>(

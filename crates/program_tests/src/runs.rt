@@ -9,6 +9,7 @@ use holders::{Items, Text};
 use match_rule::{PatternRoom, Patterns};
 use promql_meaning::{Answer, Outcome};
 use query_engine::Options;
+use remote_api::{Engine, InOrder};
 use script_check::{append_outcome, scripts_keep_their_patterns};
 use script_read::{ReadFault, Script};
 use std::alloc::{AllocError, Global};
@@ -107,6 +108,9 @@ fn fault_text(alloc: Global, fault: &RunnerFault) -> Result<Vec<u8>, AllocError>
         RunnerFault::Refused(LoadRefusal::Conflict { line, kept, given }) => {
             push_conflict(*line, kept, given, &mut text)?;
         }
+        RunnerFault::Refused(LoadRefusal::Unplaced { line }) => {
+            text.extend_from_slice(format!(in alloc; "Unplaced {line}")?.as_bytes())?;
+        }
         RunnerFault::Refused(LoadRefusal::TooManySamples { line }) => {
             text.extend_from_slice(format!(in alloc; "TooManySamples {line}")?.as_bytes())?;
         }
@@ -116,6 +120,7 @@ fn fault_text(alloc: Global, fault: &RunnerFault) -> Result<Vec<u8>, AllocError>
         RunnerFault::Range(line) => {
             text.extend_from_slice(format!(in alloc; "Range {line}")?.as_bytes())?;
         }
+        RunnerFault::Run(_) => text.extend_from_slice(b"Run")?,
         RunnerFault::Write => text.extend_from_slice(b"Write")?,
         RunnerFault::Memory => return Err(AllocError),
     }
@@ -192,8 +197,22 @@ fn run_counted<W: Ledger>(
     requires kept { KeepsPatterns searches.old script.now }
     requires few { length script.now.commands < 2 ^ 32 }
 {
+    let mut engines: Vec<Box<dyn Engine>> = Vec::new(alloc);
+    let mut declared = Items::new(alloc);
+    let mut courier = InOrder::new();
     let mut work = Work::<W>::new(blank);
-    run(alloc, "a.test", script, searches, &OPEN, out, &mut work)
+    run(
+        alloc,
+        "a.test",
+        script,
+        searches,
+        &OPEN,
+        &mut engines,
+        &mut declared,
+        &mut courier,
+        out,
+        &mut work,
+    )
 }
 
 fn run_script(
@@ -221,6 +240,9 @@ fn answer_counted<W: Ledger>(
     requires parts { blank.parts ≡ W.parts }
     requires three { blank.parts ≡ 3 }
 {
+    let mut engines: Vec<Box<dyn Engine>> = Vec::new(alloc);
+    let mut declared = Items::new(alloc);
+    let mut courier = InOrder::new();
     let mut work = Work::<W>::new(blank);
     answer(
         alloc,
@@ -229,6 +251,9 @@ fn answer_counted<W: Ledger>(
         grid,
         instant,
         &OPEN,
+        &mut engines,
+        &mut declared,
+        &mut courier,
         &mut work,
     )
 }

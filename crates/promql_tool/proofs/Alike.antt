@@ -4,6 +4,7 @@ use Rattle.std.specs.Prelude.{◌↔◌}
 use Rattle.ticks.specs.Moments.{moments_in}
 use Rattle.ticks.specs.declared.grid.Grid.{Grid}
 use Rattle.tool_words.specs.Asked.{Wish, asked, explain, format, query, test, workload}
+use Rattle.promql_tool.specs.Chosen.{terms_in, under}
 use Rattle.promql_tool.specs.Alike.{AskAlike, explains, formats, misused as asks_nothing, queries, tests, workloads}
 use Rattle.promql_tool.specs.Files.{JudgedFile, Last, Sees, report_of}
 use Rattle.promql_tool.specs.Found.{Have, Just}
@@ -17,39 +18,39 @@ module _ (files : List ℕ → Option (List ℕ)) (report : Report) where
   -- the report answers what is asked
   abbrev Answers : Option Wish → Type 0
   Answers None = report ≡ usage_report
-  Answers (Some (test choices engines paths)) = (seen : List JudgedFile) × (last : Last) × Sees choices.closed (Have files) paths seen last × (report ≡ report_of seen last)
-  Answers (Some (query choices engines moments path expr)) = (grid : Grid) × (instant : Bool) × (moments ≡ moments_in grid instant) × Queried choices.closed (Have files) path expr grid instant report
+  Answers (Some (test choices engines paths)) = (seen : List JudgedFile) × (last : Last) × Sees (terms_in choices engines) (Have files) paths seen last × (report ≡ report_of seen last)
+  Answers (Some (query choices engines moments path expr)) = (grid : Grid) × (instant : Bool) × (moments ≡ moments_in grid instant) × Queried (terms_in choices engines) (Have files) path expr grid instant report
   Answers (Some (workload choices engines series)) =
-      (seen : List JudgedFile) × (last : Last) × Sees choices.closed (Just (workload_text series)) (workload_path ∷ []) seen last × (report ≡ workload_report series seen last)
+      (seen : List JudgedFile) × (last : Last) × Sees (terms_in choices engines) (Just (workload_text series)) (workload_path ∷ []) seen last × (report ≡ workload_report series seen last)
   Answers (Some (format expr)) = Formatted expr report
   Answers (Some (explain optimisers engines expr)) = Explained (rewrites_in optimisers) expr report
 
-  reported : (words : List (List ℕ)) (wish : Option Wish) → asked 0 words ≡ wish → Answers wish → IsReport words (Have files) report
-  reported words None is a = subst (IsReport words (Have files)) (sym a) (misused is)
-  reported words (Some (test choices engines paths)) is a = subst (IsReport words (Have files)) (sym a.3) (tested choices engines paths a.0 a.1 is a.2)
-  reported words (Some (query choices engines moments path expr)) is a =
+  reported : (boxes : ℕ) (words : List (List ℕ)) (wish : Option Wish) → asked boxes words ≡ wish → Answers wish → IsReport boxes words (Have files) report
+  reported boxes words None is a = subst (IsReport boxes words (Have files)) (sym a) (misused is)
+  reported boxes words (Some (test choices engines paths)) is a = subst (IsReport boxes words (Have files)) (sym a.3) (tested choices engines paths a.0 a.1 is a.2)
+  reported boxes words (Some (query choices engines moments path expr)) is a =
       queried choices engines a.0 a.1 path expr report (is ∙ ap (λ m. Some (query choices engines m path expr)) a.2) a.3
-  reported words (Some (workload choices engines series)) is a = subst (IsReport words (Have files)) (sym a.3) (worked choices engines series a.0 a.1 is a.2)
-  reported words (Some (format expr)) is a = formatted expr report is a
-  reported words (Some (explain optimisers engines expr)) is a = explained optimisers engines expr report is a
+  reported boxes words (Some (workload choices engines series)) is a = subst (IsReport boxes words (Have files)) (sym a.3) (worked choices engines series a.0 a.1 is a.2)
+  reported boxes words (Some (format expr)) is a = formatted expr report is a
+  reported boxes words (Some (explain optimisers engines expr)) is a = explained optimisers engines expr report is a
 
   answers_too : (wish other : Option Wish) → AskAlike wish other → Answers wish → Answers other
   answers_too wish other asks_nothing a = a
-  answers_too wish other (tests one two engines paths edge) a = (a.0, a.1, subst (λ (closed : Bool). Sees closed (Have files) paths a.0 a.1) edge a.2, a.3)
+  answers_too wish other (tests one two engines paths edge) a = (a.0, a.1, subst (λ (closed : Bool). Sees (under closed engines) (Have files) paths a.0 a.1) edge a.2, a.3)
   answers_too wish other (queries one two engines moments path expr edge) a =
-      (a.0, a.1, a.2, subst (λ (closed : Bool). Queried closed (Have files) path expr a.0 a.1 report) edge a.3)
+      (a.0, a.1, a.2, subst (λ (closed : Bool). Queried (under closed engines) (Have files) path expr a.0 a.1 report) edge a.3)
   answers_too wish other (workloads one two engines series edge) a =
-      (a.0, a.1, subst (λ (closed : Bool). Sees closed (Just (workload_text series)) (workload_path ∷ []) a.0 a.1) edge a.2, a.3)
+      (a.0, a.1, subst (λ (closed : Bool). Sees (under closed engines) (Just (workload_text series)) (workload_path ∷ []) a.0 a.1) edge a.2, a.3)
   answers_too wish other (formats expr) a = a
   answers_too wish other (explains optimisers engines expr) a = a
 
-answers : (files : List ℕ → Option (List ℕ)) (words : List (List ℕ)) (report : Report) → IsReport words (Have files) report → Answers files report (asked 0 words)
-answers files words report (misused is) = subst (Answers files report) (sym is) refl
-answers files words report (tested choices engines paths seen last is sees) = subst (Answers files report) (sym is) (seen, last, sees, refl)
-answers files words report (queried choices engines grid instant path expr said is q) = subst (Answers files report) (sym is) (grid, instant, refl, q)
-answers files words report (worked choices engines series seen last is sees) = subst (Answers files report) (sym is) (seen, last, sees, refl)
-answers files words report (formatted expr said is f) = subst (Answers files report) (sym is) f
-answers files words report (explained optimisers engines expr said is x) = subst (Answers files report) (sym is) x
+answers : (files : List ℕ → Option (List ℕ)) (boxes : ℕ) (words : List (List ℕ)) (report : Report) → IsReport boxes words (Have files) report → Answers files report (asked boxes words)
+answers files boxes words report (misused is) = subst (Answers files report) (sym is) refl
+answers files boxes words report (tested choices engines paths seen last is sees) = subst (Answers files report) (sym is) (seen, last, sees, refl)
+answers files boxes words report (queried choices engines grid instant path expr said is q) = subst (Answers files report) (sym is) (grid, instant, refl, q)
+answers files boxes words report (worked choices engines series seen last is sees) = subst (Answers files report) (sym is) (seen, last, sees, refl)
+answers files boxes words report (formatted expr said is f) = subst (Answers files report) (sym is) f
+answers files boxes words report (explained optimisers engines expr said is x) = subst (Answers files report) (sym is) x
 
 turned : (wish other : Option Wish) → AskAlike wish other → AskAlike other wish
 turned wish other asks_nothing = asks_nothing
@@ -59,9 +60,9 @@ turned wish other (workloads one two engines series edge) = workloads two one en
 turned wish other (formats expr) = formats expr
 turned wish other (explains optimisers engines expr) = explains optimisers engines expr
 
-pub reports_stay : (words others : List (List ℕ)) → AskAlike (asked 0 words) (asked 0 others) → (files : List ℕ → Option (List ℕ)) (report : Report)
-    → IsReport words (Have files) report ↔ IsReport others (Have files) report
-reports_stay words others alike files report = (
-  λ r. reported files report others (asked 0 others) refl (answers_too files report (asked 0 words) (asked 0 others) alike (answers files words report r)),
-  λ r. reported files report words (asked 0 words) refl (answers_too files report (asked 0 others) (asked 0 words) (turned (asked 0 words) (asked 0 others) alike) (answers files others report r)),
+pub reports_stay : (boxes : ℕ) (words others : List (List ℕ)) → AskAlike (asked boxes words) (asked boxes others) → (files : List ℕ → Option (List ℕ)) (report : Report)
+    → IsReport boxes words (Have files) report ↔ IsReport boxes others (Have files) report
+reports_stay boxes words others alike files report = (
+  λ r. reported files report boxes others (asked boxes others) refl (answers_too files report (asked boxes words) (asked boxes others) alike (answers files boxes words report r)),
+  λ r. reported files report boxes words (asked boxes words) refl (answers_too files report (asked boxes others) (asked boxes words) (turned (asked boxes words) (asked boxes others) alike) (answers files boxes others report r)),
 )

@@ -16,6 +16,7 @@ use Rattle.script_read.specs.declared.fault.ReadFault.{ReadFault}
 use Rattle.script_read.specs.declared.fault.ReadFault.TheVariants as read
 use Rattle.script_read.specs.declared.script.Script.{Script}
 use Rattle.script_read.specs.declared.script.ScriptRefusal.TheVariants.{TooLarge}
+use Rattle.promql_tool.specs.Chosen.{Terms}
 use Rattle.promql_tool.specs.Found.{Have, IsFound}
 use Rattle.promql_tool.specs.Reading.{IsReadAs, IsRefusedFor, unread}
 use Rattle.promql_tool.specs.Runs.{GivesFile, Stops}
@@ -34,8 +35,8 @@ file_read kept bytes (Err (read.Refused refused)) said which gathers gains = rec
 file_read kept bytes (Err read.Memory) said refused gathers gains = tt
 
 -- a file that is too large
-too_large : (bytes : List ℕ) → limit < length bytes → IsRefusedFor bytes (refusal.Script TooLarge)
-too_large bytes lt = unread [] TooLarge (record {
+too_large : (terms : Terms) (bytes : List ℕ) → limit < length bytes → IsRefusedFor terms bytes (refusal.Script TooLarge)
+too_large terms bytes lt = unread [] TooLarge (record {
   gathers = record {
     more = [];
     behind = refl;
@@ -66,15 +67,15 @@ module _ (sound : Type 0) (path : List ℕ) where
   past_there None h = absurd h
   past_there (Some bytes) h = (bytes, refl, h)
 
-  past_seen : (told : Option (List ℕ → Option (List ℕ))) (bytes : List ℕ) → limit < length bytes → IsFound told sound path (Some bytes) → Stops (IsFound told sound) path (Refused (refusal.Script TooLarge))
-  past_seen told bytes long is_found = (bytes, is_found, too_large bytes long)
+  past_seen : (terms : Terms) (told : Option (List ℕ → Option (List ℕ))) (bytes : List ℕ) → limit < length bytes → IsFound told sound path (Some bytes) → Stops terms (IsFound told sound) path (Refused (refusal.Script TooLarge))
+  past_seen terms told bytes long is_found = (bytes, is_found, too_large terms bytes long)
 
   -- a file of too many bytes, which aren't known where the library doesn't tell
-  pub past_found : (told : Option (List ℕ → Option (List ℕ))) (into : List ℕ) → IfSome told (λ files. Tells (files path) limit (Ok PastLimit) into) → Stops (IsFound told sound) path (Refused (refusal.Script TooLarge))
-  past_found None into h = past_seen None (replicate (limit + 1) 0) (past_limit limit) (record { if_some = tt; if_sound = λ _. tt })
-  past_found (Some files) into h =
+  pub past_found : (terms : Terms) (told : Option (List ℕ → Option (List ℕ))) (into : List ℕ) → IfSome told (λ files. Tells (files path) limit (Ok PastLimit) into) → Stops terms (IsFound told sound) path (Refused (refusal.Script TooLarge))
+  past_found terms None into h = past_seen terms None (replicate (limit + 1) 0) (past_limit limit) (record { if_some = tt; if_sound = λ _. tt })
+  past_found terms (Some files) into h =
       let there = past_there (files path) h in
-      past_seen (Some files) there.0 there.2 (told_bytes (Some files) there.0 there.1)
+      past_seen terms (Some files) there.0 there.2 (told_bytes (Some files) there.0 there.1)
 
 -- what a fetch finds in a later state of a library tells of the earlier one
 pub found_since : (told was : Option (List ℕ → Option (List ℕ))) (sound then : Type 0) → told ≡ was → (then → sound) → (path : List ℕ) (x : Option (List ℕ)) → IsFound told sound path x → IsFound was then path x

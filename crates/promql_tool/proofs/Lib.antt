@@ -14,3 +14,9 @@ pub mod WorkloadRun
 pub mod Alike
 pub mod Formatting
 pub mod Spending
+pub mod BoxLists
+pub mod Declaring
+pub mod EndedWords
+pub mod Ending
+pub mod Serving
+pub mod LostLine

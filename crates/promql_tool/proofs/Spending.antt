@@ -22,15 +22,15 @@ script_spends options kept bytes script path before after is_read spends = of_sc
 
 -- where the loads of the script are refused, a query over the bytes spends nothing
 query_spends : (options : Options) (kept : PatternList) (bytes : List ℕ) (script : Script) (path expr : List ℕ) (grid : Grid) (before after : Counts) (left : Result AllSeries RunnerFault) → IsReadAs kept bytes (Ok script)
-    → samples_left script ≡ left → IfErr left (λ _. after ≡ before) → IfOk left (λ series. Spends expr series grid (choices_of options) options.closed before after)
+    → samples_left [] script ≡ left → IfErr left (λ _. after ≡ before) → IfOk left (λ series. Spends expr series grid (choices_of options) options.closed before after)
     → QuerySpends options (Just bytes) path expr grid before after
 query_spends options kept bytes script path expr grid before after (Ok series) is_read is idle spends = of_answer bytes kept script series refl is_read is spends
 query_spends options kept bytes script path expr grid before after (Err fault) is_read is idle spends = no_answer idle
 
 pub script_asked : (options : Options) (kept : PatternList) (bytes : List ℕ) (script : Script) (path expr : List ℕ) (grid : Grid) (before after : Counts) → IsReadAs kept bytes (Ok script)
-    → IfErr (samples_left script) (λ _. after ≡ before) → IfOk (samples_left script) (λ series. Spends expr series grid (choices_of options) options.closed before after)
+    → IfErr (samples_left [] script) (λ _. after ≡ before) → IfOk (samples_left [] script) (λ series. Spends expr series grid (choices_of options) options.closed before after)
     → QuerySpends options (Just bytes) path expr grid before after
-script_asked options kept bytes script path expr grid before after is_read idle spends = query_spends options kept bytes script path expr grid before after (samples_left script) is_read refl idle spends
+script_asked options kept bytes script path expr grid before after is_read idle spends = query_spends options kept bytes script path expr grid before after (samples_left [] script) is_read refl idle spends
 
 module _ (options : Options) (f g : List ℕ → Option (List ℕ) → Type 0) (path : List ℕ) (to : (x : Option (List ℕ)) → f path x → g path x) (before after : Counts) where
   -- what a fetch finds in one sense it finds in another

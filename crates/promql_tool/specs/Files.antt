@@ -1,11 +1,12 @@
 -- What a run over files sees of them, and its report. (promqltest; the texts are this project's own.)
-use Rattle.std.specs.Prelude.{◌≡◌, ℕ, Bool, ◌==◌, if◌then◌else◌, List, [], ◌∷◌, ◌++◌, Option, None, Some, sum_by}
+use Rattle.std.specs.Prelude.{◌≡◌, ℕ, ◌==◌, if◌then◌else◌, List, [], ◌∷◌, ◌++◌, Option, None, Some, sum_by}
 use Rattle.std.specs.List.{flat_map}
 use Rattle.script_read.specs.Outcomes.{PatternList}
 use Rattle.script_read.specs.declared.script.Command.{Command}
 use Rattle.script_read.specs.declared.script.Script.{Script}
 use Rattle.test_runner.specs.Lines.{failed_in, lines_text, passed_in}
 use Rattle.test_runner.specs.Verdicts.{AreVerdicts, Judged}
+use Rattle.promql_tool.specs.Chosen.{Terms}
 use Rattle.promql_tool.specs.Reading.{IsRefusedFor, IsRunnable}
 use Rattle.promql_tool.specs.Texts.{Report, fault_text, refusal_text, totals_text}
 use Rattle.promql_tool.specs.declared.fault.Refusal.{Refusal}
@@ -21,36 +22,36 @@ pub data Last : Type 0 where
   Gone : List ℕ → Last
   Refused : List ℕ → Refusal → Last
 
--- A file is there, and these are the verdicts of its script, which begins with no samples, over windows that are closed on the
--- left or open. That a fetch of a path finds bytes, or none, is said by `found`.
-pub record IsJudged (closed : Bool) (found : List ℕ → Option (List ℕ) → Type 0) (path : List ℕ) (verdicts : List Judged) : Type 0 where
+-- A file is there, and these are the verdicts of its script, which begins with no samples, under these
+-- terms. That a fetch of a path finds bytes, or none, is said by `found`.
+pub record IsJudged (terms : Terms) (found : List ℕ → Option (List ℕ) → Type 0) (path : List ℕ) (verdicts : List Judged) : Type 0 where
   pub bytes : List ℕ
   pub is_found : found path (Some bytes)
   pub kept : PatternList
   pub script : Script
-  pub is_run : IsRunnable kept bytes script
-  pub are : AreVerdicts closed kept [] script.commands verdicts
+  pub is_run : IsRunnable terms kept bytes script
+  pub are : AreVerdicts terms.closed terms.declared kept [] script.commands verdicts
 
 -- A file is there, and these are the verdicts of the first commands of its script.
-pub record IsRunning (closed : Bool) (found : List ℕ → Option (List ℕ) → Type 0) (path : List ℕ) (verdicts : List Judged) : Type 0 where
+pub record IsRunning (terms : Terms) (found : List ℕ → Option (List ℕ) → Type 0) (path : List ℕ) (verdicts : List Judged) : Type 0 where
   pub bytes : List ℕ
   pub is_found : found path (Some bytes)
   pub kept : PatternList
   pub script : Script
-  pub is_run : IsRunnable kept bytes script
+  pub is_run : IsRunnable terms kept bytes script
   pub done : List Command
   pub left : List Command
   pub parts : done ++ left ≡ script.commands
-  pub are : AreVerdicts closed kept [] done verdicts
+  pub are : AreVerdicts terms.closed terms.declared kept [] done verdicts
 
 -- What a run over files sees, which are taken in order: the first ones are judged, until none is left, or one isn't there, or
 -- is refused.
-pub data Sees (closed : Bool) (found : List ℕ → Option (List ℕ) → Type 0) : List (List ℕ) → List JudgedFile → Last → Type 0 where
-  all : Sees closed found [] [] All
-  gone : (path : List ℕ) (paths : List (List ℕ)) → found path None → Sees closed found (path ∷ paths) [] (Gone path)
-  refused : (path bytes : List ℕ) (refusal : Refusal) (paths : List (List ℕ)) → found path (Some bytes) → IsRefusedFor bytes refusal → Sees closed found (path ∷ paths) [] (Refused path refusal)
-  judged : (path : List ℕ) (verdicts : List Judged) (paths : List (List ℕ)) (files : List JudgedFile) (last : Last) → IsJudged closed found path verdicts → Sees closed found paths files last
-      → Sees closed found (path ∷ paths) (record { path = path; verdicts = verdicts } ∷ files) last
+pub data Sees (terms : Terms) (found : List ℕ → Option (List ℕ) → Type 0) : List (List ℕ) → List JudgedFile → Last → Type 0 where
+  all : Sees terms found [] [] All
+  gone : (path : List ℕ) (paths : List (List ℕ)) → found path None → Sees terms found (path ∷ paths) [] (Gone path)
+  refused : (path bytes : List ℕ) (refusal : Refusal) (paths : List (List ℕ)) → found path (Some bytes) → IsRefusedFor terms bytes refusal → Sees terms found (path ∷ paths) [] (Refused path refusal)
+  judged : (path : List ℕ) (verdicts : List Judged) (paths : List (List ℕ)) (files : List JudgedFile) (last : Last) → IsJudged terms found path verdicts → Sees terms found paths files last
+      → Sees terms found (path ∷ paths) (record { path = path; verdicts = verdicts } ∷ files) last
 
 -- the lines of the files that were judged
 abbrev pub files_text : List JudgedFile → List ℕ
@@ -81,8 +82,8 @@ report_of files last = record { text = files_text files ++ last_text files last;
 
 -- What a run over files writes at first, before its last line: nothing, or the lines of the first verdicts of its first file, or
 -- all lines of that file and then what the run over the later ones writes at first.
-pub data Begins (closed : Bool) (found : List ℕ → Option (List ℕ) → Type 0) : List (List ℕ) → List ℕ → Type 0 where
-  waiting : (paths : List (List ℕ)) → Begins closed found paths []
-  running : (path : List ℕ) (verdicts : List Judged) (paths : List (List ℕ)) → IsRunning closed found path verdicts → Begins closed found (path ∷ paths) (lines_text path verdicts)
-  judged : (path : List ℕ) (verdicts : List Judged) (paths : List (List ℕ)) (text : List ℕ) → IsJudged closed found path verdicts → Begins closed found paths text
-      → Begins closed found (path ∷ paths) (lines_text path verdicts ++ text)
+pub data Begins (terms : Terms) (found : List ℕ → Option (List ℕ) → Type 0) : List (List ℕ) → List ℕ → Type 0 where
+  waiting : (paths : List (List ℕ)) → Begins terms found paths []
+  running : (path : List ℕ) (verdicts : List Judged) (paths : List (List ℕ)) → IsRunning terms found path verdicts → Begins terms found (path ∷ paths) (lines_text path verdicts)
+  judged : (path : List ℕ) (verdicts : List Judged) (paths : List (List ℕ)) (text : List ℕ) → IsJudged terms found path verdicts → Begins terms found paths text
+      → Begins terms found (path ∷ paths) (lines_text path verdicts ++ text)

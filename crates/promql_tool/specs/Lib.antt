@@ -1,3 +1,4 @@
+pub mod Chosen
 pub mod Reading
 pub mod Found
 pub mod Texts
@@ -9,6 +10,10 @@ pub mod Report
 pub mod Ends
 pub mod Runs
 pub mod Reached
+pub mod Ended
 pub mod Settled
 pub mod Alike
 pub mod Spending
+pub mod Boxes
+pub mod Declaring
+pub mod Standing

@@ -20,6 +20,7 @@ use Rattle.step_table.specs.declared.marks.Note.{Note}
 use Rattle.test_runner.specs.Running.{IsAnswerOver}
 use Rattle.ticks.specs.declared.grid.Grid.{Grid}
 use Rattle.ticks.specs.declared.moment.Ms.{Ms}
+use Rattle.promql_tool.specs.Chosen.{Terms}
 use Rattle.promql_tool.specs.Reading.{IsReadAs, IsRefusedFor}
 use Rattle.promql_tool.specs.Texts.{Report, fault_report, refusal_report}
 use Rattle.promql_tool.specs.declared.fault.Refusal.{Refusal}
@@ -84,9 +85,9 @@ abbrev pub outcome_report : Outcome → List (List ℕ) → Report
 outcome_report (outcome.Answer answer) notes = record { text = answer_text answer notes; status = 0 }
 outcome_report got notes = record { text = failure_text got; status = 1 }
 
--- The report of an expression over a file's samples, over windows that are closed on the left or open. That a fetch of a path finds bytes, or none, is said by `found`.
-pub data Queried (closed : Bool) (found : List ℕ → Option (List ℕ) → Type 0) (file expr : List ℕ) (grid : Grid) (instant : Bool) : Report → Type 0 where
-  gone : found file None → Queried closed found file expr grid instant (fault_report file)
-  refused : (bytes : List ℕ) (refusal : Refusal) → found file (Some bytes) → IsRefusedFor bytes refusal → Queried closed found file expr grid instant (refusal_report file refusal)
+-- The report of an expression over a file's samples, under these terms. That a fetch of a path finds bytes, or none, is said by `found`.
+pub data Queried (terms : Terms) (found : List ℕ → Option (List ℕ) → Type 0) (file expr : List ℕ) (grid : Grid) (instant : Bool) : Report → Type 0 where
+  gone : found file None → Queried terms found file expr grid instant (fault_report file)
+  refused : (bytes : List ℕ) (refusal : Refusal) → found file (Some bytes) → IsRefusedFor terms bytes refusal → Queried terms found file expr grid instant (refusal_report file refusal)
   answered : (bytes : List ℕ) (kept : PatternList) (script : Script) (got : Outcome) (notes : List (List ℕ)) → found file (Some bytes) → IsReadAs kept bytes (Ok script)
-      → IsAnswerOver script expr grid instant closed got → AreNoteLines (notes_in got) notes → Queried closed found file expr grid instant (outcome_report got notes)
+      → IsAnswerOver terms.declared script expr grid instant terms.closed got → AreNoteLines (notes_in got) notes → Queried terms found file expr grid instant (outcome_report got notes)

@@ -14,6 +14,7 @@ use Rattle.script_read.specs.declared.script.ScriptRefusal.{ScriptRefusal}
 use Rattle.test_runner.specs.Loads.{samples_left}
 use Rattle.test_runner.specs.declared.fault.LoadRefusal.{LoadRefusal}
 use Rattle.test_runner.specs.declared.fault.RunnerFault.TheVariants as runner
+use Rattle.promql_tool.specs.Chosen.{Terms}
 use Rattle.promql_tool.specs.declared.fault.Refusal.{Refusal}
 use Rattle.promql_tool.specs.declared.fault.Refusal.TheVariants.{Script as NoScript, Range, Load}
 
@@ -29,18 +30,18 @@ pub record IsReadAs (kept : PatternList) (bytes : List ℕ) (said : Result Scrip
   pub gains : Gains [] kept
   pub says : IsSaid kept bytes said
 
--- bytes hold this script, and its loads are taken
-pub record IsRunnable (kept : PatternList) (bytes : List ℕ) (script : Script) : Type 0 where
+-- bytes hold this script, and its loads are taken under these terms
+pub record IsRunnable (terms : Terms) (kept : PatternList) (bytes : List ℕ) (script : Script) : Type 0 where
   pub is_read : IsReadAs kept bytes (Ok script)
   pub series : AllSeries
-  pub taken : samples_left script ≡ Ok series
+  pub taken : samples_left terms.declared script ≡ Ok series
 
--- why bytes are refused: they hold no script, a number of its loads is outside the limits, or the store refuses a load
-pub data IsRefusedFor (bytes : List ℕ) : Refusal → Type 0 where
-  unread : (kept : PatternList) (refused : ScriptRefusal) → IsReadAs kept bytes (Err refused) → IsRefusedFor bytes (NoScript refused)
-  beyond : (kept : PatternList) (script : Script) (line : ℕ) → IsReadAs kept bytes (Ok script) → samples_left script ≡ Err (runner.Range line) → IsRefusedFor bytes (Range line)
-  unloaded : (kept : PatternList) (script : Script) (refused : LoadRefusal) → IsReadAs kept bytes (Ok script) → samples_left script ≡ Err (runner.Refused refused) → IsRefusedFor bytes (Load refused)
+-- why bytes are refused: they hold no script, a number of its loads is outside the limits, or a load is refused
+pub data IsRefusedFor (terms : Terms) (bytes : List ℕ) : Refusal → Type 0 where
+  unread : (kept : PatternList) (refused : ScriptRefusal) → IsReadAs kept bytes (Err refused) → IsRefusedFor terms bytes (NoScript refused)
+  beyond : (kept : PatternList) (script : Script) (line : ℕ) → IsReadAs kept bytes (Ok script) → samples_left terms.declared script ≡ Err (runner.Range line) → IsRefusedFor terms bytes (Range line)
+  unloaded : (kept : PatternList) (script : Script) (refused : LoadRefusal) → IsReadAs kept bytes (Ok script) → samples_left terms.declared script ≡ Err (runner.Refused refused) → IsRefusedFor terms bytes (Load refused)
 
 -- bytes hold no script that is run
-abbrev pub IsNoScript : List ℕ → Type 0
-IsNoScript bytes = (kept : PatternList) (script : Script) → IsRunnable kept bytes script → ⊥
+abbrev pub IsNoScript : Terms → List ℕ → Type 0
+IsNoScript terms bytes = (kept : PatternList) (script : Script) → IsRunnable terms kept bytes script → ⊥

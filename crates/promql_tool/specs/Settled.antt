@@ -16,6 +16,7 @@ use Rattle.test_runner.specs.Verdicts.{Judged}
 use Rattle.ticks.specs.Moments.{Moments, moments_in}
 use Rattle.ticks.specs.declared.grid.Grid.{Grid}
 use Rattle.tool_words.specs.Asked.{Wish, explain, format, query, test, workload}
+use Rattle.promql_tool.specs.Chosen.{Terms, terms_in}
 use Rattle.promql_tool.specs.Files.{IsJudged}
 use Rattle.promql_tool.specs.Found.{Have, Just}
 use Rattle.promql_tool.specs.Printed.{rewrites_in}
@@ -31,14 +32,14 @@ pub data Seen : Type 0 where
   Run : List Judged → Seen
 
 -- a file comes to this
-abbrev pub IsSeen : Bool → (List ℕ → Option (List ℕ) → Type 0) → List ℕ → Seen → Type 0
-IsSeen closed found path NotThere = found path None
-IsSeen closed found path (NotRun refusal) = (bytes : List ℕ) × found path (Some bytes) × IsRefusedFor bytes refusal
-IsSeen closed found path (Run verdicts) = IsJudged closed found path verdicts
+abbrev pub IsSeen : Terms → (List ℕ → Option (List ℕ) → Type 0) → List ℕ → Seen → Type 0
+IsSeen terms found path NotThere = found path None
+IsSeen terms found path (NotRun refusal) = (bytes : List ℕ) × found path (Some bytes) × IsRefusedFor terms bytes refusal
+IsSeen terms found path (Run verdicts) = IsJudged terms found path verdicts
 
 -- a file comes to one thing
-abbrev pub ComesToOne : Bool → (List ℕ → Option (List ℕ) → Type 0) → List ℕ → Type 0
-ComesToOne closed found path = (a b : Seen) → IsSeen closed found path a → IsSeen closed found path b → a ≡ b
+abbrev pub ComesToOne : Terms → (List ℕ → Option (List ℕ) → Type 0) → List ℕ → Type 0
+ComesToOne terms found path = (a b : Seen) → IsSeen terms found path a → IsSeen terms found path b → a ≡ b
 
 -- what a query over a file comes to: the file isn't there, or is refused, or the expression has this outcome, whose notes have these
 -- lines
@@ -48,7 +49,7 @@ pub data Told : Type 0 where
   Came : Outcome → List (List ℕ) → Told
 
 -- an expression has this outcome at these moments over the samples that a file leaves, and its notes have these lines
-pub record CameOver (closed : Bool) (moments : Moments) (found : List ℕ → Option (List ℕ) → Type 0) (path expr : List ℕ) (got : Outcome) (notes : List (List ℕ)) : Type 0 where
+pub record CameOver (terms : Terms) (moments : Moments) (found : List ℕ → Option (List ℕ) → Type 0) (path expr : List ℕ) (got : Outcome) (notes : List (List ℕ)) : Type 0 where
   pub grid : Grid
   pub instant : Bool
   pub at : moments ≡ moments_in grid instant
@@ -57,17 +58,17 @@ pub record CameOver (closed : Bool) (moments : Moments) (found : List ℕ → Op
   pub kept : PatternList
   pub script : Script
   pub is_read : IsReadAs kept bytes (Ok script)
-  pub over : IsAnswerOver script expr grid instant closed got
+  pub over : IsAnswerOver terms.declared script expr grid instant terms.closed got
   pub lines : AreNoteLines (notes_in got) notes
 
-abbrev pub IsToldSo : Bool → Moments → (List ℕ → Option (List ℕ) → Type 0) → List ℕ → List ℕ → Told → Type 0
-IsToldSo closed moments found path expr NoFile = found path None
-IsToldSo closed moments found path expr (NoScript refusal) = (bytes : List ℕ) × found path (Some bytes) × IsRefusedFor bytes refusal
-IsToldSo closed moments found path expr (Came got notes) = CameOver closed moments found path expr got notes
+abbrev pub IsToldSo : Terms → Moments → (List ℕ → Option (List ℕ) → Type 0) → List ℕ → List ℕ → Told → Type 0
+IsToldSo terms moments found path expr NoFile = found path None
+IsToldSo terms moments found path expr (NoScript refusal) = (bytes : List ℕ) × found path (Some bytes) × IsRefusedFor terms bytes refusal
+IsToldSo terms moments found path expr (Came got notes) = CameOver terms moments found path expr got notes
 
 -- a query comes to one thing
-abbrev pub IsAnsweredOnce : Bool → Moments → (List ℕ → Option (List ℕ) → Type 0) → List ℕ → List ℕ → Type 0
-IsAnsweredOnce closed moments found path expr = (a b : Told) → IsToldSo closed moments found path expr a → IsToldSo closed moments found path expr b → a ≡ b
+abbrev pub IsAnsweredOnce : Terms → Moments → (List ℕ → Option (List ℕ) → Type 0) → List ℕ → List ℕ → Type 0
+IsAnsweredOnce terms moments found path expr = (a b : Told) → IsToldSo terms moments found path expr a → IsToldSo terms moments found path expr b → a ≡ b
 
 -- what an expression is read as: the typed tree that it stands for, whose patterns are kept, or its refusal
 pub data Read : Type 0 where
@@ -99,8 +100,8 @@ IsPlannedOnce rewrites expr = (a b : Outline) → IsPlannedSo rewrites expr a �
 -- that is printed.
 abbrev pub IsSettled : Option Wish → (List ℕ → Option (List ℕ)) → Type 0
 IsSettled None files = Unit {0}
-IsSettled (Some (test choices engines paths)) files = AllByRecursion (ComesToOne choices.closed (Have files)) paths
-IsSettled (Some (query choices engines moments path expr)) files = IsAnsweredOnce choices.closed moments (Have files) path expr
-IsSettled (Some (workload choices engines series)) files = ComesToOne choices.closed (Just (workload_text series)) workload_path
+IsSettled (Some (test choices engines paths)) files = AllByRecursion (ComesToOne (terms_in choices engines) (Have files)) paths
+IsSettled (Some (query choices engines moments path expr)) files = IsAnsweredOnce (terms_in choices engines) moments (Have files) path expr
+IsSettled (Some (workload choices engines series)) files = ComesToOne (terms_in choices engines) (Just (workload_text series)) workload_path
 IsSettled (Some (format expr)) files = IsReadOnce expr
 IsSettled (Some (explain optimisers engines expr)) files = IsPlannedOnce (rewrites_in optimisers) expr

@@ -1,4 +1,4 @@
--- What the program spends at most. (This project's own.)
+-- What the program spends at most, where no engine is declared. (This project's own.)
 use Rattle.std.specs.Prelude.{◌≡◌, ℕ, Bool, List, [], ◌∷◌, Option, Some, Ok}
 use Rattle.query_engine.specs.Bounds.{Spends}
 use Rattle.query_engine.specs.Planning.{choices_of}
@@ -47,14 +47,14 @@ pub data FilesSpend (options : Options) (found : List ℕ → Option (List ℕ) 
 -- file's script leaves.
 pub data QuerySpends (options : Options) (found : List ℕ → Option (List ℕ) → Type 0) (path expr : List ℕ) (grid : Grid) (before after : Counts) : Type 0 where
   no_answer : after ≡ before → QuerySpends options found path expr grid before after
-  of_answer : (bytes : List ℕ) (kept : PatternList) (script : Script) (series : AllSeries) → found path (Some bytes) → IsReadAs kept bytes (Ok script) → samples_left script ≡ Ok series
+  of_answer : (bytes : List ℕ) (kept : PatternList) (script : Script) (series : AllSeries) → found path (Some bytes) → IsReadAs kept bytes (Ok script) → samples_left [] script ≡ Ok series
       → Spends expr series grid (choices_of options) options.closed before after → QuerySpends options found path expr grid before after
 
 -- Words spend nothing, or what the files, the query or the script of the workload do that they ask for.
-pub data WordsSpend (words : List (List ℕ)) (found : List ℕ → Option (List ℕ) → Type 0) (before after : Counts) : Type 0 where
-  no_evaluation : after ≡ before → WordsSpend words found before after
-  tests : (choices : Choices) (engines : List Labels) (paths : List (List ℕ)) → asked 0 words ≡ Some (test choices engines paths) → FilesSpend (engine_options choices) found paths before after → WordsSpend words found before after
-  queries : (choices : Choices) (engines : List Labels) (grid : Grid) (instant : Bool) (path expr : List ℕ) → asked 0 words ≡ Some (query choices engines (moments_in grid instant) path expr)
-      → QuerySpends (engine_options choices) found path expr grid before after → WordsSpend words found before after
-  works : (choices : Choices) (engines : List Labels) (series : ℕ) → asked 0 words ≡ Some (workload choices engines series) → FileSpends (engine_options choices) (Just (workload_text series)) workload_path before after
-      → WordsSpend words found before after
+pub data WordsSpend (boxes : ℕ) (words : List (List ℕ)) (found : List ℕ → Option (List ℕ) → Type 0) (before after : Counts) : Type 0 where
+  no_evaluation : after ≡ before → WordsSpend boxes words found before after
+  tests : (choices : Choices) (engines : List Labels) (paths : List (List ℕ)) → asked boxes words ≡ Some (test choices engines paths) → FilesSpend (engine_options choices) found paths before after → WordsSpend boxes words found before after
+  queries : (choices : Choices) (engines : List Labels) (grid : Grid) (instant : Bool) (path expr : List ℕ) → asked boxes words ≡ Some (query choices engines (moments_in grid instant) path expr)
+      → QuerySpends (engine_options choices) found path expr grid before after → WordsSpend boxes words found before after
+  works : (choices : Choices) (engines : List Labels) (series : ℕ) → asked boxes words ≡ Some (workload choices engines series) → FileSpends (engine_options choices) (Just (workload_text series)) workload_path before after
+      → WordsSpend boxes words found before after

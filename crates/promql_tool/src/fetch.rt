@@ -1,5 +1,6 @@
 //! Fetching a file and reading its script.
 ghost use Rattle.edge_io.specs.Causes.{Rose};
+ghost use Rattle.promql_tool.specs.Chosen.{Terms};
 ghost use Rattle.promql_tool.specs.Found.{IsFound};
 ghost use Rattle.promql_tool.specs.Reading.{IsReadAs};
 ghost use Rattle.promql_tool.specs.Runs.{GivesFile, IsFile};
@@ -35,7 +36,7 @@ pub fn fetch_file<L: Library>(
     ensures told { L.told library.new ≡ L.told library.old }
     ensures sound { L.sound library.old → L.sound library.new }
     ensures later { L.faults library.old ≤ L.faults library.new }
-    ensures file { IfOk result (IsFile (IsFound (L.told library.old) (L.sound library.old)) path.now) }
+    ensures file { (terms : Terms) → IfOk result (IsFile terms (IsFound (L.told library.old) (L.sound library.old)) path.now) }
     ensures gone { IfOk result (λ file. file ≡ Stopped Gone → Rose (L.faults library.old) (L.faults library.new)) }
 {
     let mut bytes = Vec::new(alloc);

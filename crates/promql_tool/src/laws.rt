@@ -10,12 +10,12 @@ ghost use Rattle.tool_words.specs.Asked.{asked};
 /// Words over files have one report, where each file that they name, the query, or the expression or plan that is printed comes to one
 /// thing. It may come to two only because of a pattern of which it isn't told whether the crate `regex` takes it.
 pub fn words_have_one_report()
-    ensures { (words : List (List ℕ)) (files : List ℕ → Option (List ℕ)) → IsSettled (asked 0 words) files → (one other : Report) → IsReport words (Have files) one → IsReport words (Have files) other → one ≡ other }
+    ensures { (boxes : ℕ) (words : List (List ℕ)) (files : List ℕ → Option (List ℕ)) → IsSettled (asked boxes words) files → (one other : Report) → IsReport boxes words (Have files) one → IsReport boxes words (Have files) other → one ≡ other }
 {}
 
 /// Words that ask for the same, but for batches of another size or other optimisers, have the same reports; only what `explain` prints
 /// depends on the optimisers.
 pub fn choices_leave_reports()
-    ensures { (words others : List (List ℕ)) → AskAlike (asked 0 words) (asked 0 others) → (files : List ℕ → Option (List ℕ)) (report : Report) →
-        IsReport words (Have files) report ↔ IsReport others (Have files) report }
+    ensures { (boxes : ℕ) (words others : List (List ℕ)) → AskAlike (asked boxes words) (asked boxes others) → (files : List ℕ → Option (List ℕ)) (report : Report) →
+        IsReport boxes words (Have files) report ↔ IsReport boxes others (Have files) report }
 {}

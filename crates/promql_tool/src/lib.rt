@@ -2,6 +2,7 @@
 //! Its rows of tests stand in `program_tests`.
 #![tactic(auto)]
 
+mod boxes;
 mod fault;
 mod fetch;
 mod files;
@@ -15,7 +16,7 @@ mod tool;
 mod working;
 mod workload;
 
-pub use fault::Refusal;
+pub use fault::{Lost, Refusal};
 pub use laws::{choices_leave_reports, words_have_one_report};
 pub use print::Status;
 pub use tool::run_tool;

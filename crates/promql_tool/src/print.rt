@@ -1,15 +1,16 @@
 //! Printing a report, each line as one piece.
 ghost use Rattle.edge_io.specs.Causes.{HasCause};
 ghost use Rattle.edge_io.specs.Written.{appended, WroteFront};
+ghost use Rattle.promql_tool.specs.Boxes.{EndsCut, IfWritten, LosesNone, or_cut};
 ghost use Rattle.promql_tool.specs.Query.{all_series_text, answer_text, failure_text, outcome_report, series_text};
 ghost use Rattle.promql_tool.specs.Runs.{bytes_of, stop_report};
-ghost use Rattle.promql_tool.specs.Texts.{fault_text, refusal_text, totals_text, usage};
+ghost use Rattle.promql_tool.specs.Texts.{fault_text, lost_text, refusal_text, totals_text, usage};
 ghost use Rattle.promql_tool.specs.Workload.{loaded_text};
 ghost use Rattle.std.specs.List.{flat_map};
-ghost use Rattle.std.specs.Prelude.{◌≡◌, ◌≤◌, ◌==◌, List, ℕ, if◌then◌else◌, IfOk, OnOk, OnErr, IsErrOf};
+ghost use Rattle.std.specs.Prelude.{◌≡◌, ◌≤◌, ◌==◌, ◌⊎◌, List, ℕ, if◌then◌else◌, IfOk, OnOk, OnErr, IsErrOf};
 
-use crate::fault::{Refusal, Stop};
-use crate::text::{failure_line, fault_line, refusal_line, series_line, totals_line};
+use crate::fault::{Cut, Lost, Refusal, Stop};
+use crate::text::{failure_line, fault_line, lost_line, refusal_line, series_line, totals_line};
 use crate::workload::loaded_line;
 use edge_io::{Sink, SinkFail, write_all};
 use promql_meaning::{Answer, Outcome, ResultSeries};
@@ -117,6 +118,59 @@ pub fn print_stop<S: Sink>(
     match stop {
         Stop::Gone => print_fault(alloc, path, out),
         Stop::Refused(refusal) => print_refusal(alloc, path, refusal, out),
+    }
+}
+
+/// Prints an engine that was lost.
+fn print_lost<S: Sink>(alloc: Global, lost: &Lost, out: &mut S) -> Result<(), SinkFail>
+    ensures ok { OnOk result (S.written out.new ≡ appended (S.written out.old) (lost_text lost.now)) }
+    ensures err { OnErr result (WroteFront (S.written out.old) (S.written out.new) (lost_text lost.now)) }
+    ensures cause { HasCause (S.faults out.old) (S.faults out.new) (IsErrOf result SinkFail.Failed) }
+    ensures sound { S.sound out.old → S.sound out.new }
+    ensures never { S.sound out.old → IsErrOf result SinkFail.Failed → ⊥ }
+{
+    let line = lost_line(alloc, lost)?;
+    write_all(out, line.as_bytes())
+}
+
+/// 5 where the line of an engine was printed; 4 where that write failed, and 7 where memory ran out.
+fn lost_status(printed: Result<(), SinkFail>) -> Status
+    ensures ok { OnOk printed (result.0 ≡ 5) }
+    ensures err { OnErr printed ((result.0 ≡ 4) ⊎ (result.0 ≡ 7)) }
+    ensures failed { result.0 ≡ 4 → IsErrOf printed SinkFail.Failed }
+{
+    match printed {
+        Ok(()) => Status(5),
+        Err(SinkFail::Failed) => Status(4),
+        Err(SinkFail::Memory) => Status(7),
+    }
+}
+
+/// What was printed, where a write that fails cuts the run off.
+pub fn or_cut(printed: Result<Status, SinkFail>) -> Result<Status, Cut>
+    ensures is { result ≡ or_cut printed }
+    ensures write { IsErrOf result Cut.Write → IsErrOf printed SinkFail.Failed }
+    ensures none { LosesNone result }
+{
+    match printed {
+        Ok(status) => Ok(status),
+        Err(SinkFail::Failed) => Err(Cut::Write),
+        Err(SinkFail::Memory) => Err(Cut::Memory),
+    }
+}
+
+/// Ends a run that was cut off: an engine that was lost is printed, after which the status is 5. It is 4 where a write failed, and 7 where
+/// memory ran out.
+pub fn end_cut<S: Sink>(alloc: Global, cut: Cut, out: &mut S) -> Status
+    ensures ended { EndsCut cut (S.written out.old) (S.written out.new) result.0 }
+    ensures cause { HasCause (S.faults out.old) (S.faults out.new) (IfWritten cut (result.0 ≡ 4)) }
+    ensures sound { S.sound out.old → S.sound out.new }
+    ensures never { S.sound out.old → IfWritten cut (result.0 ≡ 4) → ⊥ }
+{
+    match cut {
+        Cut::Write => Status(4),
+        Cut::Memory => Status(7),
+        Cut::Lost(lost) => lost_status(print_lost(alloc, &lost, out)),
     }
 }
 

@@ -1,15 +1,16 @@
 //! The lines of a report.
 ghost use Rattle.promql_tool.specs.Query.{AreNoteLines, failed_at, failure_text, note_kind, note_line, notes_in, outcome_head, point_text, series_name, series_text};
 ghost use Rattle.promql_tool.specs.Runs.{bytes_of};
-ghost use Rattle.promql_tool.specs.Texts.{fault_text, load_line, load_name, refusal_name, refusal_text, refused_line, totals_text};
+ghost use Rattle.promql_tool.specs.Texts.{cell_text, fault_text, instant_text, load_line, load_name, lost_text, refusal_name, refusal_text, refused_line, step_text, stray_text, totals_text};
 ghost use Rattle.std.specs.Fmt.{signed_decimal};
 ghost use Rattle.std.specs.List.{flat_map};
 ghost use Rattle.std.specs.Prelude.{◌≡◌, ◌++◌, codes, map, string_bytes, IfOk, OnOk};
 
-use crate::fault::Refusal;
+use crate::fault::{Lost, Refusal};
 use frac_text::write_number;
 use label_set::Labels;
 use promql_meaning::{Outcome, Point, ResultSeries};
+use remote_api::Stray;
 use script_check::{append_note, append_outcome, is_warning};
 use std::alloc::{AllocError, Global};
 use step_table::Note;
@@ -21,6 +22,7 @@ fn load_line(refusal: &LoadRefusal) -> u32
 {
     match refusal {
         LoadRefusal::Conflict { line, .. } => *line,
+        LoadRefusal::Unplaced { line } => *line,
         LoadRefusal::TooManySamples { line } => *line,
         LoadRefusal::TooManySeries { line } => *line,
     }
@@ -42,6 +44,7 @@ fn load_name(refusal: &LoadRefusal) -> &'static str
 {
     match refusal {
         LoadRefusal::Conflict { .. } => "Conflict",
+        LoadRefusal::Unplaced { .. } => "Unplaced",
         LoadRefusal::TooManySamples { .. } => "TooManySamples",
         LoadRefusal::TooManySeries { .. } => "TooManySeries",
     }
@@ -71,6 +74,56 @@ pub fn fault_line(alloc: Global, path: &str) -> Result<String, AllocError>
     ensures { IfOk result (λ text. string_bytes text ≡ fault_text path.now) }
 {
     format!(in alloc; "FAULT read {path}\n")
+}
+
+/// An instant in milliseconds, or that there is none.
+fn instant_text(alloc: Global, at: Option<Ms>) -> Result<String, AllocError>
+    ensures { IfOk result (λ text. string_bytes text ≡ instant_text at) }
+{
+    match at {
+        None => String::from_str(alloc, "end"),
+        Some(at) => {
+            let time = at.0;
+            format!(in alloc; "{time}")
+        }
+    }
+}
+
+fn step_text(alloc: Global, expected: Option<Ms>, got: Option<Ms>) -> Result<String, AllocError>
+    ensures { IfOk result (λ text. string_bytes text ≡ step_text expected got) }
+{
+    let expected = instant_text(alloc, expected)?;
+    let got = instant_text(alloc, got)?;
+    let (expected, got) = (expected.as_str(), got.as_str());
+    format!(in alloc; " expected {expected} got {got}")
+}
+
+fn cell_text(alloc: Global, at: Ms) -> Result<String, AllocError>
+    ensures { IfOk result (λ text. string_bytes text ≡ cell_text at) }
+{
+    let time = at.0;
+    format!(in alloc; " cell at {time}")
+}
+
+/// What is told of an engine that was lost, behind its number.
+fn stray_text(alloc: Global, stray: &Option<Stray>) -> Result<String, AllocError>
+    ensures { IfOk result (λ text. string_bytes text ≡ stray_text stray.now) }
+{
+    match stray {
+        None => Ok(String::new(alloc)),
+        Some(Stray::OutOfStep { expected, got }) => step_text(alloc, *expected, *got),
+        Some(Stray::WrongCell { at }) => cell_text(alloc, *at),
+    }
+}
+
+/// The line of an engine that was lost, counted from 1.
+pub fn lost_line(alloc: Global, lost: &Lost) -> Result<String, AllocError>
+    ensures { IfOk result (λ text. string_bytes text ≡ lost_text lost.now) }
+{
+    let number = u64::from(lost.engine) + 1;
+    let behind = stray_text(alloc, &lost.stray)?;
+    let behind = behind.as_str();
+    format!(in alloc; "FAULT engine {number}{behind}\n")
 }
 
 /// The line of how many evaluations pass and fail.

@@ -7,9 +7,9 @@ pub returns-in-Ok-Whole-clause-file : goal.returns-in-Ok-Whole-clause-file
 returns-in-Ok-Whole-clause-file g c =
     let told = g.L.Library.told c.args.library.now in
     let sound = g.L.Library.sound c.args.library.now in
-    subst (λ (bytes : List ℕ). IsFound told sound c.args.path.now (Some bytes)) (sym c.from_vec.ensures)
+    λ terms. subst (λ (bytes : List ℕ). IsFound told sound c.args.path.now (Some bytes)) (sym c.from_vec.ensures)
     (whole_found sound c.args.path.now told c.fetch.new.into.items (rw c.in-Ok-Whole.field-0-is at c.in-Ok-Whole.ensures.tells))
 
 pub returns-in-Ok-PastLimit-clause-file : goal.returns-in-Ok-PastLimit-clause-file
 returns-in-Ok-PastLimit-clause-file g c =
-    past_found (g.L.Library.sound c.args.library.now) c.args.path.now (g.L.Library.told c.args.library.now) c.fetch.new.into.items (rw c.in-Ok-PastLimit.field-0-is at c.in-Ok-PastLimit.ensures.tells)
+    λ terms. past_found (g.L.Library.sound c.args.library.now) c.args.path.now terms (g.L.Library.told c.args.library.now) c.fetch.new.into.items (rw c.in-Ok-PastLimit.field-0-is at c.in-Ok-PastLimit.ensures.tells)
