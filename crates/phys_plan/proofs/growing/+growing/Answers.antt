@@ -709,8 +709,8 @@ over_ranges-returns-then-is_gathered-clause-total t c = λ f inner arguments e r
     let there : IsGathered w.windows = subst IsGathered c.get.ensures (c.if-is_gathered.ensures.0 refl) in
     c.over_gathers.ensures.total w.field-0 w.windows w.field-2 w.is (subst (λ (q : Plan). (serving q).ranges ≡ true) same ranges) there n near can
 
-pub over_ranges-returns-else-is_gathered-clause-total : goal.over_ranges-returns-else-is_gathered-clause-total
-over_ranges-returns-else-is_gathered-clause-total t c = λ f inner arguments e ranges n near can.
+pub over_ranges-returns-clause-total : goal.over_ranges-returns-clause-total
+over_ranges-returns-clause-total t c = λ f inner arguments e ranges n near can.
     let w = c.in-Window in
     let same = window_inner f w.field-0 inner w.windows arguments w.field-2 (sym e ∙ w.is) in
     let none : IsGathered w.windows → ⊥ = λ g. (let no : false ≡ true = c.if-is_gathered.ensures.1 (subst IsGathered (sym c.get.ensures) g) in absurd (cc)) in
