@@ -68,7 +68,7 @@ stand_at declared es series h tell = record {
 pub parts_grown : (declared : List LabelList) (es fs : List EngineSeen) → length fs ≡ length es → Each Grows es fs → (series : AllSeries) → HoldParts declared es series → HoldParts declared fs series
 parts_grown declared es fs many each series h = record {
   sets = h.sets;
-  boxes = record h.boxes { many = omega (arith, h.boxes.many, many) };
+  boxes = record { some = h.boxes.some; many = omega (arith, h.boxes.many, many); few = h.boxes.few };
   engines = h.engines;
   are = h.are;
   parted = h.parted;
@@ -97,10 +97,10 @@ on_ok (Ok x) P h = h
 on_ok (Err e) P h = tt
 
 -- a line that was written and counted
-pub counted : {path text : List ℕ} {IsSuch : Judged → Type 0} {before now : Option (List ℕ)} {passed : Bool} (r : Result Totals RunnerFault) → IsLine path IsSuch text passed → OnOk r (now ≡ appended before text)
+pub counted : {path text : List ℕ} {IsSuch : Judged → Type 0} {passed : Bool} (before now : Option (List ℕ)) (r : Result Totals RunnerFault) → IsLine path IsSuch text passed → OnOk r (now ≡ appended before text)
     → IfOk r (λ totals. (totals.passed ≡ cond passed 1 0) × (totals.failed ≡ cond passed 0 1)) → IfOk r (WroteCounted path IsSuch before now)
-counted {text = text} {passed = passed} (Ok totals) line written counts = record { passed = passed; line = record { text = text; is_line = line; written = written }; some = counts.0; none = counts.1 }
-counted (Err fault) line written counts = tt
+counted {text = text} {passed = passed} before now (Ok totals) line written counts = record { passed = passed; line = record { text = text; is_line = line; written = written }; some = counts.0; none = counts.1 }
+counted before now (Err fault) line written counts = tt
 
 pub counted_one : (r : Result Totals RunnerFault) (passed : Bool) → IfOk r (λ totals. (totals.passed ≡ cond passed 1 0) × (totals.failed ≡ cond passed 0 1)) → IfOk r (λ totals. totals.passed + totals.failed ≡ 1)
 counted_one (Ok totals) true counts = omega (arith, counts.0, counts.1)
@@ -183,9 +183,9 @@ quiet_whole commands count k le quiet =
     subst (λ (m : ℕ). AreQuiet (drop m commands)) none quiet
 
 pub quiet_none : (commands : List Command) (count : ℕ) → length commands ≤ count → AreQuiet (drop count commands)
-quiet_none [] 0 le = tt
+quiet_none [] zero le = tt
 quiet_none [] (suc n) le = tt
-quiet_none (c ∷ cs) 0 le = absurd (omega (arith, le))
+quiet_none (c ∷ cs) zero le = absurd (omega (arith, le))
 quiet_none (c ∷ cs) (suc n) le = quiet_none cs n (omega (arith, le))
 
 -- ---- what one command comes to
@@ -204,15 +204,18 @@ held_carries declared es fs what grid instant text expected is held = λ series 
 
 pub run_all : {X : Type 0} (r : Result X RunnerFault) (P : Type 0) → P → IfRun r P
 run_all (Ok x) P h = tt
-run_all (Err fault) P h = stopped_by _ fault P h
+run_all {X} (Err fault) P h = stopped_by X fault P h
 
 pub own_all : {X : Type 0} (r : Result X RunnerFault) → IfErr r IsOwnFault → IfErr r IsNoLoadFault
 own_all (Ok x) own = tt
 own_all (Err fault) own = own_none_loaded fault own
 
+pub err_written : {X : Type 0} (fault : RunnerFault) → ◌≡◌ {A = Result X RunnerFault} (Err fault) (Err Write) → fault ≡ Write
+err_written fault is = cc
+
 pub own_never : {X : Type 0} (r : Result X RunnerFault) → IfErr r IsOwnFault → IsErrOf r Write → ⊥
-own_never (Ok x) own is = is
-own_never (Err fault) own is = own_unwritten fault own is
+own_never (Ok x) own is = cc
+own_never (Err fault) own is = own_unwritten fault own (err_written fault is)
 
 pub idle_still : (now : Counts) → DoNotRise now now
 idle_still now = record { fetched = omega arith; probed = omega arith; tested = omega arith }
@@ -338,16 +341,16 @@ own_never_is X (Err fault) own = own_unwritten fault own
 -- ---- no engine's fault
 
 module _ (T : Type 0) where
-  pub run_none : (U P : Type 0) (fault : RunnerFault) → IsNoRun {T = U} (Err fault) → IfRun {T = T} (Err fault) P
-  run_none U P (Refused refusal) none = tt
-  run_none U P (Range line) none = tt
-  run_none U P (Run fault) none = absurd none
-  run_none U P Write none = tt
-  run_none U P Memory none = tt
+  pub run_none : (P : Type 0) (fault : RunnerFault) → IsNoRun {T = T} (Err fault) → IfRun {T = T} (Err fault) P
+  run_none P (Refused refusal) none = tt
+  run_none P (Range line) none = tt
+  run_none P (Run fault) none = absurd none
+  run_none P Write none = tt
+  run_none P Memory none = tt
 
   pub none_stopped : (r : Result T RunnerFault) (P : Type 0) → IsNoRun r → IfRun r P
   none_stopped (Ok x) P none = tt
-  none_stopped (Err fault) P none = run_none T P fault none
+  none_stopped (Err fault) P none = run_none P fault none
 
   module _ (declared : List LabelList) (es : List EngineSeen) where
     kept_all : KeepsServing declared declared es es

@@ -140,8 +140,8 @@ moved_there {X} i n xs x size e =
     ap₂ (λ (ys : List X) (k : ℕ). slice_get (remove xs i ++ ys) k) (one_there i xs x e) here ∙ back_get (remove xs i) x
 
 both_size : {X : Type 0} (xs ys : List X) → length (xs ++ ys) ≡ length xs + length ys
-both_size [] ys = refl
-both_size (x ∷ xs) ys = ap suc (both_size xs ys)
+both_size [] ys = omega arith
+both_size (x ∷ xs) ys = let e = both_size xs ys in omega (arith, e)
 
 pub moved_size : {X : Type 0} (i : ℕ) (xs : List X) → i < length xs → length (moved_last i xs) ≡ length xs
 moved_size i xs l =

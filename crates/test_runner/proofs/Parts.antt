@@ -316,7 +316,7 @@ module _ (declared : List LabelList) (labels : LabelList) (at : Ms) (held : Held
           }
 
       pub now_loaded : (fs : List EngineSeen) (u : ⊤) → IsCalled i (HasLoaded labels at held (Ok u)) es fs → length fs ≡ length es → PutsStayParted → IsLabelSet labels → MayBeLoaded declared fs (with_sample series labels at held)
-      now_loaded fs u called many stay set = record { unasked = still; parts = record { sets = sets_put series labels (insert_entry time_cmp (samples_of series labels) at held) set m.parts.sets; boxes = record m.parts.boxes { many = omega (arith, m.parts.boxes.many, many) }; engines = engines; are = are; parted = parted; fits = all_fit; held = all_hold } }
+      now_loaded fs u called many stay set = record { unasked = still; parts = record { sets = sets_put series labels (insert_entry time_cmp (samples_of series labels) at held) set m.parts.sets; boxes = record { some = m.parts.boxes.some; many = omega (arith, m.parts.boxes.many, many); few = m.parts.boxes.few }; engines = engines; are = are; parted = parted; fits = all_fit; held = all_hold } }
         where
           a : Around m.parts.engines i goer.0
           a = around m.parts.engines i goer.0 goer.1
@@ -425,7 +425,7 @@ module _ (declared : List LabelList) (es fs : List EngineSeen) (calls : AreCalle
   begun_unasked k f l at_f = let b = before_call (length declared) IsBegun es fs calls k f l at_f in b.2.forgotten
 
   pub begun_boxes : HaveBoxes declared es → HaveBoxes declared fs
-  begun_boxes boxes = record boxes { many = omega (arith, boxes.many, calls.many) }
+  begun_boxes boxes = record { some = boxes.some; many = omega (arith, boxes.many, calls.many); few = boxes.few }
 
   pub begun_told : AreDeclaredTo declared es → AreDeclaredTo declared fs
   begun_told told k names f at_names at_f =
@@ -452,7 +452,7 @@ begun_put X declared es fs Holds put result calls has = λ series m ok. has seri
 
 -- ---- engines drop their samples
 
-engine_without : LabelList → Engine
+abbrev engine_without : LabelList → Engine
 engine_without names = record { declared = names; samples = [] }
 
 declared_back : (declared : List LabelList) → declared_to (map engine_without declared) ≡ declared
@@ -477,7 +477,7 @@ module _ (declared : List LabelList) (es fs : List EngineSeen) (calls : AreCalle
     unasked = λ k f l at_f. let b = before_call (length declared) IsCleared es fs calls k f l at_f in b.2.asks.asks ∙ unasked k b.0 l b.1;
     parts = record {
       sets = tt;
-      boxes = record boxes { many = omega (arith, boxes.many, calls.many) };
+      boxes = record { some = boxes.some; many = omega (arith, boxes.many, calls.many); few = boxes.few };
       engines = map engine_without declared;
       are = declared_back declared;
       parted = nothing (map engine_without declared) (subst MayBeDeclared (sym (declared_back declared)) may) (all_empty declared);

@@ -1,5 +1,5 @@
 -- What becomes of engines that a script is run over.
-use Rattle.std.proofs.Common.{◌≡◌, ◌∙◌, ℕ, ◌-◌, ◌<◌, ◌≤◌, true, false, List, [], ◌∷◌, length, map, suc, take, slice_get, Option, Some, None, Result, Ok, Err, refl, sym, ap, subst, arith}
+use Rattle.std.proofs.Common.{◌≡◌, ◌∙◌, ℕ, ◌-◌, ◌<◌, ◌≤◌, true, false, List, [], ◌∷◌, length, map, suc, zero, take, slice_get, Option, Some, None, Result, Ok, Err, refl, sym, ap, subst, arith}
 use Rattle.std.specs.Prelude.{IfErr, IfSome, IsOk, MatchOption, OnOk, is_some, remove, ⊤}
 use Rattle.std.specs.Option.{option_map}
 use Rattle.edge_io.specs.Causes.{Rose}
@@ -74,9 +74,9 @@ all_on es ds fs a b i e at = let o = a i e at in let p = b i o.0 o.1 in (p.0, p.
 -- ---- behind calls that none has failed
 
 pub get_taken : {X : Type 0} (xs : List X) (n k : ℕ) (x : X) → k < n → slice_get xs k ≡ Some x → slice_get (take n xs) k ≡ Some x
-get_taken xs 0 k x l e = absurd (omega (arith, l))
+get_taken xs zero k x l e = absurd (omega (arith, l))
 get_taken [] (suc n) k x l e = e
-get_taken (y ∷ xs) (suc n) 0 x l e = e
+get_taken (y ∷ xs) (suc n) zero x l e = e
 get_taken (y ∷ xs) (suc n) (suc k) x l e = get_taken xs n k x (omega (arith, l)) e
 
 module _ (es ds : List EngineSeen) (many : length ds ≡ length es) (stays : Each Stays es ds) where
@@ -133,35 +133,6 @@ module _ (es ds : List EngineSeen) (many : length ds ≡ length es) (stays : Eac
   faulted_since T (Err (Run (run.EngineFault i))) fs h = failed_since i fs h
   faulted_since T (Err (Run (run.OutOfStep i expected got))) fs h = strayed_since i _ fs h
   faulted_since T (Err (Run (run.WrongCell i at))) fs h = strayed_since i _ fs h
-
--- ---- answers of another type
-
-pub leaves_as : (T U : Type 0) (fault : RunnerFault) (before now : List LabelList) (es fs : List EngineSeen) → LeavesServing {T = T} (Err fault) before now es fs → LeavesServing {T = U} (Err fault) before now es fs
-leaves_as T U fault before now es fs h = h
-
-pub faulted_as : (T U : Type 0) (fault : RunnerFault) (es fs : List EngineSeen) → RunFaulted {T = T} (Err fault) es fs → RunFaulted {T = U} (Err fault) es fs
-faulted_as T U (Refused refusal) es fs h = tt
-faulted_as T U (Range line) es fs h = tt
-faulted_as T U Write es fs h = tt
-faulted_as T U Memory es fs h = tt
-faulted_as T U (Run run.Memory) es fs h = h
-faulted_as T U (Run (run.EngineFault i)) es fs h = h
-faulted_as T U (Run (run.OutOfStep i expected got)) es fs h = h
-faulted_as T U (Run (run.WrongCell i at)) es fs h = h
-
-pub sure_as : (T U : Type 0) (fault : RunnerFault) → IsNoRun {T = T} (Err fault) → IsNoRun {T = U} (Err fault)
-sure_as T U (Refused refusal) h = tt
-sure_as T U (Range line) h = tt
-sure_as T U (Run fault) h = h
-sure_as T U Write h = tt
-sure_as T U Memory h = tt
-
-pub stopped_as : (T U P : Type 0) (fault : RunnerFault) → IfRun {T = T} (Err fault) P → IfRun {T = U} (Err fault) P
-stopped_as T U P (Refused refusal) h = tt
-stopped_as T U P (Range line) h = tt
-stopped_as T U P (Run fault) h = h
-stopped_as T U P Write h = tt
-stopped_as T U P Memory h = tt
 
 -- ---- a write that failed, and want of memory
 

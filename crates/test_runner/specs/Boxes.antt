@@ -74,12 +74,17 @@ abbrev pub LeavesServing : {T : Type 0} → Result T RunnerFault → (declared_b
 LeavesServing (Ok x) before now es fs = KeepsServing before now es fs
 LeavesServing (Err fault) before now es fs = ServesBut (lost_by fault) before now es fs
 
+-- the engine that a fault names, whose box stands last now, has failed, or has strayed just so
+abbrev pub FaultedBy : RunnerFault → (es fs : List EngineSeen) → Type 0
+FaultedBy (Run run.Memory) es fs = ⊥
+FaultedBy (Run fault) es fs = FaultedLast {T = ⊤} (Err fault) es fs
+FaultedBy fault es fs = ⊤
+
 -- a fault of an engine is answered only where the engine that it names, whose box stands last now, has failed, or has strayed just so;
 -- want of memory is no such fault
 abbrev pub RunFaulted : {T : Type 0} → Result T RunnerFault → (es fs : List EngineSeen) → Type 0
-RunFaulted (Err (Run run.Memory)) es fs = ⊥
-RunFaulted {T} (Err (Run fault)) es fs = FaultedLast {T = T} (Err fault) es fs
-RunFaulted result es fs = ⊤
+RunFaulted (Ok x) es fs = ⊤
+RunFaulted (Err fault) es fs = FaultedBy fault es fs
 
 -- what comes of a fault of engines: want of memory is no such fault
 abbrev pub ran_into : RunFault → RunnerFault
@@ -104,10 +109,15 @@ IsCutFault Write = ⊤
 IsCutFault Memory = ⊤
 IsCutFault fault = ⊥
 
+-- where a fault is one of an engine
+abbrev pub IfOfEngines : RunnerFault → Type 0 → Type 0
+IfOfEngines (Run fault) Stopped = Stopped
+IfOfEngines fault Stopped = Unit {0}
+
 -- where a fault of an engine is answered
 abbrev pub IfRun : {T : Type 0} → Result T RunnerFault → Type 0 → Type 0
-IfRun (Err (Run fault)) Stopped = Stopped
-IfRun result Stopped = Unit {0}
+IfRun (Ok x) Stopped = Unit {0}
+IfRun (Err fault) Stopped = IfOfEngines fault Stopped
 
 -- no fault of an engine is answered
 abbrev pub IsNoRun : {T : Type 0} → Result T RunnerFault → Type 0

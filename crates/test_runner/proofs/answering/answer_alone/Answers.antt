@@ -1,7 +1,6 @@
 use Rattle.std.proofs.Common.{[], refl}
 use Rattle.std.proofs.lemmas.Result.{err_from_is_err_and}
 use Rattle.test_runner.specs.Loads.{samples_left}
-use Rattle.test_runner.proofs.Serving.{sure_as}
 use Rattle.test_runner.proofs.Spending.{nothing_over, spent_over, with_batch}
 use Rattle.test_runner.proofs.answering.answer_alone.Goals as goal
 
@@ -26,7 +25,7 @@ returns-clause-bounded g c =
 pub returns-in_err-store-clause-sure : goal.returns-in_err-store-clause-sure
 returns-in_err-store-clause-sure g c =
     let p = err_from_is_err_and c.from_residual.result c.from_residual.ensures.1 in
-    rw (p.1, p.2) (sure_as _ _ c.in_err-store.field-0.0 c.in_err-store.ensures.sure)
+    rw (p.1, p.2) c.in_err-store.ensures.sure
 
 pub returns-in_err-outcome-clause-sure : goal.returns-in_err-outcome-clause-sure
 returns-in_err-outcome-clause-sure g c =

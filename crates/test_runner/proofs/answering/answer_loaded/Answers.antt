@@ -4,7 +4,7 @@ use Rattle.script_read.specs.Series.{LabelList}
 use Rattle.test_runner.specs.Boxes.{AllTell, AreSound}
 use Rattle.test_runner.specs.Parts.{HoldParts}
 use Rattle.test_runner.proofs.Engines.{calm_on, idle_still}
-use Rattle.test_runner.proofs.Serving.{all_still, faulted_as, faulted_since, leaves_since, sound_since, sure_as, tell_since}
+use Rattle.test_runner.proofs.Serving.{all_still, faulted_since, leaves_since, sound_since, tell_since}
 use Rattle.test_runner.proofs.answering.answer_loaded.Goals as goal
 
 pub evaluate_over-requires-clause-some : goal.evaluate_over-requires-clause-some
@@ -52,7 +52,7 @@ pub returns-in-Err-clause-unmoved : goal.returns-in-Err-clause-unmoved
 returns-in-Err-clause-unmoved g c = idle_still c.args.work.now
 
 pub returns-in-Err-clause-faulted : goal.returns-in-Err-clause-faulted
-returns-in-Err-clause-faulted g c = faulted_as _ _ c.in-Err.fault (map (λ b. (goal.Engine-dyn g (b.vtable, b.value)).seen b.value) c.args.engines.now.items) (map (λ b. (goal.Engine-dyn g (b.vtable, b.value)).seen b.value) c.put_anew.new.engines.items) c.in-Err.ensures.faulted
+returns-in-Err-clause-faulted g c = c.in-Err.ensures.faulted
 
 pub returns-in-Err-clause-sure : goal.returns-in-Err-clause-sure
-returns-in-Err-clause-sure g c = λ tell sound. sure_as _ _ c.in-Err.fault (c.in-Err.ensures.sure tell sound)
+returns-in-Err-clause-sure g c = λ tell sound. c.in-Err.ensures.sure tell sound

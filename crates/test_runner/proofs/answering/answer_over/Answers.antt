@@ -5,7 +5,6 @@ use Rattle.script_read.specs.declared.script.Command.{Command}
 use Rattle.test_runner.specs.Loads.{left_by_all, samples_left}
 use Rattle.test_runner.specs.Running.{AnswersLoads, IfOfLoads}
 use Rattle.test_runner.proofs.Engines.{answers_as, answers_ok, err_all, err_none, explained_own, idle_still, is_left, none_faulted, none_leaves, ok_on, own_never_is}
-use Rattle.test_runner.proofs.Serving.{sure_as}
 use Rattle.test_runner.proofs.answering.answer_over.Goals as goal
 
 pub answer_loaded-requires-clause-taken : goal.answer_loaded-requires-clause-taken
@@ -42,10 +41,10 @@ pub returns-in-Err-clause-unmoved : goal.returns-in-Err-clause-unmoved
 returns-in-Err-clause-unmoved g c = idle_still c.args.work.now
 
 pub returns-in-Err-clause-boxes : goal.returns-in-Err-clause-boxes
-returns-in-Err-clause-boxes g c = none_leaves _ c.args.declared.now (map (λ b. (goal.Engine-dyn g (b.vtable, b.value)).seen b.value) c.args.engines.now.items) (Err c.in-Err.fault) (sure_as _ _ c.in-Err.fault c.in-Err.ensures.sure)
+returns-in-Err-clause-boxes g c = none_leaves _ c.args.declared.now (map (λ b. (goal.Engine-dyn g (b.vtable, b.value)).seen b.value) c.args.engines.now.items) (Err c.in-Err.fault) c.in-Err.ensures.sure
 
 pub returns-in-Err-clause-faulted : goal.returns-in-Err-clause-faulted
-returns-in-Err-clause-faulted g c = none_faulted _ c.args.declared.now (map (λ b. (goal.Engine-dyn g (b.vtable, b.value)).seen b.value) c.args.engines.now.items) (Err c.in-Err.fault) (sure_as _ _ c.in-Err.fault c.in-Err.ensures.sure)
+returns-in-Err-clause-faulted g c = none_faulted _ c.args.declared.now (map (λ b. (goal.Engine-dyn g (b.vtable, b.value)).seen b.value) c.args.engines.now.items) (Err c.in-Err.fault) c.in-Err.ensures.sure
 
 pub returns-in-Err-clause-sure : goal.returns-in-Err-clause-sure
-returns-in-Err-clause-sure g c = λ tell sound. sure_as _ _ c.in-Err.fault c.in-Err.ensures.sure
+returns-in-Err-clause-sure g c = λ tell sound. c.in-Err.ensures.sure

@@ -1,8 +1,7 @@
 use Rattle.std.proofs.lemmas.Result.{err_from_is_err_and}
-use Rattle.test_runner.proofs.Serving.{sure_as}
 use Rattle.test_runner.proofs.begun.begin.Goals as goal
 
 pub returns-in_err-store-clause-sure : goal.returns-in_err-store-clause-sure
 returns-in_err-store-clause-sure c =
     let p = err_from_is_err_and c.from_residual.result c.from_residual.ensures.1 in
-    rw (p.1, p.2) (sure_as _ _ c.in_err-store.field-0.0 c.in_err-store.ensures.sure)
+    rw (p.1, p.2) c.in_err-store.ensures.sure

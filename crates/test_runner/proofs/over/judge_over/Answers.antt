@@ -1,7 +1,7 @@
 use Rattle.std.proofs.Common.{ℕ, List, map, subst}
 use Rattle.query_engine.specs.Evaluating.{ComesTo}
 use Rattle.test_runner.proofs.Engines.{line_on, ok_on, on_ok}
-use Rattle.test_runner.proofs.Serving.{cut_faulted, cut_leaves, cut_stopped, faulted_as, leaves_as, memory_cut, memory_own, sure_as}
+use Rattle.test_runner.proofs.Serving.{cut_faulted, cut_leaves, cut_stopped, memory_cut, memory_own}
 use Rattle.test_runner.proofs.over.judge_over.Goals as goal
 
 pub returns-in-Ok-clause-line : goal.returns-in-Ok-clause-line
@@ -29,10 +29,10 @@ pub returns-in-Ok-clause-sure : goal.returns-in-Ok-clause-sure
 returns-in-Ok-clause-sure g c = λ tell sound. cut_stopped _ c.line_of.result _ (memory_cut _ c.line_of.result c.line_of.ensures.fault)
 
 pub returns-in-Err-clause-boxes : goal.returns-in-Err-clause-boxes
-returns-in-Err-clause-boxes g c = leaves_as _ _ c.in-Err.fault c.args.declared.now c.evaluate_over.new.declared (map (λ b. (goal.Engine-dyn g (b.vtable, b.value)).seen b.value) c.args.engines.now.items) (map (λ b. (goal.Engine-dyn g (b.vtable, b.value)).seen b.value) c.evaluate_over.new.engines.items) c.in-Err.ensures.boxes
+returns-in-Err-clause-boxes g c = c.in-Err.ensures.boxes
 
 pub returns-in-Err-clause-faulted : goal.returns-in-Err-clause-faulted
-returns-in-Err-clause-faulted g c = faulted_as _ _ c.in-Err.fault (map (λ b. (goal.Engine-dyn g (b.vtable, b.value)).seen b.value) c.args.engines.now.items) (map (λ b. (goal.Engine-dyn g (b.vtable, b.value)).seen b.value) c.evaluate_over.new.engines.items) c.in-Err.ensures.faulted
+returns-in-Err-clause-faulted g c = c.in-Err.ensures.faulted
 
 pub returns-in-Err-clause-sure : goal.returns-in-Err-clause-sure
-returns-in-Err-clause-sure g c = λ tell sound. sure_as _ _ c.in-Err.fault (c.in-Err.ensures.sure tell sound)
+returns-in-Err-clause-sure g c = λ tell sound. c.in-Err.ensures.sure tell sound

@@ -1,5 +1,5 @@
 use Rattle.std.proofs.Common.{◌≡◌, ◌∙◌, ◌<◌, ◌≤◌, ◌+◌, ◌^◌, List, [], ◌∷◌, ap, arith, drop, false, length, map, refl, rules, subst, sym, take}
-use Rattle.std.specs.Prelude.{IsOk}
+use Rattle.std.specs.Prelude.{Err, IsOk, ⊤}
 use Rattle.std.specs.List.{AllByRecursion}
 use Rattle.std.proofs.lemmas.List.{length-map}
 use Rattle.script_check.specs.Verdicts.{HasItsPatterns, PatternList}
@@ -38,7 +38,9 @@ run_command_over-requires-clause-kept g c =
     let all = c.args.commands.now in
     let i = c.loop-i.i in
     let command = c.index-commands-i.result in
-    let lt = c.loop-i-test.true in
+    let within = c.requires.within in
+    let going = c.loop-i-test.true in
+    let lt : i < length all = omega (arith, within, going) in
     let is = c.index-commands-i.is in
     let inv = c.loop-i.invariant in
     let mid = inv.mid.0 in
@@ -67,25 +69,29 @@ run_command_over-requires-clause-may g c =
     let all = c.args.commands.now in
     let i = c.loop-i.i in
     let command = c.index-commands-i.result in
-    let lt = c.loop-i-test.true in
+    let within = c.requires.within in
+    let going = c.loop-i-test.true in
+    let lt : i < length all = omega (arith, within, going) in
     let is = c.index-commands-i.is in
     let inv = c.loop-i.invariant in
     let mid = inv.mid.0 in
     let d = c.args.declared.now in
     (mid, (subst (λ (l : List LabelList). HoldParts l (map (λ b. (goal.Engine-dyn g (b.vtable, b.value)).seen b.value) c.loop-i.engines.items) mid) (sym inv.labels) inv.mid.1), (subst (λ (l : List LabelList). IsOk (left_by l command.what mid)) (sym inv.labels) (taken_next d all i command mid lt is c.requires.taken inv.mid.2)))
 
-pub plus-requires-clause-passed : goal.plus-requires-clause-passed
-plus-requires-clause-passed g c = omega (arith, c.loop-i.invariant.few, c.in-Ok.ensures.few, c.loop-i-test.true, c.requires.within, c.requires.short)
+pub plus-totals-requires-clause-passed : goal.plus-totals-requires-clause-passed
+plus-totals-requires-clause-passed g c = omega (arith, c.loop-i.invariant.few, c.in-Ok.ensures.few, c.loop-i-test.true, c.requires.within, c.requires.short)
 
-pub plus-requires-clause-failed : goal.plus-requires-clause-failed
-plus-requires-clause-failed g c = omega (arith, c.loop-i.invariant.few, c.in-Ok.ensures.few, c.loop-i-test.true, c.requires.within, c.requires.short)
+pub plus-totals-requires-clause-failed : goal.plus-totals-requires-clause-failed
+plus-totals-requires-clause-failed g c = omega (arith, c.loop-i.invariant.few, c.in-Ok.ensures.few, c.loop-i-test.true, c.requires.within, c.requires.short)
 
 pub loop-i-preserved : goal.loop-i-preserved
 loop-i-preserved g c =
     let all = c.args.commands.now in
     let i = c.loop-i.i in
     let command = c.index-commands-i.result in
-    let lt = c.loop-i-test.true in
+    let within = c.requires.within in
+    let going = c.loop-i-test.true in
+    let lt : i < length all = omega (arith, within, going) in
     let is = c.index-commands-i.is in
     let inv = c.loop-i.invariant in
     let mid = inv.mid.0 in
@@ -125,7 +131,9 @@ returns-in-Err-clause-cut g c = λ tell.
     let all = c.args.commands.now in
     let i = c.loop-i.i in
     let command = c.index-commands-i.result in
-    let lt = c.loop-i-test.true in
+    let within = c.requires.within in
+    let going = c.loop-i-test.true in
+    let lt : i < length all = omega (arith, within, going) in
     let is = c.index-commands-i.is in
     let inv = c.loop-i.invariant in
     let mid = inv.mid.0 in
@@ -133,7 +141,7 @@ returns-in-Err-clause-cut g c = λ tell.
     ran_cut all i command mid (g.S.Sink.written c.run_command_over.new.out) c.in-Err.fault lt is (inv.ran tell) inv.mid.2 (subst (λ (k : PatternList). IfCut c.in-Err.fault (WasCutOff c.args.options.now.closed d k c.args.path.now mid (command ∷ []) (g.S.Sink.written c.loop-i.out) (g.S.Sink.written c.run_command_over.new.out))) inv.same (subst (λ (l : List LabelList). IfCut c.in-Err.fault (WasCutOff c.args.options.now.closed l c.loop-i.searches c.args.path.now mid (command ∷ []) (g.S.Sink.written c.loop-i.out) (g.S.Sink.written c.run_command_over.new.out))) inv.labels (c.in-Err.ensures.cut mid (subst (λ (l : List LabelList). HoldParts l (map (λ b. (goal.Engine-dyn g (b.vtable, b.value)).seen b.value) c.loop-i.engines.items) mid) (sym inv.labels) inv.mid.1) (subst (λ (l : List LabelList). AllTell (length l) (map (λ b. (goal.Engine-dyn g (b.vtable, b.value)).seen b.value) c.loop-i.engines.items)) (sym inv.labels) (tell_since (map (λ b. (goal.Engine-dyn g (b.vtable, b.value)).seen b.value) c.args.engines.now.items) (map (λ b. (goal.Engine-dyn g (b.vtable, b.value)).seen b.value) c.loop-i.engines.items) inv.many inv.stays (length d) tell)))))
 
 pub returns-in-Err-clause-stopped : goal.returns-in-Err-clause-stopped
-returns-in-Err-clause-stopped g c = λ tell. ran_stopped c.args.commands.now _ _ c.loop-i.i (g.S.Sink.written c.run_command_over.new.out) c.in-Err.fault (c.loop-i.invariant.ran tell) c.in-Err.ensures.stopped
+returns-in-Err-clause-stopped g c = λ tell. ran_stopped c.args.commands.now ⊤ ⊤ c.loop-i.i (g.S.Sink.written c.run_command_over.new.out) c.in-Err.fault (c.loop-i.invariant.ran tell) c.in-Err.ensures.stopped
 
 pub returns-in-Err-clause-unmoved : goal.returns-in-Err-clause-unmoved
 returns-in-Err-clause-unmoved g c = idle_then c.args.work.now c.loop-i.work c.run_command_over.new.work c.loop-i.invariant.unmoved c.run_command_over.ensures.unmoved
@@ -144,7 +152,7 @@ returns-in-Err-clause-boxes g c =
     leaves_since (map (λ b. (goal.Engine-dyn g (b.vtable, b.value)).seen b.value) c.args.engines.now.items) (map (λ b. (goal.Engine-dyn g (b.vtable, b.value)).seen b.value) c.loop-i.engines.items) inv.many inv.stays _ c.run_command_over.result c.args.declared.now c.loop-i.declared c.run_command_over.new.declared (map (λ b. (goal.Engine-dyn g (b.vtable, b.value)).seen b.value) c.run_command_over.new.engines.items) inv.labels c.in-Err.ensures.boxes
 
 pub returns-in-Err-clause-faulted : goal.returns-in-Err-clause-faulted
-returns-in-Err-clause-faulted g c = let inv = c.loop-i.invariant in faulted_since (map (λ b. (goal.Engine-dyn g (b.vtable, b.value)).seen b.value) c.args.engines.now.items) (map (λ b. (goal.Engine-dyn g (b.vtable, b.value)).seen b.value) c.loop-i.engines.items) inv.many inv.stays _ _ (map (λ b. (goal.Engine-dyn g (b.vtable, b.value)).seen b.value) c.run_command_over.new.engines.items) c.in-Err.ensures.faulted
+returns-in-Err-clause-faulted g c = let inv = c.loop-i.invariant in faulted_since (map (λ b. (goal.Engine-dyn g (b.vtable, b.value)).seen b.value) c.args.engines.now.items) (map (λ b. (goal.Engine-dyn g (b.vtable, b.value)).seen b.value) c.loop-i.engines.items) inv.many inv.stays ⊤ (Err c.in-Err.fault) (map (λ b. (goal.Engine-dyn g (b.vtable, b.value)).seen b.value) c.run_command_over.new.engines.items) c.in-Err.ensures.faulted
 
 pub returns-in-Err-clause-sure : goal.returns-in-Err-clause-sure
 returns-in-Err-clause-sure g c = λ tell sound.

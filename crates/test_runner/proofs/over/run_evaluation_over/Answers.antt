@@ -1,13 +1,14 @@
-use Rattle.std.proofs.Common.{◌∙◌, List, arith, map, refl}
+use Rattle.std.proofs.Common.{◌∙◌, List, Err, arith, map, refl}
+use Rattle.std.specs.Prelude.{⊤}
 use Rattle.edge_io.specs.Written.{WroteFront}
 use Rattle.test_runner.specs.Steps.{IsJudgementOn, WroteLess, nothing, partly}
 use Rattle.test_runner.proofs.Carrying.{cut_by_any}
-use Rattle.test_runner.proofs.Engines.{counted, counted_one, cut_so, on_ok}
-use Rattle.test_runner.proofs.Serving.{cut_faulted, cut_leaves, cut_none_loaded, cut_stopped, faulted_as, leaves_as, own_none_loaded, own_unwritten, stopped_by, sure_as}
+use Rattle.test_runner.proofs.Engines.{counted, counted_one, cut_so, on_ok, own_never}
+use Rattle.test_runner.proofs.Serving.{cut_faulted, cut_leaves, cut_none_loaded, cut_stopped, own_none_loaded, stopped_by}
 use Rattle.test_runner.proofs.over.run_evaluation_over.Goals as goal
 
 pub returns-in-Ok-clause-ran : goal.returns-in-Ok-clause-ran
-returns-in-Ok-clause-ran g c = λ series held tell. counted c.write_line.result (c.in-Ok.ensures.line series held tell) c.write_line.ensures.written c.write_line.ensures.counted
+returns-in-Ok-clause-ran g c = λ series held tell. counted (g.S.Sink.written c.args.out.now) (g.S.Sink.written c.write_line.new.out) c.write_line.result (c.in-Ok.ensures.line series held tell) c.write_line.ensures.written c.write_line.ensures.counted
 
 pub returns-in-Ok-clause-one : goal.returns-in-Ok-clause-one
 returns-in-Ok-clause-one g c = counted_one c.write_line.result c.in-Ok.line.passed c.write_line.ensures.counted
@@ -42,22 +43,22 @@ pub returns-in-Err-clause-cut : goal.returns-in-Err-clause-cut
 returns-in-Err-clause-cut g c = λ series held tell. cut_by_any c.in-Err.fault (WroteLess c.args.path.now (IsJudgementOn c.args.searches.now series c.args.asked) (g.S.Sink.written c.args.out.now) (g.S.Sink.written c.args.out.now)) (nothing refl)
 
 pub returns-in-Err-clause-stopped : goal.returns-in-Err-clause-stopped
-returns-in-Err-clause-stopped g c = stopped_by _ c.in-Err.fault _ refl
+returns-in-Err-clause-stopped g c = stopped_by ⊤ c.in-Err.fault _ refl
 
 pub returns-in-Err-clause-own : goal.returns-in-Err-clause-own
 returns-in-Err-clause-own g c = own_none_loaded c.in-Err.fault c.in-Err.ensures.own
 
 pub returns-in-Err-clause-cause : goal.returns-in-Err-clause-cause
-returns-in-Err-clause-cause g c = record { later = omega arith; rose = λ w. absurd (own_unwritten c.in-Err.fault c.in-Err.ensures.own w) }
+returns-in-Err-clause-cause g c = record { later = omega arith; rose = λ w. absurd (own_never (Err c.in-Err.fault) c.in-Err.ensures.own w) }
 
 pub returns-in-Err-clause-never : goal.returns-in-Err-clause-never
-returns-in-Err-clause-never g c = λ sound w. own_unwritten c.in-Err.fault c.in-Err.ensures.own w
+returns-in-Err-clause-never g c = λ sound w. own_never (Err c.in-Err.fault) c.in-Err.ensures.own w
 
 pub returns-in-Err-clause-boxes : goal.returns-in-Err-clause-boxes
-returns-in-Err-clause-boxes g c = leaves_as _ _ c.in-Err.fault c.args.declared.now c.judge_over.new.declared (map (λ b. (goal.Engine-dyn g (b.vtable, b.value)).seen b.value) c.args.engines.now.items) (map (λ b. (goal.Engine-dyn g (b.vtable, b.value)).seen b.value) c.judge_over.new.engines.items) c.in-Err.ensures.boxes
+returns-in-Err-clause-boxes g c = c.in-Err.ensures.boxes
 
 pub returns-in-Err-clause-faulted : goal.returns-in-Err-clause-faulted
-returns-in-Err-clause-faulted g c = faulted_as _ _ c.in-Err.fault (map (λ b. (goal.Engine-dyn g (b.vtable, b.value)).seen b.value) c.args.engines.now.items) (map (λ b. (goal.Engine-dyn g (b.vtable, b.value)).seen b.value) c.judge_over.new.engines.items) c.in-Err.ensures.faulted
+returns-in-Err-clause-faulted g c = c.in-Err.ensures.faulted
 
 pub returns-in-Err-clause-sure : goal.returns-in-Err-clause-sure
-returns-in-Err-clause-sure g c = λ tell sound. sure_as _ _ c.in-Err.fault (c.in-Err.ensures.sure tell sound)
+returns-in-Err-clause-sure g c = λ tell sound. c.in-Err.ensures.sure tell sound

@@ -1,5 +1,5 @@
 use Rattle.std.proofs.Common.{◌≡◌, ◌<◌, ◌^◌, List, [], Err, ap, arith, length, map, refl, subst, sym}
-use Rattle.std.specs.Prelude.{IfErr, IfOk, IsOk}
+use Rattle.std.specs.Prelude.{IfErr, IfOk, IsOk, ⊤}
 use Rattle.std.specs.List.{AllByRecursion}
 use Rattle.script_check.specs.Verdicts.{HasItsPatterns}
 use Rattle.script_read.specs.Series.{LabelList}
@@ -8,8 +8,7 @@ use Rattle.test_runner.specs.Boxes.{IfRun, StoodBy}
 use Rattle.test_runner.specs.Loads.{left_by_all, samples_left}
 use Rattle.test_runner.specs.Running.{AnswersLoads, CarriedOut, IfCut, IfOfLoads, WasCutOff}
 use Rattle.test_runner.proofs.Carrying.{cut_by_any, cut_none}
-use Rattle.test_runner.proofs.Engines.{answers_as, answers_ok, err_all, err_none, explained_none, idle_still, none_faulted, none_leaves, run_none}
-use Rattle.test_runner.proofs.Serving.{sure_as}
+use Rattle.test_runner.proofs.Engines.{answers_as, answers_ok, err_all, err_none, err_written, explained_none, idle_still, none_faulted, none_leaves, run_none}
 use Rattle.test_runner.proofs.over.run_over.Goals as goal
 
 pub run_taken-requires-clause-kept : goal.run_taken-requires-clause-kept
@@ -46,13 +45,13 @@ pub returns-in-Err-clause-cut : goal.returns-in-Err-clause-cut
 returns-in-Err-clause-cut g c = λ tell. cut_by_any c.in-Err.fault _ (cut_none _ _ _ _ _ _ _)
 
 pub returns-in-Err-clause-stopped : goal.returns-in-Err-clause-stopped
-returns-in-Err-clause-stopped g c = λ tell. run_none _ _ _ c.in-Err.fault c.in-Err.ensures.sure
+returns-in-Err-clause-stopped g c = λ tell. run_none ⊤ _ c.in-Err.fault c.in-Err.ensures.sure
 
 pub returns-in-Err-clause-cause : goal.returns-in-Err-clause-cause
-returns-in-Err-clause-cause g c = record { later = omega arith; rose = λ w. absurd (c.in-Err.ensures.unwritten w) }
+returns-in-Err-clause-cause g c = record { later = omega arith; rose = λ w. absurd (c.in-Err.ensures.unwritten (err_written c.in-Err.fault w)) }
 
 pub returns-in-Err-clause-never : goal.returns-in-Err-clause-never
-returns-in-Err-clause-never g c = λ sound w. c.in-Err.ensures.unwritten w
+returns-in-Err-clause-never g c = λ sound w. c.in-Err.ensures.unwritten (err_written c.in-Err.fault w)
 
 pub returns-in-Err-clause-refused : goal.returns-in-Err-clause-refused
 returns-in-Err-clause-refused g c = answers_as _ _ (samples_left c.args.declared.now c.args.script.now) c.in-Err.fault (subst (λ (l : List LabelList). AnswersLoads (samples_left l c.args.script.now) (Err c.in-Err.fault)) c.as_slice-sets.ensures c.in-Err.ensures.refused)
@@ -64,10 +63,10 @@ pub returns-in-Err-clause-unmoved : goal.returns-in-Err-clause-unmoved
 returns-in-Err-clause-unmoved g c = idle_still c.args.work.now
 
 pub returns-in-Err-clause-boxes : goal.returns-in-Err-clause-boxes
-returns-in-Err-clause-boxes g c = none_leaves _ c.args.declared.now (map (λ b. (goal.Engine-dyn g (b.vtable, b.value)).seen b.value) c.args.engines.now.items) (Err c.in-Err.fault) (sure_as _ _ c.in-Err.fault c.in-Err.ensures.sure)
+returns-in-Err-clause-boxes g c = none_leaves ⊤ c.args.declared.now (map (λ b. (goal.Engine-dyn g (b.vtable, b.value)).seen b.value) c.args.engines.now.items) (Err c.in-Err.fault) c.in-Err.ensures.sure
 
 pub returns-in-Err-clause-faulted : goal.returns-in-Err-clause-faulted
-returns-in-Err-clause-faulted g c = none_faulted _ c.args.declared.now (map (λ b. (goal.Engine-dyn g (b.vtable, b.value)).seen b.value) c.args.engines.now.items) (Err c.in-Err.fault) (sure_as _ _ c.in-Err.fault c.in-Err.ensures.sure)
+returns-in-Err-clause-faulted g c = none_faulted ⊤ c.args.declared.now (map (λ b. (goal.Engine-dyn g (b.vtable, b.value)).seen b.value) c.args.engines.now.items) (Err c.in-Err.fault) c.in-Err.ensures.sure
 
 pub returns-in-Err-clause-sure : goal.returns-in-Err-clause-sure
-returns-in-Err-clause-sure g c = λ tell sound. sure_as _ _ c.in-Err.fault c.in-Err.ensures.sure
+returns-in-Err-clause-sure g c = λ tell sound. c.in-Err.ensures.sure

@@ -2,7 +2,6 @@ use Rattle.std.proofs.Common.{[], refl}
 use Rattle.std.proofs.lemmas.Result.{err_from_is_err_and}
 use Rattle.test_runner.proofs.Carrying.{carried_change, carried_evaluation, cut_evaluation, cut_none, is_change, when_cut}
 use Rattle.test_runner.proofs.Engines.{no_run_by}
-use Rattle.test_runner.proofs.Serving.{sure_as}
 use Rattle.test_runner.proofs.Spending.{change_spends, evaluation_spends}
 use Rattle.test_runner.proofs.running.run_command.Goals as goal
 
@@ -51,4 +50,4 @@ returns-in_err-passed-in-Eval-clause-sure g c =
 pub returns-in_err-change_store-in-Clear-clause-sure : goal.returns-in_err-change_store-in-Clear-clause-sure
 returns-in_err-change_store-in-Clear-clause-sure g c =
     let p = err_from_is_err_and c.from_residual-in_err-change_store-in-Clear.result c.from_residual-in_err-change_store-in-Clear.ensures.1 in
-    rw (p.1, p.2) (sure_as _ _ c.in_err-change_store-in-Clear.field-0.0 c.in_err-change_store-in-Clear.ensures.sure)
+    rw (p.1, p.2) c.in_err-change_store-in-Clear.ensures.sure

@@ -10,7 +10,6 @@ use Rattle.test_runner.specs.Running.{CarriedOut, IfCut, WasCutOff}
 use Rattle.test_runner.specs.Spending.{CommandsSpend, ended, further}
 use Rattle.test_runner.proofs.Carrying.{at_drop, at_take, carried_join, cut_join, cut_on, explained_on, few_counted, left_more, left_refused, parted}
 use Rattle.test_runner.proofs.Beginning.{quiet_carried, quiet_spend, rest_holds}
-use Rattle.test_runner.proofs.Serving.{sure_as}
 use Rattle.test_runner.proofs.Spending.{cut_there}
 use Rattle.test_runner.proofs.running.run_commands.Goals as goal
 
@@ -135,4 +134,4 @@ returns-in_err-more-clause-explained g c =
 pub returns-in_err-more-clause-sure : goal.returns-in_err-more-clause-sure
 returns-in_err-more-clause-sure g c =
     let p = err_from_is_err_and c.from_residual.result c.from_residual.ensures.1 in
-    rw (p.1, p.2) (sure_as _ _ c.in_err-more.field-0.0 c.in_err-more.ensures.sure)
+    rw (p.1, p.2) c.in_err-more.ensures.sure
