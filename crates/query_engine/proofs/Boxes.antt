@@ -1,13 +1,13 @@
 -- Lists of engines, place by place.
-use Rattle.std.proofs.Common.{◌≡◌, ◌∙◌, ℕ, zero, suc, ◌+◌, ◌-◌, ◌<◌, ◌≤◌, ◌⊎◌, List, [], ◌∷◌, ◌++◌, drop, get_or, length, map, take, slice_get, slice_set, refl, sym, ap, ap₂, subst, arith, Some, None, ⊎_elim}
-use Rattle.std.specs.Prelude.{Option, Result, Ok, Err, remove}
+use Rattle.std.proofs.Common.{◌≡◌, ◌∙◌, ℕ, zero, suc, ◌+◌, ◌-◌, ◌<◌, ◌≤◌, ◌⊎◌, List, [], ◌∷◌, ◌++◌, drop, get_or, length, map, take, slice_get, slice_set, refl, sym, ap, ap₂, subst, arith, Some, ⊎_elim}
+use Rattle.std.specs.Prelude.{remove}
 use Rattle.std.specs.List.{AllZip}
 use Rattle.std.proofs.lemmas.Bool.{cases_eq}
 use Rattle.std.proofs.lemmas.List.{map-set}
 use Rattle.std.proofs.lemmas.Option.{slice_get_read}
 use Rattle.exchange.specs.Calls.{Each, IsCalled}
 use Rattle.remote_api.specs.Seen.{EngineSeen, IsBegun}
-use Rattle.query_engine.specs.Engines.{last_place, moved_last}
+use Rattle.query_engine.specs.Engines.{moved_last}
 
 -- ---- places
 
@@ -117,12 +117,12 @@ none_begun es = record { below = λ k e l at. absurd (omega (arith, l)); above =
 
 pub one_more : (n : ℕ) (es fs gs : List EngineSeen) → BegunUpTo n es fs → IsCalled n IsBegun fs gs → BegunUpTo (n + 1) es gs
 one_more n es fs gs begun called = record {
-    below = λ k e l at. ⊎_elim
-    (λ same. here k e same at)
-    (λ other. let o = begun.below k e (omega (arith, l, other)) at in (o.0, called.others k other ∙ o.1, o.2))
-    (cases_eq k n);
-    above = λ k l. called.others k (λ same. absurd (omega (arith, l, same))) ∙ begun.above k (omega (arith, l));
-  }
+  below = λ k e l at. ⊎_elim
+      (λ same. here k e same at)
+      (λ other. let o = begun.below k e (omega (arith, l, other)) at in (o.0, called.others k other ∙ o.1, o.2))
+      (cases_eq k n);
+  above = λ k l. called.others k (λ same. absurd (omega (arith, l, same))) ∙ begun.above k (omega (arith, l));
+}
   where
     here : (k : ℕ) (e : EngineSeen) → k ≡ n → slice_get es k ≡ Some e → (f : EngineSeen) × (slice_get gs k ≡ Some f) × IsBegun e f
     here k e same at =

@@ -4,7 +4,7 @@ use Rattle.std.proofs.Common.{◌≡◌, ◌∙◌, ℕ, List, ap, subst, sym, t
 use Rattle.std.specs.Prelude.{ℤ, Result, Ok, Err, IfOk}
 use Rattle.logical_plan.specs.Lowering.{PatternsArePlaced}
 use Rattle.logical_plan.specs.PlanMeaning.{plan_meaning}
-use Rattle.logical_plan.specs.PlanTypes.{IsTyped, typing}
+use Rattle.logical_plan.specs.PlanTypes.{IsTyped}
 use Rattle.logical_plan.specs.Shown.{shown}
 use Rattle.logical_plan.specs.Steadiness.{OncesAreSteady}
 use Rattle.logical_plan.specs.Validity.{IsValid, IsWithinLimits}
@@ -21,8 +21,7 @@ use Rattle.promql_meaning.specs.Selecting.{Asked}
 use Rattle.promql_type.specs.Kinds.{is_number}
 use Rattle.promql_type.specs.Replacements.{Kept}
 use Rattle.promql_type.specs.declared.replace.Placed.{Placed}
-use Rattle.query_engine.specs.Planning.{AsksAllWhereKept, GivesNumbers, IsServedOverWhereKept, IsServedWhereKept, gathered_plan, plan_of}
-use Rattle.query_engine.specs.declared.options.Options.{Options}
+use Rattle.query_engine.specs.Planning.{AsksAllWhereKept, GivesNumbers, IsServedOverWhereKept, IsServedWhereKept}
 use Rattle.query_engine.proofs.Unasked.{served_asks_none}
 
 module _ (p : Plan) (e : Expr) (placed : List Placed) (engines : ℕ) (kept : Kept) where

@@ -1,6 +1,6 @@
 -- Over a store without series a plan costs nothing, and none of its selectors looks at a series.
-use Rattle.std.proofs.Common.{◌≡◌, ◌∙◌, ◌+◌, ◌*◌, ◌≤◌, ℕ, Bool, List, [], ◌∷◌, ◌++◌, length, map, Option, None, Some, ap, ap₂, arith, refl, sym, subst}
-use Rattle.std.specs.Prelude.{ℤ, min, sum_by}
+use Rattle.std.proofs.Common.{◌≡◌, ◌∙◌, ◌+◌, ◌≤◌, ℕ, List, [], ◌∷◌, ◌++◌, length, map, Option, None, Some, ap, ap₂, arith, refl, sym, subst}
+use Rattle.std.specs.Prelude.{ℤ}
 use Rattle.std.specs.List.{fold}
 use Rattle.label_set.specs.declared.rules.Rule.{Rule}
 use Rattle.logical_plan.specs.declared.nodes.Plan.{Plan}
@@ -10,9 +10,9 @@ use Rattle.logical_plan.specs.declared.nodes.PlanNode.TheViews.{roll-PlanNode, r
 use Rattle.logical_plan.specs.declared.nodes.PlanNode.TheFolds.{map-PlanNode, fold-PlanNode, fold-roll-PlanNode, fold-roll-Plan, ind-Plan}
 use Rattle.plan_bases.specs.Bases.{Kept}
 use Rattle.plan_bases.specs.Leaves.{leaves_of}
-use Rattle.plan_bases.specs.Looks.{LooksAt, distinct_behind, filter_tests, filters_test, leaf_tests, plan_looks, selectors_look}
+use Rattle.plan_bases.specs.Looks.{distinct_behind, filter_tests, filters_test, leaf_tests, plan_looks}
 use Rattle.plan_bases.specs.declared.leaves.Leaf.{Leaf}
-use Rattle.plan_tree.specs.Spending.{Cost, RisesBy, both, nothing}
+use Rattle.plan_tree.specs.Spending.{Cost, both, nothing}
 use Rattle.plan_work.specs.Measures.{all_of, node_measure}
 use Rattle.plan_work.specs.PlanBounds.{Bounding, costs, first_alone, inner_times, plan_bound, selector_bound}
 use Rattle.promql_ast.specs.declared.tree.Moment.{Moment}

@@ -1,5 +1,5 @@
 -- What an evaluation over the first boxes of a list makes of all of them, and of one that is lost.
-use Rattle.std.proofs.Common.{◌≡◌, ◌∙◌, ℕ, ◌-◌, ◌<◌, ◌≤◌, true, List, [], ◌∷◌, ◌++◌, drop, length, map, take, slice_get, refl, sym, ap, subst, arith, Option, Some, None}
+use Rattle.std.proofs.Common.{◌≡◌, ◌∙◌, ℕ, ◌-◌, ◌<◌, ◌≤◌, List, ◌++◌, drop, length, map, take, slice_get, refl, sym, ap, subst, arith, Option, Some, None}
 use Rattle.std.specs.Prelude.{Result, Ok, Err, IfErr, IfSome, MatchOption, remove}
 use Rattle.exchange.specs.Calls.{Each, Grows}
 use Rattle.exchange.specs.Faults.{Faulted, HasFailed, HasStrayed}
@@ -44,11 +44,11 @@ lacking es fs h = record { many = h.many; grown = h.grown; calm = tt; fault = tt
 -- engines that were begun
 pub begun_gone : (es fs : List EngineSeen) → length fs ≡ length es → Each IsBegun es fs → HasGone done es fs
 begun_gone es fs many begun = record {
-    many = many;
-    grown = λ i e at. (let o = begun i e at in (o.0, o.1, record { holding = o.2.holding; faults = o.2.faults.cause.later; sound = o.2.faults.sound }));
-    calm = λ i e at. (let o = begun i e at in (o.0, o.1, o.2.strays));
-    fault = tt;
-  }
+  many = many;
+  grown = λ i e at. (let o = begun i e at in (o.0, o.1, record { holding = o.2.holding; faults = o.2.faults.cause.later; sound = o.2.faults.sound }));
+  calm = λ i e at. (let o = begun i e at in (o.0, o.1, o.2.strays));
+  fault = tt;
+}
 
 pub begun_are : (es fs : List EngineSeen) → length fs ≡ length es → Each IsBegun es fs → AreBegun fs
 begun_are es fs many begun i f at = let o = before_each IsBegun es fs i f many begun at in (o.2.forgotten, o.2.going)
@@ -147,32 +147,32 @@ module _ (es fs : List EngineSeen) (many : length fs ≡ length es) (grown : Eac
 
   one_lost : (i : ℕ) (before now : List Names) (gs : List EngineSeen) → i < length before → length before ≤ length es → now ≡ remove before i → gs ≡ moved_last i fs → Loses i before now es gs
   one_lost i before now gs inside within labels moved = record {
-      one = inside;
-      labels = labels;
-      many = ap length moved ∙ moved_size i fs (omega (arith, inside, within, many)) ∙ many;
-      boxes = subst (Each Grows (moved_last i es)) (sym moved) (each_moved Grows i es fs many grown);
-    }
+    one = inside;
+    labels = labels;
+    many = ap length moved ∙ moved_size i fs (omega (arith, inside, within, many)) ∙ many;
+    boxes = subst (Each Grows (moved_last i es)) (sym moved) (each_moved Grows i es fs many grown);
+  }
 
   failed_last : (i : ℕ) (gs : List EngineSeen) → gs ≡ moved_last i fs → HasFailed i es fs → HasFailed (last_place es) (moved_last i es) gs
   failed_last i gs moved h = record {
-      e = h.e;
-      f = h.f;
-      e_at = moved_there i (length es) es h.e refl h.e_at;
-      f_at = ap (λ (l : List EngineSeen). slice_get l (length es - 1)) moved ∙ moved_there i (length es) fs h.f (sym many) h.f_at;
-      rose = h.rose;
-      unsound = h.unsound;
-    }
+    e = h.e;
+    f = h.f;
+    e_at = moved_there i (length es) es h.e refl h.e_at;
+    f_at = ap (λ (l : List EngineSeen). slice_get l (length es - 1)) moved ∙ moved_there i (length es) fs h.f (sym many) h.f_at;
+    rose = h.rose;
+    unsound = h.unsound;
+  }
 
   strayed_last : (i : ℕ) (one : Stray) (gs : List EngineSeen) → gs ≡ moved_last i fs → HasStrayed i one es fs → HasStrayed (last_place es) one (moved_last i es) gs
   strayed_last i one gs moved h = record {
-      e = h.e;
-      f = h.f;
-      e_at = moved_there i (length es) es h.e refl h.e_at;
-      f_at = ap (λ (l : List EngineSeen). slice_get l (length es - 1)) moved ∙ moved_there i (length es) fs h.f (sym many) h.f_at;
-      rose = h.rose;
-      last = h.last;
-      untold = h.untold;
-    }
+    e = h.e;
+    f = h.f;
+    e_at = moved_there i (length es) es h.e refl h.e_at;
+    f_at = ap (λ (l : List EngineSeen). slice_get l (length es - 1)) moved ∙ moved_there i (length es) fs h.f (sym many) h.f_at;
+    rose = h.rose;
+    last = h.last;
+    untold = h.untold;
+  }
 
   -- a fault takes the labels of the engine that it names, and its box was moved
   pub lost : (fault : RunFault) (before now : List Names) (gs : List EngineSeen) → length before ≤ length es → IfSome (named_by fault) (λ i. i < length before)

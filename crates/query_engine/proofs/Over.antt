@@ -1,5 +1,5 @@
 -- The result of a query over engines at which samples stand.
-use Rattle.std.proofs.Common.{◌≡◌, ◌∙◌, ℕ, zero, suc, ◌<◌, true, List, [], ◌∷◌, length, slice_get, map, take, Option, None, Some, ap, arith, refl, subst, sym}
+use Rattle.std.proofs.Common.{◌≡◌, ◌∙◌, ℕ, zero, suc, ◌<◌, true, List, [], ◌∷◌, length, slice_get, take, Option, None, Some, ap, arith, refl, subst, sym}
 use Rattle.std.specs.Prelude.{ℤ, Bool, Result, Ok, Err, IfOk, is_some}
 use Rattle.std.specs.Option.{option_map}
 use Rattle.exchange.specs.Calls.{Each}
@@ -12,11 +12,9 @@ use Rattle.logical_plan.specs.declared.nodes.Plan.{Plan}
 use Rattle.opt_matchers.specs.Handing.{HaveLabelSets}
 use Rattle.opt_remote.specs.Engines.{ArePartedOver, held_by}
 use Rattle.parting_laws.specs.Parted.{Engine}
-use Rattle.plan_parts.specs.Gathered.{AreHeld, held_by as held_there}
-use Rattle.plan_parts.specs.Laws.{GathersAreMeant}
+use Rattle.plan_parts.specs.Gathered.{held_by as held_there}
 use Rattle.plan_parts.specs.Parts.{OncesStay}
 use Rattle.plan_parts.specs.Requested.{AreMeant, asked_with}
-use Rattle.plan_tree.specs.Asking.{gathered_by}
 use Rattle.plan_tree.specs.Shapes.{Shape, rule}
 use Rattle.plan_tree.specs.Worlds.{Gathers, no_gathers, world}
 use Rattle.promql_ast.specs.Edged.{edged}
@@ -84,9 +82,9 @@ held_now (labels ∷ declared) (e ∷ es) [] (x ∷ engines) same held = absurd 
     nowhere : (f : EngineSeen) → slice_get [] 0 ≡ Some f → ⊥
     nowhere f is = cc
 held_now (labels ∷ declared) (e ∷ es) (f ∷ fs) (x ∷ engines) same held = (
-    record { declared = held.0.declared; tells = ap (option_map (λ (h : Holding). h.samples)) (here (same 0 e refl).0 (same 0 e refl).1 (same 0 e refl).2) ∙ held.0.tells },
-    held_now declared es fs engines (λ i y at. same (suc i) y at) held.1,
-  )
+  record { declared = held.0.declared; tells = ap (option_map (λ (h : Holding). h.samples)) (here (same 0 e refl).0 (same 0 e refl).1 (same 0 e refl).2) ∙ held.0.tells },
+  held_now declared es fs engines (λ i y at. same (suc i) y at) held.1,
+)
   where
     here : (g : EngineSeen) → Some f ≡ Some g → g.holding ≡ e.holding → f.holding ≡ e.holding
     here g is h = let s : f ≡ g = cc in ap (λ (y : EngineSeen). y.holding) s ∙ h
@@ -116,7 +114,7 @@ module _ (grid : Grid) (kept : Kept) (store : AllSeries) (p : Plan) (e : Expr) (
     (means : (asked : Asked) (t : ℤ) → ArePartedOver count asked → HaveLabelSets asked → PatternsArePlaced asked.kept placed e → plan_meaning asked p t ≡ shown (meaning asked e t))
     (there : PatternsArePlaced kept placed e)
     (gives : (engines : List AllSeries) (gathers : Gathers) → AreMeant (asked_with store kept grid engines) requests gathers → OncesStay (asked_with store kept grid engines) p
-        → (t : ℤ) → IsInstant (GridWalk grid) t → rule (world store gathers) kept shape t ≡ plan_step (asked_with store kept grid engines) p t)
+    → (t : ℤ) → IsInstant (GridWalk grid) t → rule (world store gathers) kept shape t ≡ plan_step (asked_with store kept grid engines) p t)
     (stay : (asked : Asked) → OncesStay asked p)
     (unread : (asked : Asked) (samples : AllSeries) (t : ℤ) → plan_meaning (record asked { samples = samples }) p t ≡ plan_meaning asked p t)
     (declared : List Names) (samples : AllSeries) (es : List EngineSeen) (size : length declared ≡ count) (stand : StandAt declared es samples) where

@@ -56,11 +56,7 @@ fn move_last(engines: &mut [Box<dyn Engine>], i: usize)
 
 /// Takes the engine that a fault names out of those that are declared: its labels go, and its box moves behind all others. Where the
 /// fault names none nothing changes. It takes no memory.
-pub(crate) fn lose(
-    engines: &mut [Box<dyn Engine>],
-    declared: &mut Items<Labels>,
-    fault: &RunFault,
-)
+pub(crate) fn lose(engines: &mut [Box<dyn Engine>], declared: &mut Items<Labels>, fault: &RunFault)
     requires named { IfSome (named_by fault.now) (λ i. i < length declared.old) }
     requires boxes { IfSome (named_by fault.now) (λ i. i < length engines.old) }
     ensures labels { MatchOption (named_by fault.now) (declared.new ≡ declared.old) (λ i. declared.new ≡ remove declared.old i) }

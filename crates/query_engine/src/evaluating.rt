@@ -219,9 +219,7 @@ pub fn evaluate<C: Courier, W: Ledger>(
     ensures never { AreSoundAndTell (take (length declared.old) (map (λ b. seen b) engines.old.items)) → IsNoFault result }
 {
     if declared.as_slice().is_empty() {
-        return or_memory(over_store(
-            alloc, text, grid, instant, options, store, work,
-        ));
+        return or_memory(over_store(alloc, text, grid, instant, options, store, work));
     }
     over_declared(
         alloc,

@@ -1,4 +1,4 @@
-use Rattle.std.proofs.Common.{◌≡◌, ◌∙◌, ℕ, List, [], ap, length, map, subst, sym}
+use Rattle.std.proofs.Common.{◌≡◌, ◌∙◌, [], ap, length, map, subst, sym}
 use Rattle.exchange.specs.Calls.{Each}
 use Rattle.promql_ast.specs.Edged.{edged}
 use Rattle.promql_ast.specs.declared.refusal.QueryRefusal.{QueryRefusal}
@@ -72,14 +72,11 @@ returns-in-Ok-typed_tree-clause-run g c =
 pub returns-in-Err-Refused-clause-run : goal.returns-in-Err-Refused-clause-run
 returns-in-Err-Refused-clause-run g c = given _ _ _ (begun_gone _ _ (map_size (λ b. (goal.Engine-dyn g (b.vtable, b.value)).seen b.value) c.begin.new.engines ∙ c.begin.ensures.len ∙ sym (map_size (λ b. (goal.Engine-dyn g (b.vtable, b.value)).seen b.value) c.args.engines.now)) c.begin.ensures.begun)
 
-pub returns-in-Err-Memory-clause-run : goal.returns-in-Err-Memory-clause-run
-returns-in-Err-Memory-clause-run g c = lacking _ _ (begun_gone _ _ (map_size (λ b. (goal.Engine-dyn g (b.vtable, b.value)).seen b.value) c.begin.new.engines ∙ c.begin.ensures.len ∙ sym (map_size (λ b. (goal.Engine-dyn g (b.vtable, b.value)).seen b.value) c.args.engines.now)) c.begin.ensures.begun)
+pub returns-clause-run : goal.returns-clause-run
+returns-clause-run g c = lacking _ _ (begun_gone _ _ (map_size (λ b. (goal.Engine-dyn g (b.vtable, b.value)).seen b.value) c.begin.new.engines ∙ c.begin.ensures.len ∙ sym (map_size (λ b. (goal.Engine-dyn g (b.vtable, b.value)).seen b.value) c.args.engines.now)) c.begin.ensures.begun)
 
 pub returns-in_default-clause-unmoved : goal.returns-in_default-clause-unmoved
 returns-in_default-clause-unmoved g c = idle_still c.args.work.now
 
 pub returns-in-Err-Refused-clause-unmoved : goal.returns-in-Err-Refused-clause-unmoved
 returns-in-Err-Refused-clause-unmoved g c = idle_still c.args.work.now
-
-pub returns-in-Err-Memory-clause-unmoved : goal.returns-in-Err-Memory-clause-unmoved
-returns-in-Err-Memory-clause-unmoved g c = idle_still c.args.work.now

@@ -1,7 +1,6 @@
-use Rattle.std.proofs.Common.{◌≡◌, ◌∙◌, ◌<◌, ◌≤◌, List, ap, length, map, refl, subst, sym, take}
+use Rattle.std.proofs.Common.{◌<◌, ◌≤◌, ap, length, map, refl, subst, sym, take}
 use Rattle.std.specs.Prelude.{Err, IfSome}
 use Rattle.promql_meaning.specs.declared.answer.Outcome.{Outcome}
-use Rattle.remote_api.specs.Seen.{EngineSeen}
 use Rattle.query_engine.specs.Engines.{AreSoundAndTell, named_by}
 use Rattle.query_engine.proofs.Boxes.{map_size}
 use Rattle.query_engine.proofs.Lost.{all_faulted, all_grown, as_many, lost, lost_last, named_boxes, named_inside, none_at_fault, none_lost, seen_moved}

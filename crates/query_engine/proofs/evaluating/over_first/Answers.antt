@@ -1,5 +1,4 @@
 use Rattle.std.proofs.Common.{◌≡◌, List, length, map, subst, sym, take}
-use Rattle.parting_laws.specs.Parted.{Engine}
 use Rattle.promql_meaning.specs.Selecting.{AllSeries}
 use Rattle.promql_meaning.specs.declared.answer.Outcome.{Outcome}
 use Rattle.remote_api.specs.Seen.{EngineSeen}

@@ -1,8 +1,6 @@
-use Rattle.std.proofs.Common.{◌≡◌, ◌∙◌, ℕ, List, [], map, length, Option, None, Some, refl, subst, sym}
-use Rattle.std.specs.Prelude.{ℤ, IfOk}
-use Rattle.exchange.specs.declared.request.Request.{Request}
+use Rattle.std.proofs.Common.{◌≡◌, ◌∙◌, [], map, length, Option, None, Some, refl, subst, sym}
+use Rattle.std.specs.Prelude.{IfOk}
 use Rattle.frac_text.specs.Times.{time_limit}
-use Rattle.logical_plan.specs.PlanMeaning.{plan_meaning}
 use Rattle.plan_parts.specs.Requested.{AreMeant, asked_with}
 use Rattle.plan_tree.specs.Asking.{gathered_by}
 use Rattle.plan_tree.specs.Chains.{IsReady}
@@ -13,15 +11,12 @@ use Rattle.opt_remote.specs.Engines.{held_by}
 use Rattle.promql_ast.specs.declared.tree.Expr.{Expr}
 use Rattle.promql_meaning.specs.Meaning.{meaning_step}
 use Rattle.promql_meaning.specs.Results.{grid_times, result_of}
-use Rattle.promql_meaning.specs.Selecting.{AllSeries, Asked, asked_over}
-use Rattle.promql_meaning.specs.declared.answer.Outcome.{Outcome}
+use Rattle.promql_meaning.specs.Selecting.{Asked, asked_over}
 use Rattle.promql_type.specs.Judging.{judged}
 use Rattle.promql_type.specs.Replacements.{Kept}
 use Rattle.promql_type.specs.TypedTrees.{placed_of, tree_of}
-use Rattle.remote_api.specs.Seen.{EngineSeen}
 use Rattle.step_table.specs.Timed.{steps_over}
 use Rattle.ticks.specs.Durations.{hundred_years}
-use Rattle.query_engine.specs.Engines.{StandAt}
 use Rattle.query_engine.proofs.Boxes.{map_size}
 use Rattle.query_engine.proofs.Idle.{idle_still, stays_idle}
 use Rattle.query_engine.proofs.Lost.{lacking}
@@ -44,8 +39,11 @@ collected-requires-clause-ready g c =
     subst (λ (k : Kept). (known : Option Gathers) × IsReady c.new-store.result k known es tree) (sym c.build.ensures.same)
     (by_requests requests
     (λ none. (Some no_gathers, c.in-Ok-build.ensures.ready none es))
-    (λ some. (None, c.in-Ok-build.ensures.asks some None es c.requires.begun
-        (have_engines requests es p c.count_of.result (c.count_of.ensures ∙ size) (c.in-Ok.ensures.asked kept hundred_years time_limit c.requires.within c.requires.kept) c.in-Ok-build.ensures.named) tt)))
+    (λ some. (
+      None,
+      c.in-Ok-build.ensures.asks some None es c.requires.begun
+          (have_engines requests es p c.count_of.result (c.count_of.ensures ∙ size) (c.in-Ok.ensures.asked kept hundred_years time_limit c.requires.within c.requires.kept) c.in-Ok-build.ensures.named) tt,
+    )))
 
 -- where samples stand at the engines, it gives over them what the query means
 pub returns-in-Ok-build-clause-result : goal.returns-in-Ok-build-clause-result
@@ -65,17 +63,19 @@ returns-in-Ok-build-clause-result g c =
     let placed = c.kept_patterns_are_placed.ensures kept (placed_of c.args.typed.now) e well_typed c.requires.kept c.requires.apart in
     let engines = have_engines requests es p count (c.count_of.ensures ∙ many) (c.in-Ok.ensures.asked kept hundred_years time_limit c.requires.within c.requires.kept) c.in-Ok-build.ensures.named in
     let told = subst (λ (k : Kept). IfOk c.collected.result (λ outcome. (gathers : Gathers) (asked : Asked) → IsReady store k (Some gathers) es tree
-        → steps_over (rule (world store gathers) k shape) (grid_times grid) ≡ steps_over (meaning_step asked e) (grid_times grid) → outcome ≡ result_of asked e grid c.args.instant)) c.build.ensures.same c.collected.ensures.result in
+    → steps_over (rule (world store gathers) k shape) (grid_times grid) ≡ steps_over (meaning_step asked e) (grid_times grid) → outcome ≡ result_of asked e grid c.args.instant)) c.build.ensures.same c.collected.ensures.result in
     then_judged c.collected.result told (λ outcome gives declared samples size stand.
     let bare = asked_with store kept grid (held_by stand.engines) in
     let choice : (gathers : Gathers) × AreMeant bare requests gathers × IsReady store kept (Some gathers) es tree = by_requests requests
-        (λ none. (no_gathers, none_asked bare requests none, c.in-Ok-build.ensures.ready none es))
-        (λ some. (gathered_by grid kept es requests,
-            c.gathers_are_meant.ensures bare grid kept es requests (record { kept_are = refl; starts = refl; ends = refl }) (are_held declared es stand.engines (size ∙ many) stand.held),
-            c.in-Ok-build.ensures.asks some (Some (gathered_by grid kept es requests)) es c.requires.begun engines
-                (record { tell = all_tell declared es stand.engines (size ∙ many) stand.held; gathered = refl }))) in
+    (λ none. (no_gathers, none_asked bare requests none, c.in-Ok-build.ensures.ready none es))
+    (λ some. (
+      gathered_by grid kept es requests,
+      c.gathers_are_meant.ensures bare grid kept es requests (record { kept_are = refl; starts = refl; ends = refl }) (are_held declared es stand.engines (size ∙ many) stand.held),
+      c.in-Ok-build.ensures.asks some (Some (gathered_by grid kept es requests)) es c.requires.begun engines
+          (record { tell = all_tell declared es stand.engines (size ∙ many) stand.held; gathered = refl }),
+    )) in
     let meant = steps_meant grid kept store p e (placed_of c.args.typed.now) shape requests count (c.grids_are_listed.ensures grid) c.in-Ok.ensures.means placed c.in-Ok-build.ensures.gives
-        (λ asked. c.steady_onces_stay.ensures asked p c.in-Ok.ensures.onces) (λ asked samples t. c.stores_are_not_read.ensures asked samples p t c.in-Ok.ensures.gathered) declared samples es (size ∙ sym c.count_of.ensures) stand choice.0 choice.1 in
+    (λ asked. c.steady_onces_stay.ensures asked p c.in-Ok.ensures.onces) (λ asked samples t. c.stores_are_not_read.ensures asked samples p t c.in-Ok.ensures.gathered) declared samples es (size ∙ sym c.count_of.ensures) stand choice.0 choice.1 in
     gives choice.0 (asked_with samples kept grid (held_by stand.engines)) choice.2 meant ∙ result_unread (asked_over samples kept grid) (held_by stand.engines) e grid c.args.instant)
 
 -- nothing was spent yet
