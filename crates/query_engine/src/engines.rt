@@ -54,9 +54,10 @@ fn move_last(engines: &mut [Box<dyn Engine>], i: usize)
     engines[i..].rotate_left(1);
 }
 
-/// Takes the engine that a fault names out of those that are declared: its labels go, and its box moves behind all others. Where the
-/// fault names none nothing changes. It takes no memory.
-pub(crate) fn lose(engines: &mut [Box<dyn Engine>], declared: &mut Items<Labels>, fault: &RunFault)
+/// Takes the engine that a fault names, counted from 0, out of those that are declared, which are the first boxes: its labels go, and its
+/// box moves behind all others, which stay in their order. The engine must be one of the declared ones. Where the fault names none, as want
+/// of memory does, nothing changes. It takes no memory and can't fail.
+pub fn lose(engines: &mut [Box<dyn Engine>], declared: &mut Items<Labels>, fault: &RunFault)
     requires named { IfSome (named_by fault.now) (λ i. i < length declared.old) }
     requires boxes { IfSome (named_by fault.now) (λ i. i < length engines.old) }
     ensures labels { MatchOption (named_by fault.now) (declared.new ≡ declared.old) (λ i. declared.new ≡ remove declared.old i) }

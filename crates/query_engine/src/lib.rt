@@ -1,4 +1,4 @@
-//! What the text of a query comes to over the samples of a store, its typed tree, and its plan.
+//! What the text of a query comes to over the samples of a store or of engines, its typed tree, and its plan.
 //! Its rows of tests stand in `query_tests`.
 #![tactic(auto)]
 
@@ -9,6 +9,7 @@ mod planning;
 mod reading;
 mod streaming;
 
+pub use engines::lose;
 pub use evaluating::evaluate;
 pub use options::Options;
 pub use planning::rewritten;
