@@ -1,6 +1,6 @@
 -- What an evaluation over the first boxes of a list makes of all of them, and of one that is lost.
 use Rattle.std.proofs.Common.{◌≡◌, ◌∙◌, ℕ, ◌-◌, ◌<◌, ◌≤◌, List, ◌++◌, drop, length, map, take, slice_get, refl, sym, ap, subst, arith, Option, Some, None}
-use Rattle.std.specs.Prelude.{Result, Ok, Err, IfErr, IfSome, MatchOption, remove}
+use Rattle.std.specs.Prelude.{Result, Ok, Err, IfErr, IfSome, MatchOption, OnOk, remove}
 use Rattle.exchange.specs.Calls.{Each, Grows}
 use Rattle.exchange.specs.Faults.{Faulted, HasFailed, HasStrayed}
 use Rattle.exchange.specs.declared.fault.RunFault.{RunFault}
@@ -103,6 +103,13 @@ module _ {B T : Type 0} (f : B → EngineSeen) (n : ℕ) (bs cs : List B) (r : R
     pub all_grown : Each Grows es fs
     all_grown = each_whole Grows grows_itself n es fs fronts.grown (sym (map_drop f n cs) ∙ ap (map f) rest ∙ map_drop f n bs)
 
+    pub all_calm : OnOk r (Each KeepsStrays es fs)
+    all_calm = by_result r fronts.calm
+      where
+        by_result : (s : Result T RunFault) → OnOk s (Each KeepsStrays (take n es) (take n fs)) → OnOk s (Each KeepsStrays es fs)
+        by_result (Ok x) h = each_whole KeepsStrays strays_itself n es fs h (sym (map_drop f n cs) ∙ ap (map f) rest ∙ map_drop f n bs)
+        by_result (Err x) h = tt
+
     pub all_faulted : Faulted r es fs
     all_faulted = faulted_whole r n es fs fronts.fault
 
@@ -188,6 +195,22 @@ module _ (es fs : List EngineSeen) (many : length fs ≡ length es) (grown : Eac
   lost_last T (run.OutOfStep i expected got) gs moved h = strayed_last i _ gs moved h
   lost_last T (run.WrongCell i at) gs moved h = strayed_last i _ gs moved h
 
+-- as many boxes stand there, whatever is left
+leaves_many : {T : Type 0} (r : Result T RunFault) (before now : List Names) (es fs : List EngineSeen) → Leaves r before now es fs → length fs ≡ length es
+leaves_many (Ok x) before now es fs h = h.many
+leaves_many (Err run.Memory) before now es fs h = h.many
+leaves_many (Err (run.EngineFault i)) before now es fs h = h.many
+leaves_many (Err (run.OutOfStep i expected got)) before now es fs h = h.many
+leaves_many (Err (run.WrongCell i at)) before now es fs h = h.many
+
+-- boxes that were written over as a whole have given no stray where those that were written have given none
+pub calm_whole : {B T : Type 0} (f : B → EngineSeen) (n : ℕ) (bs ds cs zs : List B) (r : Result T RunFault) (before now : List Names) → ds ≡ bs → length ds ≡ n → Leaves r before now (map f ds) (map f cs)
+    → OnOk r (Each KeepsStrays (map f ds) (map f cs)) → OnOk r (Each KeepsStrays (map f bs) (map f (take n (cs ++ zs))))
+calm_whole {B} f n bs ds cs zs r before now same size leaves calm =
+    let many : length cs ≡ n = sym (map_size f cs) ∙ leaves_many r before now (map f ds) (map f cs) leaves ∙ map_size f ds ∙ size in
+    subst (λ (xs : List B). OnOk r (Each KeepsStrays (map f bs) (map f xs))) (sym (take_front cs zs n many))
+    (subst (λ (xs : List B). OnOk r (Each KeepsStrays (map f xs) (map f cs))) same calm)
+
 -- boxes that were moved, as they are seen
 pub seen_moved : {B : Type 0} (f : B → EngineSeen) (named : Option ℕ) (bs cs : List B) → MatchOption named (cs ≡ bs) (λ i. cs ≡ moved_last i bs) → MatchOption named (map f cs ≡ map f bs) (λ i. map f cs ≡ moved_last i (map f bs))
 seen_moved f None bs cs is = ap (map f) is
@@ -204,6 +227,10 @@ module _ {T : Type 0} (declared : List Names) (es : List EngineSeen) where
   pub alone_faulted : (r : Result T RunFault) → IfErr r (λ fault. fault ≡ run.Memory) → FaultedLast r es es
   alone_faulted (Ok x) m = tt
   alone_faulted (Err fault) m = subst (λ (f : RunFault). FaultedLast {T = T} (Err f) es es) (sym m) tt
+
+  pub alone_calm : (r : Result T RunFault) → OnOk r (Each KeepsStrays es es)
+  alone_calm (Ok x) = λ i e at. (e, at, strays_itself e)
+  alone_calm (Err x) = tt
 
   pub alone_never : (r : Result T RunFault) → IfErr r (λ fault. fault ≡ run.Memory) → IsNoFault r
   alone_never (Ok x) m = tt

@@ -1,4 +1,5 @@
 //! The outcome of a query's text.
+ghost use Rattle.exchange.specs.Calls.{Each};
 ghost use Rattle.exchange.specs.declared.fault.RunFault.TheVariants as run;
 ghost use Rattle.plan_tree.specs.Feeding.{HasGone};
 ghost use Rattle.promql_meaning.specs.Selecting.{AllSeries};
@@ -7,7 +8,8 @@ ghost use Rattle.query_engine.specs.Bounds.{Spends};
 ghost use Rattle.query_engine.specs.Engines.{AreSoundAndTell, DoNotRise, FaultedLast, IsNoFault, Leaves, StandAt};
 ghost use Rattle.query_engine.specs.Evaluating.{ComesTo, IsRefused};
 ghost use Rattle.query_engine.specs.Planning.{choices_of};
-ghost use Rattle.std.specs.Prelude.{◌≡◌, ◌<◌, ◌≤◌, ◌^◌, List, [], IfErr, IfOk, drop, length, map, take};
+ghost use Rattle.remote_api.specs.Seen.{KeepsStrays};
+ghost use Rattle.std.specs.Prelude.{◌≡◌, ◌<◌, ◌≤◌, ◌^◌, List, [], IfErr, IfOk, OnOk, drop, length, map, take};
 ghost use Rattle.step_table.specs.Groups.{Names};
 
 use crate::engines::{begin, lose};
@@ -143,7 +145,7 @@ fn over_first<C: Courier, W: Ledger>(
 }
 
 /// The same over the first boxes of a list, as many as are declared. The engine that is told to have failed or strayed is lost; where
-/// each declared box is sound and tells what it holds there is none.
+/// each declared box is sound and tells what it holds there is none. Where there is no error none has strayed.
 fn over_declared<C: Courier, W: Ledger>(
     alloc: Global,
     text: &str,
@@ -162,6 +164,7 @@ fn over_declared<C: Courier, W: Ledger>(
     ensures unmoved { DoNotRise work.old work.new }
     ensures kept { Leaves result declared.old declared.new (map (λ b. seen b) engines.old) (map (λ b. seen b) engines.new) }
     ensures faulted { FaultedLast result (map (λ b. seen b) engines.old) (map (λ b. seen b) engines.new) }
+    ensures calm { OnOk result (Each KeepsStrays (map (λ b. seen b) engines.old) (map (λ b. seen b) engines.new)) }
     ensures never { AreSoundAndTell (take (length declared.old) (map (λ b. seen b) engines.old)) → IsNoFault result }
 {
     let count = declared.as_slice().len();
@@ -186,9 +189,9 @@ fn over_declared<C: Courier, W: Ledger>(
 /// Else the store isn't read, and it is that over the samples that stand at the declared engines, which are the first boxes; these
 /// are begun first, also where the text is refused. Whichever the courier picks doesn't change it. No counter rises. An engine that fails
 /// or strays is told, counted from 0; then its declared labels went and its box stands behind all others, which stay in their order.
-/// After every other answer boxes and declared labels are as they were. Each box holds what it held. Where each declared box is sound and
-/// tells what it holds the only error is want of memory. (Prometheus querying; the engines are those of thanos-io/promql-engine's
-/// distributed queries.)
+/// After every other answer boxes and declared labels stand as they stood. Each box holds what it held, and where there is no error none
+/// has strayed. Where each declared box is sound and tells what it holds the only error is want of memory. (Prometheus querying; the
+/// engines are those of thanos-io/promql-engine's distributed queries.)
 pub fn evaluate<C: Courier, W: Ledger>(
     alloc: Global,
     text: &str,
@@ -216,6 +219,7 @@ pub fn evaluate<C: Courier, W: Ledger>(
     // what becomes of labels and boxes
     ensures kept { Leaves result declared.old declared.new (map (λ b. seen b) engines.old.items) (map (λ b. seen b) engines.new.items) }
     ensures faulted { FaultedLast result (map (λ b. seen b) engines.old.items) (map (λ b. seen b) engines.new.items) }
+    ensures calm { OnOk result (Each KeepsStrays (map (λ b. seen b) engines.old.items) (map (λ b. seen b) engines.new.items)) }
     ensures never { AreSoundAndTell (take (length declared.old) (map (λ b. seen b) engines.old.items)) → IsNoFault result }
 {
     if declared.as_slice().is_empty() {

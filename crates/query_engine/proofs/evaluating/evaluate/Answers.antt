@@ -2,7 +2,7 @@ use Rattle.std.proofs.Common.{length, map, subst, sym, take}
 use Rattle.promql_meaning.specs.declared.answer.Outcome.{Outcome}
 use Rattle.query_engine.specs.Engines.{AreSoundAndTell}
 use Rattle.query_engine.specs.Evaluating.{ComesTo, IsRefused}
-use Rattle.query_engine.proofs.Lost.{alone_faulted, alone_leaves, alone_never}
+use Rattle.query_engine.proofs.Lost.{alone_calm, alone_faulted, alone_leaves, alone_never, calm_whole}
 use Rattle.query_engine.proofs.Streamed.{ok_at, then_judged}
 use Rattle.query_engine.proofs.evaluating.evaluate.Goals as goal
 
@@ -30,3 +30,12 @@ returns-then-is_empty-clause-never g c = λ good.
 pub returns-clause-never : goal.returns-clause-never
 returns-clause-never g c = λ good.
     c.over_declared.ensures.never (subst (λ bs. AreSoundAndTell (take (length c.args.declared.now) (map (λ b. (goal.Engine-dyn g (b.vtable, b.value)).seen b.value) bs))) (sym c.as_mut_slice.ensures.value) good)
+
+pub returns-then-is_empty-clause-calm : goal.returns-then-is_empty-clause-calm
+returns-then-is_empty-clause-calm g c =
+    alone_calm c.args.declared.now (map (λ b. (goal.Engine-dyn g (b.vtable, b.value)).seen b.value) c.args.engines.now.items) c.or_memory.result
+
+pub returns-clause-calm : goal.returns-clause-calm
+returns-clause-calm g c =
+    calm_whole (λ b. (goal.Engine-dyn g (b.vtable, b.value)).seen b.value) _ c.args.engines.now.items c.as_mut_slice.result.now c.over_declared.new.engines _ c.over_declared.result c.args.declared.now c.over_declared.new.declared
+    c.as_mut_slice.ensures.value c.as_mut_slice.ensures.len c.over_declared.ensures.kept c.over_declared.ensures.calm

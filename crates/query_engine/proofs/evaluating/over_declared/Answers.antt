@@ -1,9 +1,9 @@
 use Rattle.std.proofs.Common.{◌<◌, ◌≤◌, ap, length, map, refl, subst, sym, take}
-use Rattle.std.specs.Prelude.{Err, IfSome}
+use Rattle.std.specs.Prelude.{Err, IfSome, Ok}
 use Rattle.promql_meaning.specs.declared.answer.Outcome.{Outcome}
 use Rattle.query_engine.specs.Engines.{AreSoundAndTell, named_by}
 use Rattle.query_engine.proofs.Boxes.{map_size}
-use Rattle.query_engine.proofs.Lost.{all_faulted, all_grown, as_many, lost, lost_last, named_boxes, named_inside, none_at_fault, none_lost, seen_moved}
+use Rattle.query_engine.proofs.Lost.{all_calm, all_faulted, all_grown, as_many, lost, lost_last, named_boxes, named_inside, none_at_fault, none_lost, seen_moved}
 use Rattle.query_engine.proofs.evaluating.over_declared.Goals as goal
 
 pub returns-in-Ok-clause-outcome : goal.returns-in-Ok-clause-outcome
@@ -55,3 +55,7 @@ returns-in-Err-clause-never g c = λ good.
     let es = map (λ b. (goal.Engine-dyn g (b.vtable, b.value)).seen b.value) c.args.engines.now in
     none_at_fault (λ b. (goal.Engine-dyn g (b.vtable, b.value)).seen b.value) (length c.as_slice-count.result.now) c.args.engines.now c.over_first.new.engines (Err c.in-Err.fault) c.in-Err.ensures.run
     (subst (λ n. AreSoundAndTell (take n es)) (sym (ap length c.as_slice-count.ensures)) good)
+
+pub returns-in-Ok-clause-calm : goal.returns-in-Ok-clause-calm
+returns-in-Ok-clause-calm g c =
+    all_calm (λ b. (goal.Engine-dyn g (b.vtable, b.value)).seen b.value) (length c.as_slice-count.result.now) c.args.engines.now c.over_first.new.engines (Ok c.in-Ok.outcome) c.in-Ok.ensures.run c.over_first.ensures.rest c.over_first.ensures.many
