@@ -196,12 +196,12 @@ module _ (es fs : List EngineSeen) (many : length fs ≡ length es) (grown : Eac
   lost_last T (run.WrongCell i at) gs moved h = strayed_last i _ gs moved h
 
 -- as many boxes stand there, whatever is left
-leaves_many : {T : Type 0} (r : Result T RunFault) (before now : List Names) (es fs : List EngineSeen) → Leaves r before now es fs → length fs ≡ length es
-leaves_many (Ok x) before now es fs h = h.many
-leaves_many (Err run.Memory) before now es fs h = h.many
-leaves_many (Err (run.EngineFault i)) before now es fs h = h.many
-leaves_many (Err (run.OutOfStep i expected got)) before now es fs h = h.many
-leaves_many (Err (run.WrongCell i at)) before now es fs h = h.many
+leaves_many : {T : Type 0} (r : Result T RunFault) (before now : List Names) (ds gs : List EngineSeen) → Leaves r before now ds gs → length gs ≡ length ds
+leaves_many (Ok x) before now ds gs h = h.many
+leaves_many (Err run.Memory) before now ds gs h = h.many
+leaves_many (Err (run.EngineFault i)) before now ds gs h = h.many
+leaves_many (Err (run.OutOfStep i expected got)) before now ds gs h = h.many
+leaves_many (Err (run.WrongCell i at)) before now ds gs h = h.many
 
 -- boxes that were written over as a whole have given no stray where those that were written have given none
 pub calm_whole : {B T : Type 0} (f : B → EngineSeen) (n : ℕ) (bs ds cs zs : List B) (r : Result T RunFault) (before now : List Names) → ds ≡ bs → length ds ≡ n → Leaves r before now (map f ds) (map f cs)
