@@ -1,7 +1,8 @@
 -- What becomes of engines that a script is run over.
-use Rattle.std.proofs.Common.{◌≡◌, ◌∙◌, ℕ, ◌-◌, ◌<◌, ◌≤◌, true, false, List, [], ◌∷◌, length, map, suc, zero, take, slice_get, Option, Some, None, Result, Ok, Err, refl, sym, ap, subst, arith}
+use Rattle.std.proofs.Common.{◌≡◌, ◌∙◌, ℕ, ◌-◌, ◌<◌, ◌≤◌, true, false, List, [], ◌∷◌, ◌++◌, length, map, suc, zero, take, slice_get, Option, Some, None, Result, Ok, Err, refl, sym, ap, subst, arith}
 use Rattle.std.specs.Prelude.{IfErr, IfSome, IsOk, MatchOption, OnOk, is_some, remove, ⊤}
 use Rattle.std.specs.Option.{option_map}
+use Rattle.std.proofs.lemmas.List.{length-map}
 use Rattle.edge_io.specs.Causes.{Rose}
 use Rattle.exchange.specs.Calls.{Each, Grows}
 use Rattle.exchange.specs.Faults.{HasFailed, HasStrayed}
@@ -331,3 +332,25 @@ gone_serves X T n x y labels es ds gone = record { labels = refl; many = gone.ma
 pub seen_moved : {B : Type 0} (f : B → EngineSeen) (named : Option ℕ) (bs cs : List B) → MatchOption named (cs ≡ bs) (λ i. cs ≡ moved_last i bs) → MatchOption named (map f cs ≡ map f bs) (λ i. map f cs ≡ moved_last i (map f bs))
 seen_moved f None bs cs is = ap (map f) is
 seen_moved f (Some i) bs cs is = ap (map f) is ∙ map_moved f i bs
+
+-- ---- boxes that were written over as a whole
+
+leaves_many : {T : Type 0} (r : Result T RunnerFault) (before now : List LabelList) (es fs : List EngineSeen) → LeavesServing r before now es fs → length fs ≡ length es
+leaves_many (Ok x) before now es fs h = h.many
+leaves_many (Err fault) before now es fs h = by (lost_by fault) h
+  where
+    by : (named : Option ℕ) → ServesBut named before now es fs → length fs ≡ length es
+    by None h = h.many
+    by (Some i) h = h.many
+
+take_front : {X : Type 0} (ys zs : List X) (n : ℕ) → length ys ≡ n → take n (ys ++ zs) ≡ ys
+take_front [] zs zero size = refl
+take_front [] zs (suc n) size = absurd (omega (arith, size))
+take_front (y ∷ ys) zs zero size = absurd (omega (arith, size))
+take_front (y ∷ ys) zs (suc n) size = ap (λ (l : List _). y ∷ l) (take_front ys zs n (omega (arith, size)))
+
+pub written_over : {B : Type 0} (f : B → EngineSeen) (P : List EngineSeen → List EngineSeen → Type 0) (n : ℕ) (bs ds cs zs : List B) (T : Type 0) (r : Result T RunnerFault) (before now : List LabelList) → ds ≡ bs → length ds ≡ n
+    → LeavesServing r before now (map f ds) (map f cs) → P (map f ds) (map f cs) → P (map f bs) (map f (take n (cs ++ zs)))
+written_over f P n bs ds cs zs T r before now same size leaves h =
+    let many : length cs ≡ n = sym (length-map cs f) ∙ leaves_many r before now (map f ds) (map f cs) leaves ∙ length-map ds f ∙ size in
+    subst (λ (xs : List _). P (map f bs) (map f xs)) (sym (take_front cs zs n many)) (subst (λ (xs : List _). P (map f xs) (map f cs)) same h)

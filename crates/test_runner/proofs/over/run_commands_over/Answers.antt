@@ -97,13 +97,13 @@ loop-i-preserved g c =
     let mid = inv.mid.0 in
     let d = c.args.declared.now in
     let has = subst (AllByRecursion (λ (one : Command). HasItsPatterns c.args.searches.now one.what)) (at_drop all i command lt is) inv.kept in
-    let sum = c.plus.ensures in
+    let sum = c.plus-totals.ensures in
     record {
       many = c.in-Ok.ensures.boxes.many ∙ inv.many;
       stays = all_on (map (λ b. (goal.Engine-dyn g (b.vtable, b.value)).seen b.value) c.args.engines.now.items) (map (λ b. (goal.Engine-dyn g (b.vtable, b.value)).seen b.value) c.loop-i.engines.items) (map (λ b. (goal.Engine-dyn g (b.vtable, b.value)).seen b.value) c.run_command_over.new.engines.items) inv.stays (all_still (map (λ b. (goal.Engine-dyn g (b.vtable, b.value)).seen b.value) c.loop-i.engines.items) (map (λ b. (goal.Engine-dyn g (b.vtable, b.value)).seen b.value) c.run_command_over.new.engines.items) c.in-Ok.ensures.boxes.boxes c.in-Ok.ensures.calm);
       labels = c.in-Ok.ensures.boxes.labels ∙ inv.labels;
       mid = carried_more d all i command (map (λ b. (goal.Engine-dyn g (b.vtable, b.value)).seen b.value) c.loop-i.engines.items) (map (λ b. (goal.Engine-dyn g (b.vtable, b.value)).seen b.value) c.run_command_over.new.engines.items) lt is c.requires.taken inv.mid (subst (λ (l : List LabelList). Carry l (map (λ b. (goal.Engine-dyn g (b.vtable, b.value)).seen b.value) c.loop-i.engines.items) (map (λ b. (goal.Engine-dyn g (b.vtable, b.value)).seen b.value) c.run_command_over.new.engines.items) (left_by l command.what)) inv.labels c.in-Ok.ensures.carried);
-      ran = λ tell. ran_more all i command mid (g.S.Sink.written c.run_command_over.new.out) c.in-Ok.more c.plus.result lt is (inv.ran tell) inv.mid.2 (subst (λ (k : PatternList). CarriedOut c.args.options.now.closed d k c.args.path.now mid (command ∷ []) (g.S.Sink.written c.loop-i.out) (g.S.Sink.written c.run_command_over.new.out) c.in-Ok.more) inv.same (subst (λ (l : List LabelList). CarriedOut c.args.options.now.closed l c.loop-i.searches c.args.path.now mid (command ∷ []) (g.S.Sink.written c.loop-i.out) (g.S.Sink.written c.run_command_over.new.out) c.in-Ok.more) inv.labels (c.in-Ok.ensures.ran mid (subst (λ (l : List LabelList). HoldParts l (map (λ b. (goal.Engine-dyn g (b.vtable, b.value)).seen b.value) c.loop-i.engines.items) mid) (sym inv.labels) inv.mid.1) (subst (λ (l : List LabelList). AllTell (length l) (map (λ b. (goal.Engine-dyn g (b.vtable, b.value)).seen b.value) c.loop-i.engines.items)) (sym inv.labels) (tell_since (map (λ b. (goal.Engine-dyn g (b.vtable, b.value)).seen b.value) c.args.engines.now.items) (map (λ b. (goal.Engine-dyn g (b.vtable, b.value)).seen b.value) c.loop-i.engines.items) inv.many inv.stays (length d) tell)) (subst (λ (l : List LabelList). IsOk (left_by l command.what mid)) (sym inv.labels) (taken_next d all i command mid lt is c.requires.taken inv.mid.2))))) sum.passed sum.failed;
+      ran = λ tell. ran_more all i command mid (g.S.Sink.written c.run_command_over.new.out) c.in-Ok.more c.plus-totals.result lt is (inv.ran tell) inv.mid.2 (subst (λ (k : PatternList). CarriedOut c.args.options.now.closed d k c.args.path.now mid (command ∷ []) (g.S.Sink.written c.loop-i.out) (g.S.Sink.written c.run_command_over.new.out) c.in-Ok.more) inv.same (subst (λ (l : List LabelList). CarriedOut c.args.options.now.closed l c.loop-i.searches c.args.path.now mid (command ∷ []) (g.S.Sink.written c.loop-i.out) (g.S.Sink.written c.run_command_over.new.out) c.in-Ok.more) inv.labels (c.in-Ok.ensures.ran mid (subst (λ (l : List LabelList). HoldParts l (map (λ b. (goal.Engine-dyn g (b.vtable, b.value)).seen b.value) c.loop-i.engines.items) mid) (sym inv.labels) inv.mid.1) (subst (λ (l : List LabelList). AllTell (length l) (map (λ b. (goal.Engine-dyn g (b.vtable, b.value)).seen b.value) c.loop-i.engines.items)) (sym inv.labels) (tell_since (map (λ b. (goal.Engine-dyn g (b.vtable, b.value)).seen b.value) c.args.engines.now.items) (map (λ b. (goal.Engine-dyn g (b.vtable, b.value)).seen b.value) c.loop-i.engines.items) inv.many inv.stays (length d) tell)) (subst (λ (l : List LabelList). IsOk (left_by l command.what mid)) (sym inv.labels) (taken_next d all i command mid lt is c.requires.taken inv.mid.2))))) sum.passed sum.failed;
       few = omega (arith, inv.few, c.in-Ok.ensures.few, sum.passed, sum.failed);
       rests = λ none. c.in-Ok.ensures.rests (omega (arith, sum.passed, sum.failed, none)) ∙ inv.rests (omega (arith, sum.passed, sum.failed, none));
       kept = has.1;
@@ -149,7 +149,7 @@ returns-in-Err-clause-unmoved g c = idle_then c.args.work.now c.loop-i.work c.ru
 pub returns-in-Err-clause-boxes : goal.returns-in-Err-clause-boxes
 returns-in-Err-clause-boxes g c =
     let inv = c.loop-i.invariant in
-    leaves_since (map (λ b. (goal.Engine-dyn g (b.vtable, b.value)).seen b.value) c.args.engines.now.items) (map (λ b. (goal.Engine-dyn g (b.vtable, b.value)).seen b.value) c.loop-i.engines.items) inv.many inv.stays _ c.run_command_over.result c.args.declared.now c.loop-i.declared c.run_command_over.new.declared (map (λ b. (goal.Engine-dyn g (b.vtable, b.value)).seen b.value) c.run_command_over.new.engines.items) inv.labels c.in-Err.ensures.boxes
+    leaves_since (map (λ b. (goal.Engine-dyn g (b.vtable, b.value)).seen b.value) c.args.engines.now.items) (map (λ b. (goal.Engine-dyn g (b.vtable, b.value)).seen b.value) c.loop-i.engines.items) inv.many inv.stays ⊤ (Err c.in-Err.fault) c.args.declared.now c.loop-i.declared c.run_command_over.new.declared (map (λ b. (goal.Engine-dyn g (b.vtable, b.value)).seen b.value) c.run_command_over.new.engines.items) inv.labels c.in-Err.ensures.boxes
 
 pub returns-in-Err-clause-faulted : goal.returns-in-Err-clause-faulted
 returns-in-Err-clause-faulted g c = let inv = c.loop-i.invariant in faulted_since (map (λ b. (goal.Engine-dyn g (b.vtable, b.value)).seen b.value) c.args.engines.now.items) (map (λ b. (goal.Engine-dyn g (b.vtable, b.value)).seen b.value) c.loop-i.engines.items) inv.many inv.stays ⊤ (Err c.in-Err.fault) (map (λ b. (goal.Engine-dyn g (b.vtable, b.value)).seen b.value) c.run_command_over.new.engines.items) c.in-Err.ensures.faulted

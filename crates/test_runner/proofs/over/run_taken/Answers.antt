@@ -1,4 +1,4 @@
-use Rattle.std.proofs.Common.{◌≡◌, ◌≤◌, [], ap, arith, drop, length, map, refl, subst, sym, take}
+use Rattle.std.proofs.Common.{◌≡◌, ◌≤◌, [], ap, arith, drop, length, map, refl, rules, subst, sym, take}
 use Rattle.std.specs.List.{AllByRecursion}
 use Rattle.std.proofs.lemmas.List.{length-map}
 use Rattle.script_read.specs.declared.script.Command.{Command}
@@ -9,20 +9,20 @@ use Rattle.test_runner.proofs.Engines.{calm_on, idle_still, is_left}
 use Rattle.test_runner.proofs.Serving.{all_calm, all_serve, all_stay, faulted_since, leaves_since, sound_since, tell_since}
 use Rattle.test_runner.proofs.over.run_taken.Goals as goal
 
-pub returns-then-count-clause-ran : goal.returns-then-count-clause-ran
-returns-then-count-clause-ran g c = λ tell.
+pub returns-then-count-eq0-clause-ran : goal.returns-then-count-eq0-clause-ran
+returns-then-count-eq0-clause-ran g c = λ tell.
     let none : c.count_to_last-count.result ≡ 0 = search rules in
     let left = is_left (left_by_all c.args.declared.now c.args.commands.now []) c.requires.taken in
     quiet_carried _ _ _ _ c.args.commands.now [] left.0 _ _ (subst (λ n. AllByRecursion (λ (one : Command). IsNoEvaluation one.what) (drop n c.args.commands.now)) none c.count_to_last-count.ensures.quiet) left.1 refl refl
 
-pub returns-then-count-clause-unmoved : goal.returns-then-count-clause-unmoved
-returns-then-count-clause-unmoved g c = idle_still c.args.work.now
+pub returns-then-count-eq0-clause-unmoved : goal.returns-then-count-eq0-clause-unmoved
+returns-then-count-eq0-clause-unmoved g c = idle_still c.args.work.now
 
-pub returns-then-count-clause-boxes : goal.returns-then-count-clause-boxes
-returns-then-count-clause-boxes g c = record { labels = refl; many = refl; boxes = all_serve (map (λ b. (goal.Engine-dyn g (b.vtable, b.value)).seen b.value) c.args.engines.now.items) (map (λ b. (goal.Engine-dyn g (b.vtable, b.value)).seen b.value) c.args.engines.now.items) (all_stay (map (λ b. (goal.Engine-dyn g (b.vtable, b.value)).seen b.value) c.args.engines.now.items)) }
+pub returns-then-count-eq0-clause-boxes : goal.returns-then-count-eq0-clause-boxes
+returns-then-count-eq0-clause-boxes g c = record { labels = refl; many = refl; boxes = all_serve (map (λ b. (goal.Engine-dyn g (b.vtable, b.value)).seen b.value) c.args.engines.now.items) (map (λ b. (goal.Engine-dyn g (b.vtable, b.value)).seen b.value) c.args.engines.now.items) (all_stay (map (λ b. (goal.Engine-dyn g (b.vtable, b.value)).seen b.value) c.args.engines.now.items)) }
 
-pub returns-then-count-clause-calm : goal.returns-then-count-clause-calm
-returns-then-count-clause-calm g c = all_calm (map (λ b. (goal.Engine-dyn g (b.vtable, b.value)).seen b.value) c.args.engines.now.items) (map (λ b. (goal.Engine-dyn g (b.vtable, b.value)).seen b.value) c.args.engines.now.items) (all_stay (map (λ b. (goal.Engine-dyn g (b.vtable, b.value)).seen b.value) c.args.engines.now.items))
+pub returns-then-count-eq0-clause-calm : goal.returns-then-count-eq0-clause-calm
+returns-then-count-eq0-clause-calm g c = all_calm (map (λ b. (goal.Engine-dyn g (b.vtable, b.value)).seen b.value) c.args.engines.now.items) (map (λ b. (goal.Engine-dyn g (b.vtable, b.value)).seen b.value) c.args.engines.now.items) (all_stay (map (λ b. (goal.Engine-dyn g (b.vtable, b.value)).seen b.value) c.args.engines.now.items))
 
 pub run_commands_over-requires-clause-few : goal.run_commands_over-requires-clause-few
 run_commands_over-requires-clause-few g c =
