@@ -1,5 +1,5 @@
 use Rattle.std.proofs.Common.{◌≡◌, ◌∙◌, List, [], Err, Ok, ap, map, refl, subst, sym}
-use Rattle.std.specs.Prelude.{IsOk}
+use Rattle.std.specs.Prelude.{IsOk, ⊤}
 use Rattle.script_read.specs.Series.{LabelList}
 use Rattle.script_read.specs.declared.script.Command.{Command}
 use Rattle.test_runner.specs.Loads.{left_by_all, samples_left}
@@ -41,10 +41,10 @@ pub returns-in-Err-clause-unmoved : goal.returns-in-Err-clause-unmoved
 returns-in-Err-clause-unmoved g c = idle_still c.args.work.now
 
 pub returns-in-Err-clause-boxes : goal.returns-in-Err-clause-boxes
-returns-in-Err-clause-boxes g c = none_leaves _ c.args.declared.now (map (λ b. (goal.Engine-dyn g (b.vtable, b.value)).seen b.value) c.args.engines.now.items) (Err c.in-Err.fault) c.in-Err.ensures.sure
+returns-in-Err-clause-boxes g c = none_leaves ⊤ c.args.declared.now (map (λ b. (goal.Engine-dyn g (b.vtable, b.value)).seen b.value) c.args.engines.now.items) (Err c.in-Err.fault) c.in-Err.ensures.sure
 
 pub returns-in-Err-clause-faulted : goal.returns-in-Err-clause-faulted
-returns-in-Err-clause-faulted g c = none_faulted _ c.args.declared.now (map (λ b. (goal.Engine-dyn g (b.vtable, b.value)).seen b.value) c.args.engines.now.items) (Err c.in-Err.fault) c.in-Err.ensures.sure
+returns-in-Err-clause-faulted g c = none_faulted ⊤ c.args.declared.now (map (λ b. (goal.Engine-dyn g (b.vtable, b.value)).seen b.value) c.args.engines.now.items) (Err c.in-Err.fault) c.in-Err.ensures.sure
 
 pub returns-in-Err-clause-sure : goal.returns-in-Err-clause-sure
 returns-in-Err-clause-sure g c = λ tell sound. c.in-Err.ensures.sure

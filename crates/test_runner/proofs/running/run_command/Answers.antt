@@ -1,5 +1,6 @@
 use Rattle.std.proofs.Common.{[], refl}
 use Rattle.std.proofs.lemmas.Result.{err_from_is_err_and}
+use Rattle.test_runner.specs.declared.totals.Totals.{Totals}
 use Rattle.test_runner.proofs.Carrying.{carried_change, carried_evaluation, cut_evaluation, cut_none, is_change, when_cut}
 use Rattle.test_runner.proofs.Engines.{no_run_by}
 use Rattle.test_runner.proofs.Spending.{change_spends, evaluation_spends}
@@ -45,7 +46,7 @@ returns-in_ok-change_store-in-Clear-clause-bounded g c =
 pub returns-in_err-passed-in-Eval-clause-sure : goal.returns-in_err-passed-in-Eval-clause-sure
 returns-in_err-passed-in-Eval-clause-sure g c =
     let p = err_from_is_err_and c.from_residual.result c.from_residual.ensures.1 in
-    rw (p.1, p.2) (no_run_by _ c.in_err-passed-in-Eval.field-0.0)
+    rw (p.1, p.2) (no_run_by Totals c.in_err-passed-in-Eval.field-0.0)
 
 pub returns-in_err-change_store-in-Clear-clause-sure : goal.returns-in_err-change_store-in-Clear-clause-sure
 returns-in_err-change_store-in-Clear-clause-sure g c =
