@@ -10,10 +10,11 @@ use Rattle.edge_io.specs.declared.sink.SinkFail.{SinkFail}
 use Rattle.edge_io.specs.declared.sink.SinkFail.TheVariants as sinks
 use Rattle.exchange.specs.Calls.{Each, IsCalled}
 use Rattle.exchange.specs.Faults.{HasFailed, HasStrayed}
-use Rattle.query_engine.specs.Engines.{AreSound, last_place, moved_last}
-use Rattle.remote_api.specs.Seen.{EngineSeen}
+use Rattle.query_engine.specs.Engines.{last_place, moved_last}
+use Rattle.test_runner.specs.Boxes.{AreSound}
+use Rattle.remote_api.specs.Seen.{EngineSeen, KeepsStrays}
 use Rattle.remote_api.specs.declared.frame.Stray.{Stray}
-use Rattle.promql_tool.specs.Boxes.{HasLost, IsToBlame, KeepsBoxes, Lasts, LeavesBoxes, LosesNone, cut_by, or_cut}
+use Rattle.promql_tool.specs.Boxes.{HasLost, IsToBlame, KeepsBoxes, KeepsCalm, Lasts, LeavesBoxes, LosesNone, cut_by, or_cut}
 use Rattle.promql_tool.specs.declared.fault.Cut.{Cut}
 use Rattle.promql_tool.specs.declared.fault.Cut.TheVariants as cut
 use Rattle.promql_tool.specs.declared.fault.Lost.{Lost}
@@ -201,22 +202,37 @@ front_of_rest (suc i) (x ∷ xs) l = front_of_rest i xs (omega (arith, l))
 -- ---- boxes that last
 
 pub lasts_itself : (e : EngineSeen) → Lasts e e
-lasts_itself e = record { tells = refl; faults = omega arith; strays = omega arith; sound = λ s. s }
+lasts_itself e = record { tells = refl; faults = omega arith; sound = λ s. s }
 
 lasts_on : (e f g : EngineSeen) → Lasts e f → Lasts f g → Lasts e g
-lasts_on e f g a b = record { tells = b.tells ∙ a.tells; faults = omega (arith, a.faults, b.faults); strays = omega (arith, a.strays, b.strays); sound = λ s. b.sound (a.sound s) }
+lasts_on e f g a b = record { tells = b.tells ∙ a.tells; faults = omega (arith, a.faults, b.faults); sound = λ s. b.sound (a.sound s) }
 
-each_on : (es fs gs : List EngineSeen) → Each Lasts es fs → Each Lasts fs gs → Each Lasts es gs
-each_on es fs gs a b i e at =
+pub calm_itself : (e : EngineSeen) → KeepsStrays e e
+calm_itself e = record { strays = refl; stray = refl }
+
+calm_on : (e f g : EngineSeen) → KeepsStrays e f → KeepsStrays f g → KeepsStrays e g
+calm_on e f g a b = record { strays = b.strays ∙ a.strays; stray = b.stray ∙ a.stray }
+
+each_on : (R : EngineSeen → EngineSeen → Type 0) → ((e f g : EngineSeen) → R e f → R f g → R e g) → (es fs gs : List EngineSeen) → Each R es fs → Each R fs gs → Each R es gs
+each_on R on es fs gs a b i e at =
     let o = a i e at in
     let p = b i o.0 o.1 in
-    (p.0, p.1, lasts_on e o.0 p.0 o.2 p.2)
-
-pub kept_itself : (es : List EngineSeen) → KeepsBoxes es es
-kept_itself es = record { many = refl; boxes = λ i e at. (e, at, lasts_itself e) }
+    (p.0, p.1, on e o.0 p.0 o.2 p.2)
 
 pub kept_on : (es fs gs : List EngineSeen) → KeepsBoxes es fs → KeepsBoxes fs gs → KeepsBoxes es gs
-kept_on es fs gs a b = record { many = b.many ∙ a.many; boxes = each_on es fs gs a.boxes b.boxes }
+kept_on es fs gs a b = record { many = b.many ∙ a.many; boxes = each_on Lasts lasts_on es fs gs a.boxes b.boxes }
+
+pub still_itself : (es : List EngineSeen) → KeepsCalm es es
+still_itself es = record {
+  kept = record { many = refl; boxes = λ i e at. (e, at, lasts_itself e) };
+  calm = λ i e at. (e, at, calm_itself e);
+}
+
+pub kept_itself : (es : List EngineSeen) → KeepsBoxes es es
+kept_itself es = (still_itself es).kept
+
+pub still_on : (es fs gs : List EngineSeen) → KeepsCalm es fs → KeepsCalm fs gs → KeepsCalm es gs
+still_on es fs gs a b = record { kept = kept_on es fs gs a.kept b.kept; calm = each_on KeepsStrays calm_on es fs gs a.calm b.calm }
 
 -- a count that rose later
 pub rose_before : (a b c : ℕ) → a ≤ b → Rose b c → Rose a c
@@ -227,8 +243,8 @@ pub rose_after : (a b c : ℕ) → Rose a b → b ≤ c → Rose a c
 rose_after a b c r l = omega arith
 
 -- who is to blame now is so from before
-blamed_since : (last : Option Stray) (es fs gs : List EngineSeen) → length fs ≡ length es → Each Lasts es fs → IsToBlame last fs gs → IsToBlame last es gs
-blamed_since None es fs gs many lasts h =
+blamed_since : (last : Option Stray) (es fs gs : List EngineSeen) → length fs ≡ length es → Each Lasts es fs → Each KeepsStrays es fs → IsToBlame last fs gs → IsToBlame last es gs
+blamed_since None es fs gs many lasts calm h =
     let o = stood Lasts es fs (last_place fs) h.e many lasts h.e_at in
     let here : last_place fs ≡ last_place es = ap (λ n. n - 1) many in
     record {
@@ -239,43 +255,48 @@ blamed_since None es fs gs many lasts h =
       rose = rose_before o.0.faults h.e.faults h.f.faults o.2.faults h.rose;
       unsound = λ s. h.unsound (o.2.sound s);
     }
-blamed_since (Some one) es fs gs many lasts h =
+blamed_since (Some one) es fs gs many lasts calm h =
     let o = stood Lasts es fs (last_place fs) h.e many lasts h.e_at in
+    let q = stood KeepsStrays es fs (last_place fs) h.e many calm h.e_at in
+    let same : q.0 ≡ o.0 = some_same q.0 o.0 (sym q.1 ∙ o.1) in
+    let strays : h.e.strays ≡ o.0.strays = q.2.strays ∙ ap (λ (x : EngineSeen). x.strays) same in
     let here : last_place fs ≡ last_place es = ap (λ n. n - 1) many in
     record {
       e = o.0;
       f = h.f;
       e_at = ap (slice_get es) (sym here) ∙ o.1;
       f_at = ap (slice_get gs) (sym here) ∙ h.f_at;
-      rose = rose_before o.0.strays h.e.strays h.f.strays o.2.strays h.rose;
+      rose = rose_before o.0.strays h.e.strays h.f.strays (omega (arith, strays)) h.rose;
       last = h.last;
       untold = λ t. h.untold (o.2.tells ∙ t);
     }
 
-pub lost_since : (es fs gs : List EngineSeen) (lost : Lost) → KeepsBoxes es fs → HasLost lost fs gs → HasLost lost es gs
+pub lost_since : (es fs gs : List EngineSeen) (lost : Lost) → KeepsCalm es fs → HasLost lost fs gs → HasLost lost es gs
 lost_since es fs gs lost a h =
-    let one : lost.engine < length es = omega (arith, h.one, a.many) in
-    let moved = each_moved Lasts lost.engine es fs a.many a.boxes in
-    let many = moved_size lost.engine fs h.one ∙ a.many ∙ sym (moved_size lost.engine es one) in
+    let kept = a.kept in
+    let one : lost.engine < length es = omega (arith, h.one, kept.many) in
+    let moved = each_moved Lasts lost.engine es fs kept.many kept.boxes in
+    let calm = each_moved KeepsStrays lost.engine es fs kept.many a.calm in
+    let many = moved_size lost.engine fs h.one ∙ kept.many ∙ sym (moved_size lost.engine es one) in
     record {
       one = one;
-      many = h.many ∙ a.many;
-      boxes = each_on (moved_last lost.engine es) (moved_last lost.engine fs) gs moved h.boxes;
-      blamed = blamed_since lost.stray (moved_last lost.engine es) (moved_last lost.engine fs) gs many moved h.blamed;
+      many = h.many ∙ kept.many;
+      boxes = each_on Lasts lasts_on (moved_last lost.engine es) (moved_last lost.engine fs) gs moved h.boxes;
+      blamed = blamed_since lost.stray (moved_last lost.engine es) (moved_last lost.engine fs) gs many moved calm h.blamed;
     }
 
 -- what an answer leaves of boxes that were kept before
-pub leaves_since : {T : Type 0} (es fs gs : List EngineSeen) (r : Result T Cut) → KeepsBoxes es fs → LeavesBoxes r fs gs → LeavesBoxes r es gs
-leaves_since es fs gs (Ok x) a h = kept_on es fs gs a h
-leaves_since es fs gs (Err cut.Write) a h = kept_on es fs gs a h
-leaves_since es fs gs (Err cut.Memory) a h = kept_on es fs gs a h
+pub leaves_since : {T : Type 0} (es fs gs : List EngineSeen) (r : Result T Cut) → KeepsCalm es fs → LeavesBoxes r fs gs → LeavesBoxes r es gs
+leaves_since es fs gs (Ok x) a h = still_on es fs gs a h
+leaves_since es fs gs (Err cut.Write) a h = kept_on es fs gs a.kept h
+leaves_since es fs gs (Err cut.Memory) a h = kept_on es fs gs a.kept h
 leaves_since es fs gs (Err (cut.Lost lost)) a h = lost_since es fs gs lost a h
 
 -- an answer that names no engine leaves all
-pub kept_leaves : {T : Type 0} (es fs : List EngineSeen) (r : Result T Cut) → LosesNone r → KeepsBoxes es fs → LeavesBoxes r es fs
+pub kept_leaves : {T : Type 0} (es fs : List EngineSeen) (r : Result T Cut) → LosesNone r → KeepsCalm es fs → LeavesBoxes r es fs
 kept_leaves es fs (Ok x) none a = a
-kept_leaves es fs (Err cut.Write) none a = a
-kept_leaves es fs (Err cut.Memory) none a = a
+kept_leaves es fs (Err cut.Write) none a = a.kept
+kept_leaves es fs (Err cut.Memory) none a = a.kept
 kept_leaves es fs (Err (cut.Lost lost)) none a = absurd none
 
 -- answers with the same error leave the same
@@ -285,9 +306,9 @@ leaves_alike es fs cut.Memory a = a
 leaves_alike es fs (cut.Lost lost) a = a
 
 -- sound boxes stay sound
-pub sound_since : (n : ℕ) (es fs : List EngineSeen) → KeepsBoxes es fs → AreSound (take n es) → AreSound (take n fs)
+pub sound_since : (n : ℕ) (es fs : List EngineSeen) → KeepsCalm es fs → AreSound (take n es) → AreSound (take n fs)
 sound_since n es fs a sound i f at =
-    let o = stood Lasts es fs i f a.many a.boxes (take_get fs n i f at) in
+    let o = stood Lasts es fs i f a.kept.many a.kept.boxes (take_get fs n i f at) in
     o.2.sound (sound i o.0 (get_taken es n i o.0 (take_inside fs n i f at) o.1))
 
 -- a write names no engine

@@ -11,30 +11,42 @@ use Rattle.exchange.specs.declared.fault.RunFault.{RunFault}
 use Rattle.exchange.specs.declared.fault.RunFault.TheVariants as run
 use Rattle.label_set.specs.Labels.{is_named, metric_name}
 use Rattle.parting_laws.specs.Parted.{MayBeDeclared, names_of_first as parts_first}
-use Rattle.query_engine.specs.Engines.{AreSound, last_place, moved_last}
-use Rattle.remote_api.specs.Seen.{EngineSeen, Holding}
+use Rattle.query_engine.specs.Engines.{last_place, moved_last}
+use Rattle.remote_api.specs.Seen.{EngineSeen, Holding, KeepsStrays}
 use Rattle.remote_api.specs.declared.frame.Stray.{Stray}
 use Rattle.step_table.specs.Groups.{Names}
-use Rattle.test_runner.specs.Boxes.{AllTell, AreReady, LeavesServing, RunFaulted, Serves}
+use Rattle.test_runner.specs.Boxes.{AllTell, AreReady, AreSound, LeavesServing, RunFaulted, Serves}
 use Rattle.test_runner.specs.declared.fault.RunnerFault.{RunnerFault}
 use Rattle.test_runner.specs.declared.fault.RunnerFault.TheVariants as runner
 use Rattle.tool_words.specs.Asked.{Wish, asked}
 use Rattle.tool_words.specs.Engines.{AreDeclarable, AreDeclaredTo, Labels, names_of_first as words_first}
-use Rattle.promql_tool.specs.Boxes.{DeclaredSound, HasLost, IfLost, IsToBlame, KeepsBoxes, Lasts, LeavesBoxes, LosesNone, cut_of}
+use Rattle.promql_tool.specs.Boxes.{DeclaredSound, HasLost, IfLost, IsToBlame, KeepsBoxes, KeepsCalm, Lasts, LeavesBoxes, LosesNone, cut_of}
 use Rattle.promql_tool.specs.declared.fault.Cut.{Cut}
 use Rattle.promql_tool.specs.Declaring.{HoldDeclared}
 use Rattle.promql_tool.specs.Chosen.{DeclaredTell, declared_of, terms_asked}
-use Rattle.promql_tool.proofs.BoxLists.{get_taken, moved_size, stood, take_get, take_inside}
+use Rattle.promql_tool.proofs.BoxLists.{get_taken, moved_size, still_itself, stood, take_get, take_inside}
 
 -- a box that serves lasts
 serves_lasts : (e f : EngineSeen) → Serves e f → Lasts e f
-serves_lasts e f s = record { tells = s.tells; faults = s.faults; strays = s.strays; sound = s.sound }
+serves_lasts e f s = record { tells = s.tells; faults = s.faults; sound = s.sound }
 
 each_lasts : (es fs : List EngineSeen) → Each Serves es fs → Each Lasts es fs
 each_lasts es fs each i e at = let o = each i e at in (o.0, o.1, serves_lasts e o.0 o.2)
 
 pub all_kept : (es fs : List EngineSeen) → length fs ≡ length es → Each Serves es fs → KeepsBoxes es fs
 all_kept es fs many each = record { many = many; boxes = each_lasts es fs each }
+
+-- and where none has strayed
+pub all_still : (es fs : List EngineSeen) → length fs ≡ length es → Each Serves es fs → Each KeepsStrays es fs → KeepsCalm es fs
+all_still es fs many each calm = record { kept = all_kept es fs many each; calm = calm }
+
+-- what holds of a refusal
+pub when_err : {X Y : Type 0} (r : Result X Y) (y : Y) (P : Type 0) → IfErr r (λ _. P) → r ≡ Err y → P
+when_err {X} {Y} r y P h e = subst (λ (r : Result X Y). IfErr r (λ _. P)) e h
+
+-- boxes that weren't touched
+pub untouched_still : (es fs : List EngineSeen) → fs ≡ es → KeepsCalm es fs
+untouched_still es fs e = subst (KeepsCalm es) (sym e) (still_itself es)
 
 -- the place at which blame falls
 blamed_failed : (i : ℕ) (es fs : List EngineSeen) → i < length es → HasFailed (last_place es) (moved_last i es) fs → IsToBlame None (moved_last i es) fs
@@ -78,9 +90,9 @@ ready_on declared es fs many each ready = record {
 
 -- ---- boxes that tell
 
-pub tell_on : (n : ℕ) (es fs : List EngineSeen) → KeepsBoxes es fs → AllTell n es → AllTell n fs
-tell_on n es fs kept tell i f at =
-    let o = stood Lasts es fs i f kept.many kept.boxes (take_get fs n i f at) in
+pub tell_on : (n : ℕ) (es fs : List EngineSeen) → KeepsCalm es fs → AllTell n es → AllTell n fs
+tell_on n es fs a tell i f at =
+    let o = stood Lasts es fs i f a.kept.many a.kept.boxes (take_get fs n i f at) in
     o.2.tells ∙ tell i o.0 (get_taken es n i o.0 (take_inside fs n i f at) o.1)
 
 pub none_tell : (es : List EngineSeen) → AllTell 0 es
@@ -148,5 +160,5 @@ ready_of boxes declared es fs size few to kept hold = record {
 }
 
 pub ready_on_ok : (boxes : ℕ) (declared : List Labels) (es fs : List EngineSeen) (r : Result ⊤ Cut) → boxes ≡ length es → boxes < 2 ^ 32 → AreDeclaredTo boxes declared → LeavesBoxes r es fs → OnOk r (HoldDeclared declared fs) → OnOk r (AreReady declared fs)
-ready_on_ok boxes declared es fs (Ok x) size few to kept hold = ready_of boxes declared es fs size few to kept hold
+ready_on_ok boxes declared es fs (Ok x) size few to calm hold = ready_of boxes declared es fs size few to calm.kept hold
 ready_on_ok boxes declared es fs (Err why) size few to kept hold = tt

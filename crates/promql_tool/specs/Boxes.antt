@@ -7,10 +7,11 @@ use Rattle.exchange.specs.Calls.{Each}
 use Rattle.exchange.specs.Faults.{HasFailed, HasStrayed}
 use Rattle.exchange.specs.declared.fault.RunFault.{RunFault}
 use Rattle.exchange.specs.declared.fault.RunFault.TheVariants as run
-use Rattle.query_engine.specs.Engines.{AreSound, last_place, moved_last}
-use Rattle.remote_api.specs.Seen.{EngineSeen}
+use Rattle.query_engine.specs.Engines.{last_place, moved_last}
+use Rattle.remote_api.specs.Seen.{EngineSeen, KeepsStrays}
 use Rattle.remote_api.specs.declared.frame.Stray.{Stray}
 use Rattle.remote_api.specs.declared.frame.Stray.TheVariants as stray
+use Rattle.test_runner.specs.Boxes.{AreSound}
 use Rattle.promql_tool.specs.Chosen.{declared_of}
 use Rattle.promql_tool.specs.Ended.{EndWith}
 use Rattle.promql_tool.specs.Texts.{lost_text}
@@ -38,17 +39,21 @@ DeclaredSound boxes words es = AreSound (take (length (declared_of boxes words))
 
 -- ---- what becomes of them
 
--- whether a box tells what it holds hasn't changed, its counts haven't fallen, and it is sound if it was
+-- whether a box tells what it holds hasn't changed, its faults haven't fallen, and it is sound if it was
 pub record Lasts (e f : EngineSeen) : Type 0 where
   pub tells : is_some f.holding ≡ is_some e.holding
   pub faults : e.faults ≤ f.faults
-  pub strays : e.strays ≤ f.strays
   pub sound : e.sound ≡ true → f.sound ≡ true
 
 -- all boxes stand in their order
 pub record KeepsBoxes (es fs : List EngineSeen) : Type 0 where
   pub many : length fs ≡ length es
   pub boxes : Each Lasts es fs
+
+-- all boxes stand in their order, and none has strayed
+pub record KeepsCalm (es fs : List EngineSeen) : Type 0 where
+  pub kept : KeepsBoxes es fs
+  pub calm : Each KeepsStrays es fs
 
 -- the box at the last place has failed, or has strayed, and this was the last time
 abbrev pub IsToBlame : Option Stray → List EngineSeen → List EngineSeen → Type 0
@@ -66,9 +71,9 @@ pub record HasLost (lost : Lost) (es fs : List EngineSeen) : Type 0 where
 abbrev pub HasLostOne : List EngineSeen → List EngineSeen → Type 0
 HasLostOne es fs = (lost : Lost) × HasLost lost es fs
 
--- the box that an answer names was lost; where it names none, all stand in their order
+-- the box that an answer names was lost; where it names none, all stand in their order, and where it is no error, none has strayed
 abbrev pub LeavesBoxes : {T : Type 0} → Result T Cut → List EngineSeen → List EngineSeen → Type 0
-LeavesBoxes (Ok x) es fs = KeepsBoxes es fs
+LeavesBoxes (Ok x) es fs = KeepsCalm es fs
 LeavesBoxes (Err cut.Write) es fs = KeepsBoxes es fs
 LeavesBoxes (Err cut.Memory) es fs = KeepsBoxes es fs
 LeavesBoxes (Err (cut.Lost lost)) es fs = HasLost lost es fs

@@ -14,8 +14,8 @@ loop-i-init g c = record { so = none_declared _ _; len = refl }
 pub loop-i-preserved : goal.loop-i-preserved
 loop-i-preserved g c = record {
   so = one_declared c.loop-i.i c.args.declared.now c.index-declared-i.result.now _ _ _ (slice_get_read c.args.declared.now (length c.args.declared.now) c.loop-i.i _ refl c.loop-i-test.true c.index-declared-i.is)
-      (omega (arith, c.loop-i-test.true, c.requires.boxes, map_size (λ b. (goal.Engine-dyn g (b.vtable, b.value)).seen b.value) c.args.engines.now)) c.in_ok-declare_next.ensures.boxes.many c.loop-i.invariant.so c.in_ok-declare_next.ensures.one;
-  len = sym (map_size _ _) ∙ c.in_ok-declare_next.ensures.boxes.many ∙ map_size _ _ ∙ c.loop-i.invariant.len;
+      (omega (arith, c.loop-i-test.true, c.requires.boxes, map_size (λ b. (goal.Engine-dyn g (b.vtable, b.value)).seen b.value) c.args.engines.now)) c.in_ok-declare_next.ensures.boxes.kept.many c.loop-i.invariant.so c.in_ok-declare_next.ensures.one;
+  len = sym (map_size _ _) ∙ c.in_ok-declare_next.ensures.boxes.kept.many ∙ map_size _ _ ∙ c.loop-i.invariant.len;
 }
 
 pub returns-in_err-declare_next-clause-boxes : goal.returns-in_err-declare_next-clause-boxes

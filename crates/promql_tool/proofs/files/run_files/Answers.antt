@@ -5,7 +5,7 @@ use Rattle.edge_io.specs.Fetches.{Fetches}
 use Rattle.promql_tool.specs.Chosen.{under}
 use Rattle.promql_tool.specs.Found.{IsFound}
 use Rattle.promql_tool.specs.declared.judge.FileEnd.TheVariants.{Judged, Stopped}
-use Rattle.promql_tool.proofs.BoxLists.{kept_itself, kept_leaves, kept_on, leaves_alike, leaves_since, sound_since}
+use Rattle.promql_tool.proofs.BoxLists.{kept_leaves, leaves_alike, leaves_since, sound_since, still_itself, still_on}
 use Rattle.promql_tool.proofs.Fetched.{fetched_next, front_fetched, next_file}
 use Rattle.promql_tool.proofs.Fetching.{found_since}
 use Rattle.promql_tool.proofs.FilesRun.{RanSoFar, RunSoFar, cut_reaches, ends_cut, next_cut, next_stopped, none_ran, none_run, one_more, one_ran, stop_ends, stop_printed, stop_reaches, totals_end, totals_printed, totals_reach}
@@ -78,7 +78,7 @@ loop-file-init g c =
       run = λ tell. none_run terms found c.args.files.now (g.S.Sink.written c.args.out.now) (c.args.work.now ≡ c.args.work.now) refl;
       ran = none_ran terms found (c.args.work.now ≡ c.args.work.now) refl;
       unmoved = λ some. record { fetched = omega arith; probed = omega arith; tested = omega arith };
-      kept = kept_itself _;
+      kept = still_itself _;
       labels = refl;
       ready = c.requires.ready;
       few_passed = omega arith;
@@ -124,7 +124,7 @@ loop-file-preserved g c =
           (ends_so later found path to terms mid now (c.run_file.new.work ≡ c.loop-file.work) (Judged totals) (rw (c.in-Judged.is, c.loop-file.invariant.labels) at c.in_ok-totals.ensures.came));
       unmoved = λ some. (let a = c.loop-file.invariant.unmoved some in let b = c.run_file.ensures.unmoved (rw (sym c.loop-file.invariant.labels) at some) in
           record { fetched = omega (arith, a.fetched, b.fetched); probed = omega (arith, a.probed, b.probed); tested = omega (arith, a.tested, b.tested) });
-      kept = kept_on _ _ _ c.loop-file.invariant.kept left_boxes;
+      kept = still_on _ _ _ c.loop-file.invariant.kept left_boxes;
       labels = c.in_ok-totals.ensures.labels ∙ c.loop-file.invariant.labels;
       ready = rw c.in_ok-totals.ensures.labels c.in_ok-totals.ensures.ready;
       few_passed = omega (arith, sums.few_passed);
@@ -263,7 +263,7 @@ returns-in_err-totals-clause-boxes g c =
 
 pub returns-in-Stopped-clause-boxes : goal.returns-in-Stopped-clause-boxes
 returns-in-Stopped-clause-boxes g c =
-    kept_leaves _ _ c.or_cut-in-Stopped.result c.or_cut-in-Stopped.ensures.none (kept_on _ _ _ c.loop-file.invariant.kept c.in_ok-totals.ensures.boxes)
+    kept_leaves _ _ c.or_cut-in-Stopped.result c.or_cut-in-Stopped.ensures.none (still_on _ _ _ c.loop-file.invariant.kept c.in_ok-totals.ensures.boxes)
 
 pub returns-clause-boxes : goal.returns-clause-boxes
 returns-clause-boxes g c =

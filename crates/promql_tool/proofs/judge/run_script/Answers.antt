@@ -1,7 +1,7 @@
-use Rattle.std.proofs.Common.{refl, sym}
+use Rattle.std.proofs.Common.{ap, map, refl, sym}
 use Rattle.promql_tool.specs.Chosen.{under}
 use Rattle.promql_tool.proofs.Judging.{script_cut, script_stopped, stopped_cut}
-use Rattle.promql_tool.proofs.Serving.{all_kept, fault_leaves, ready_on, when_named}
+use Rattle.promql_tool.proofs.Serving.{all_kept, all_still, fault_leaves, ready_on, untouched_still, when_err, when_named}
 use Rattle.test_runner.specs.Loads.{samples_left}
 use Rattle.promql_tool.proofs.judge.run_script.Goals as goal
 
@@ -27,13 +27,17 @@ returns-in-Err-Run-clause-stopped g c = λ tell.
     (rw c.in-Err-Run.field-0-is at (c.in-Err-Run.ensures.stopped tell))))
 
 pub returns-in-Ok-clause-boxes : goal.returns-in-Ok-clause-boxes
-returns-in-Ok-clause-boxes g c = let h = c.in-Ok.ensures.boxes in all_kept _ _ h.many h.boxes
+returns-in-Ok-clause-boxes g c = let h = c.in-Ok.ensures.boxes in all_still _ _ h.many h.boxes c.in-Ok.ensures.calm
 
 pub returns-in-Err-Refused-clause-boxes : goal.returns-in-Err-Refused-clause-boxes
-returns-in-Err-Refused-clause-boxes g c = let h = rw c.in-Err-Refused.field-0-is at c.in-Err-Refused.ensures.boxes in all_kept _ _ h.many h.boxes
+returns-in-Err-Refused-clause-boxes g c =
+    let same = when_err _ _ _ c.run.ensures.untouched (rw c.in-Err-Refused.field-0-is at c.in-Err-Refused.ensures.explained) in
+    untouched_still _ _ (ap (map (λ b. (goal.Engine-dyn g (b.vtable, b.value)).seen b.value)) same.2)
 
 pub returns-in-Err-Range-clause-boxes : goal.returns-in-Err-Range-clause-boxes
-returns-in-Err-Range-clause-boxes g c = let h = rw c.in-Err-Range.field-0-is at c.in-Err-Range.ensures.boxes in all_kept _ _ h.many h.boxes
+returns-in-Err-Range-clause-boxes g c =
+    let same = when_err _ _ _ c.run.ensures.untouched (rw c.in-Err-Range.field-0-is at c.in-Err-Range.ensures.explained) in
+    untouched_still _ _ (ap (map (λ b. (goal.Engine-dyn g (b.vtable, b.value)).seen b.value)) same.2)
 
 pub returns-in-Err-Write-clause-boxes : goal.returns-in-Err-Write-clause-boxes
 returns-in-Err-Write-clause-boxes g c = let h = rw c.in-Err-Write.field-0-is at c.in-Err-Write.ensures.boxes in all_kept _ _ h.many h.boxes

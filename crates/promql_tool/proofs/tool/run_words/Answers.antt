@@ -6,7 +6,7 @@ use Rattle.promql_tool.specs.Ends.{unwritten}
 use Rattle.promql_tool.specs.Found.{IsFound, Just}
 use Rattle.promql_tool.specs.Reached.{files, no_file, no_memory, one_file, undeclared}
 use Rattle.promql_tool.specs.Report.{AsksToPrint, files_asked}
-use Rattle.promql_tool.proofs.BoxLists.{kept_itself, kept_leaves, leaves_alike, leaves_since, sound_since}
+use Rattle.promql_tool.proofs.BoxLists.{kept_itself, kept_leaves, leaves_alike, leaves_since, sound_since, still_itself}
 use Rattle.promql_tool.proofs.FilesRun.{ends_cut}
 use Rattle.promql_tool.proofs.Serving.{none_by_words, some_by_words, sound_by, tell_by, tell_on}
 use Rattle.promql_tool.proofs.WordsRun.{cut_one_of, explain_end, explain_ended, files_end, files_ended, files_stopped, format_end, format_ended, lost_any, misuse_ended, misuse_ends, one_fetched, query_end, query_ended, unwritten_stopped, workload_end, workload_ended, workload_stopped}
@@ -65,7 +65,7 @@ returns-in-None-clause-unmoved g c = λ some.
 
 pub returns-in-None-clause-boxes : goal.returns-in-None-clause-boxes
 returns-in-None-clause-boxes g c =
-    kept_leaves _ _ c.or_cut.result c.or_cut.ensures.none (kept_itself _)
+    kept_leaves _ _ c.or_cut.result c.or_cut.ensures.none (still_itself _)
 
 pub returns-in_err-declare-in-Some-Test-clause-ends : goal.returns-in_err-declare-in-Some-Test-clause-ends
 returns-in_err-declare-in-Some-Test-clause-ends g c = λ tell.
@@ -375,7 +375,7 @@ returns-in-Some-Format-clause-unmoved g c = λ some.
 
 pub returns-in-Some-Format-clause-boxes : goal.returns-in-Some-Format-clause-boxes
 returns-in-Some-Format-clause-boxes g c =
-    kept_leaves _ _ c.or_cut-in-Some-Format.result c.or_cut-in-Some-Format.ensures.none (kept_itself _)
+    kept_leaves _ _ c.or_cut-in-Some-Format.result c.or_cut-in-Some-Format.ensures.none (still_itself _)
 
 pub returns-in-Some-Explain-clause-ends : goal.returns-in-Some-Explain-clause-ends
 returns-in-Some-Explain-clause-ends g c = λ tell.
@@ -406,4 +406,4 @@ returns-in-Some-Explain-clause-unmoved g c = λ some.
 
 pub returns-in-Some-Explain-clause-boxes : goal.returns-in-Some-Explain-clause-boxes
 returns-in-Some-Explain-clause-boxes g c =
-    kept_leaves _ _ c.or_cut-in-Some-Explain.result c.or_cut-in-Some-Explain.ensures.none (kept_itself _)
+    kept_leaves _ _ c.or_cut-in-Some-Explain.result c.or_cut-in-Some-Explain.ensures.none (still_itself _)
