@@ -1,5 +1,5 @@
 -- Lists of boxes, place by place, and what becomes of them.
-use Rattle.std.proofs.Common.{◌≡◌, ◌∙◌, ℕ, zero, suc, ◌+◌, ◌-◌, ◌<◌, ◌≤◌, List, [], ◌∷◌, ◌++◌, drop, get_or, length, map, take, slice_get, slice_set, refl, sym, ap, ap₂, subst, arith, Option, Some, None, ⊎_elim}
+use Rattle.std.proofs.Common.{◌≡◌, ◌∙◌, ℕ, zero, suc, ◌+◌, ◌-◌, ◌<◌, ◌≤◌, List, [], ◌∷◌, ◌++◌, drop, get_or, length, length-append, map, take, slice_get, slice_set, refl, sym, ap, ap₂, subst, arith, Option, Some, None, ⊎_elim}
 use Rattle.std.specs.Prelude.{Result, Ok, Err, IsErrOf, OnErr, OnOk, remove, true, is_some, ⊤}
 use Rattle.std.specs.List.{AllZip}
 use Rattle.std.proofs.lemmas.Bool.{cases_eq}
@@ -14,7 +14,7 @@ use Rattle.query_engine.specs.Engines.{last_place, moved_last}
 use Rattle.test_runner.specs.Boxes.{AreSound}
 use Rattle.remote_api.specs.Seen.{EngineSeen, KeepsStrays}
 use Rattle.remote_api.specs.declared.frame.Stray.{Stray}
-use Rattle.promql_tool.specs.Boxes.{HasLost, IsToBlame, KeepsBoxes, KeepsCalm, Lasts, LeavesBoxes, LosesNone, cut_by, or_cut}
+use Rattle.promql_tool.specs.Boxes.{HasLost, IfNames, IsToBlame, KeepsBoxes, KeepsCalm, Lasts, LeavesBoxes, LeavesBut, LosesNone, cut_by, or_cut}
 use Rattle.promql_tool.specs.declared.fault.Cut.{Cut}
 use Rattle.promql_tool.specs.declared.fault.Cut.TheVariants as cut
 use Rattle.promql_tool.specs.declared.fault.Lost.{Lost}
@@ -176,16 +176,12 @@ moved_there {X} i n xs x size e =
     let here : n - 1 ≡ length (remove xs i) = omega (arith, s, size) in
     ap₂ (λ (ys : List X) (k : ℕ). slice_get (remove xs i ++ ys) k) (one_there i xs x e) here ∙ back_get (remove xs i) x
 
-both_size : {X : Type 0} (xs ys : List X) → length (xs ++ ys) ≡ length xs + length ys
-both_size [] ys = refl
-both_size (x ∷ xs) ys = ap suc (both_size xs ys)
-
 pub moved_size : {X : Type 0} (i : ℕ) (xs : List X) → i < length xs → length (moved_last i xs) ≡ length xs
 moved_size i xs l =
     let x = within_get xs i l in
     let s : suc (length (remove xs i)) ≡ length xs = removed_size i xs x.0 x.1 in
     let one : length (take 1 (drop i xs)) ≡ 1 = ap length (one_there i xs x.0 x.1) in
-    let two : length (moved_last i xs) ≡ length (remove xs i) + length (take 1 (drop i xs)) = both_size (remove xs i) (take 1 (drop i xs)) in
+    let two : length (moved_last i xs) ≡ length (remove xs i) + length (take 1 (drop i xs)) = length-append (remove xs i) (take 1 (drop i xs)) in
     omega (arith, s, one, two)
 
 pub map_moved : {X Y : Type 0} (f : X → Y) (i : ℕ) (xs : List X) → map f (moved_last i xs) ≡ moved_last i (map f xs)
@@ -286,11 +282,14 @@ lost_since es fs gs lost a h =
     }
 
 -- what an answer leaves of boxes that were kept before
+pub but_since : (es fs gs : List EngineSeen) (why : Cut) → KeepsCalm es fs → LeavesBut why fs gs → LeavesBut why es gs
+but_since es fs gs cut.Write a h = kept_on es fs gs a.kept h
+but_since es fs gs cut.Memory a h = kept_on es fs gs a.kept h
+but_since es fs gs (cut.Lost lost) a h = lost_since es fs gs lost a h
+
 pub leaves_since : {T : Type 0} (es fs gs : List EngineSeen) (r : Result T Cut) → KeepsCalm es fs → LeavesBoxes r fs gs → LeavesBoxes r es gs
 leaves_since es fs gs (Ok x) a h = still_on es fs gs a h
-leaves_since es fs gs (Err cut.Write) a h = kept_on es fs gs a.kept h
-leaves_since es fs gs (Err cut.Memory) a h = kept_on es fs gs a.kept h
-leaves_since es fs gs (Err (cut.Lost lost)) a h = lost_since es fs gs lost a h
+leaves_since es fs gs (Err why) a h = but_since es fs gs why a h
 
 -- an answer that names no engine leaves all
 pub kept_leaves : {T : Type 0} (es fs : List EngineSeen) (r : Result T Cut) → LosesNone r → KeepsCalm es fs → LeavesBoxes r es fs
@@ -299,12 +298,6 @@ kept_leaves es fs (Err cut.Write) none a = a.kept
 kept_leaves es fs (Err cut.Memory) none a = a.kept
 kept_leaves es fs (Err (cut.Lost lost)) none a = absurd none
 
--- answers with the same error leave the same
-pub leaves_alike : {S T : Type 0} (es fs : List EngineSeen) (e : Cut) → LeavesBoxes {T = S} (Err e) es fs → LeavesBoxes {T = T} (Err e) es fs
-leaves_alike es fs cut.Write a = a
-leaves_alike es fs cut.Memory a = a
-leaves_alike es fs (cut.Lost lost) a = a
-
 -- sound boxes stay sound
 pub sound_since : (n : ℕ) (es fs : List EngineSeen) → KeepsCalm es fs → AreSound (take n es) → AreSound (take n fs)
 sound_since n es fs a sound i f at =
@@ -312,7 +305,7 @@ sound_since n es fs a sound i f at =
     o.2.sound (sound i o.0 (get_taken es n i o.0 (take_inside fs n i f at) o.1))
 
 -- a write names no engine
-pub none_by : {T : Type 0} (cause : SinkFail) → LosesNone {T = T} (Err (cut_by cause))
+pub none_by : (cause : SinkFail) → IfNames (cut_by cause) (λ _. ⊥)
 none_by sinks.Failed = tt
 none_by sinks.Memory = tt
 

@@ -1,5 +1,5 @@
 -- What a script leaves of boxes, as a run sees it.
-use Rattle.std.proofs.Common.{◌≡◌, ◌∙◌, ℕ, ◌-◌, ◌<◌, ◌≤◌, List, [], ◌∷◌, length, slice_get, take, refl, sym, ap, subst, arith, Option, None, Some}
+use Rattle.std.proofs.Common.{◌≡◌, ◌∙◌, ℕ, zero, suc, ◌-◌, ◌<◌, ◌≤◌, List, [], ◌∷◌, ◌++◌, length, map, slice_get, take, refl, sym, ap, subst, arith, Option, None, Some}
 use Rattle.std.specs.Prelude.{Result, Ok, Err, IfErr, IfSome, OnOk, ◌^◌, false, is_some, ⊤}
 use Rattle.std.specs.List.{AllByRecursion}
 use Rattle.std.specs.Map.{keys_of}
@@ -24,7 +24,7 @@ use Rattle.promql_tool.specs.Boxes.{DeclaredSound, HasLost, IfLost, IsToBlame, K
 use Rattle.promql_tool.specs.declared.fault.Cut.{Cut}
 use Rattle.promql_tool.specs.Declaring.{HoldDeclared}
 use Rattle.promql_tool.specs.Chosen.{DeclaredTell, declared_of, terms_asked}
-use Rattle.promql_tool.proofs.BoxLists.{get_taken, moved_size, still_itself, stood, take_get, take_inside}
+use Rattle.promql_tool.proofs.BoxLists.{get_taken, map_size, moved_size, still_itself, stood, take_get, take_inside}
 
 -- a box that serves lasts
 serves_lasts : (e f : EngineSeen) → Serves e f → Lasts e f
@@ -159,6 +159,21 @@ ready_of boxes declared es fs size few to kept hold = record {
   theirs = hold;
 }
 
-pub ready_on_ok : (boxes : ℕ) (declared : List Labels) (es fs : List EngineSeen) (r : Result ⊤ Cut) → boxes ≡ length es → boxes < 2 ^ 32 → AreDeclaredTo boxes declared → LeavesBoxes r es fs → OnOk r (HoldDeclared declared fs) → OnOk r (AreReady declared fs)
-ready_on_ok boxes declared es fs (Ok x) size few to calm hold = ready_of boxes declared es fs size few to calm.kept hold
-ready_on_ok boxes declared es fs (Err why) size few to kept hold = tt
+take_front : {B : Type 0} (cs zs : List B) (n : ℕ) → length cs ≡ n → take n (cs ++ zs) ≡ cs
+take_front [] zs zero e = refl
+take_front [] zs (suc n) e = absurd (omega (arith, e))
+take_front (c ∷ cs) zs zero e = absurd (omega (arith, e))
+take_front (c ∷ cs) zs (suc n) e = ap (λ ds. c ∷ ds) (take_front cs zs n (omega (arith, e)))
+
+-- boxes that were written over as a whole
+pub ready_whole : {B : Type 0} (f : B → EngineSeen) (n : ℕ) (bs ds cs zs : List B) (declared : List Labels) (r : Result ⊤ Cut) → ds ≡ bs → length ds ≡ n → length bs < 2 ^ 32 → AreDeclaredTo (length bs) declared → LeavesBoxes r (map f ds) (map f cs)
+    → OnOk r (HoldDeclared declared (map f cs)) → OnOk r (AreReady declared (map f (take n (cs ++ zs))))
+ready_whole {B} f n bs ds cs zs declared (Ok x) same size few to still hold =
+    let es = map_size f ds in
+    let fs = map_size f cs in
+    let many = still.kept.many in
+    let front : take n (cs ++ zs) ≡ cs = take_front cs zs n (omega (arith, es, fs, many, size)) in
+    let bss = map_size f bs in
+    let kept : KeepsBoxes (map f bs) (map f cs) = subst (λ (l : List B). KeepsBoxes (map f l) (map f cs)) same still.kept in
+    subst (λ (l : List B). AreReady declared (map f l)) (sym front) (ready_of (length bs) declared (map f bs) (map f cs) (sym bss) few to kept hold)
+ready_whole f n bs ds cs zs declared (Err why) same size few to still hold = tt

@@ -5,7 +5,7 @@ use Rattle.edge_io.specs.Fetches.{Fetches}
 use Rattle.promql_tool.specs.Chosen.{under}
 use Rattle.promql_tool.specs.Found.{IsFound}
 use Rattle.promql_tool.specs.declared.judge.FileEnd.TheVariants.{Judged, Stopped}
-use Rattle.promql_tool.proofs.BoxLists.{kept_leaves, leaves_alike, leaves_since, sound_since, still_itself, still_on}
+use Rattle.promql_tool.proofs.BoxLists.{but_since, kept_leaves, sound_since, still_itself, still_on}
 use Rattle.promql_tool.proofs.Fetched.{fetched_next, front_fetched, next_file}
 use Rattle.promql_tool.proofs.Fetching.{found_since}
 use Rattle.promql_tool.proofs.FilesRun.{RanSoFar, RunSoFar, cut_reaches, ends_cut, next_cut, next_stopped, none_ran, none_run, one_more, one_ran, stop_ends, stop_printed, stop_reaches, totals_end, totals_printed, totals_reach}
@@ -259,7 +259,7 @@ returns-in_err-totals-clause-stopped g c = λ tell.
 pub returns-in_err-totals-clause-boxes : goal.returns-in_err-totals-clause-boxes
 returns-in_err-totals-clause-boxes g c =
     let p = err_from_is_err_and c.from_residual.result c.from_residual.ensures.1 in
-    rw (p.1, p.2) (leaves_alike _ _ _ (leaves_since _ _ _ c.run_file.result c.loop-file.invariant.kept c.run_file.ensures.boxes))
+    rw (p.1, p.2) (but_since _ _ _ _ c.loop-file.invariant.kept c.in_err-totals.ensures.boxes)
 
 pub returns-in-Stopped-clause-boxes : goal.returns-in-Stopped-clause-boxes
 returns-in-Stopped-clause-boxes g c =

@@ -6,7 +6,7 @@ use Rattle.promql_tool.specs.Ends.{unwritten}
 use Rattle.promql_tool.specs.Found.{IsFound, Just}
 use Rattle.promql_tool.specs.Reached.{files, no_file, no_memory, one_file, undeclared}
 use Rattle.promql_tool.specs.Report.{AsksToPrint, files_asked}
-use Rattle.promql_tool.proofs.BoxLists.{kept_itself, kept_leaves, leaves_alike, leaves_since, sound_since, still_itself}
+use Rattle.promql_tool.proofs.BoxLists.{kept_itself, kept_leaves, leaves_since, sound_since, still_itself}
 use Rattle.promql_tool.proofs.FilesRun.{ends_cut}
 use Rattle.promql_tool.proofs.Serving.{none_by_words, some_by_words, sound_by, tell_by, tell_on}
 use Rattle.promql_tool.proofs.WordsRun.{cut_one_of, explain_end, explain_ended, files_end, files_ended, files_stopped, format_end, format_ended, lost_any, misuse_ended, misuse_ends, one_fetched, query_end, query_ended, unwritten_stopped, workload_end, workload_ended, workload_stopped}
@@ -85,7 +85,7 @@ returns-in_err-declare-in-Some-Test-clause-reached g c = λ tell.
 pub returns-in_err-declare-in-Some-Test-clause-boxes : goal.returns-in_err-declare-in-Some-Test-clause-boxes
 returns-in_err-declare-in-Some-Test-clause-boxes g c =
     let p = err_from_is_err_and c.from_residual-in_err-declare-in-Some-Test.result c.from_residual-in_err-declare-in-Some-Test.ensures.1 in
-    rw (p.1, p.2) (leaves_alike _ _ _ c.in_err-declare-in-Some-Test.ensures.boxes)
+    rw (p.1, p.2) (c.in_err-declare-in-Some-Test.ensures.boxes)
 
 pub returns-in_err-declare-in-Some-Test-clause-bounded : goal.returns-in_err-declare-in-Some-Test-clause-bounded
 returns-in_err-declare-in-Some-Test-clause-bounded g c = λ none.
@@ -178,7 +178,7 @@ returns-in_err-declare-in-Some-Query-clause-reached g c = λ tell.
 pub returns-in_err-declare-in-Some-Query-clause-boxes : goal.returns-in_err-declare-in-Some-Query-clause-boxes
 returns-in_err-declare-in-Some-Query-clause-boxes g c =
     let p = err_from_is_err_and c.from_residual-in_err-declare-in-Some-Query.result c.from_residual-in_err-declare-in-Some-Query.ensures.1 in
-    rw (p.1, p.2) (leaves_alike _ _ _ c.in_err-declare-in-Some-Query.ensures.boxes)
+    rw (p.1, p.2) (c.in_err-declare-in-Some-Query.ensures.boxes)
 
 pub returns-in_err-declare-in-Some-Query-clause-bounded : goal.returns-in_err-declare-in-Some-Query-clause-bounded
 returns-in_err-declare-in-Some-Query-clause-bounded g c = λ none.
@@ -274,7 +274,7 @@ returns-in_err-declare-in-Some-Workload-clause-reached g c = λ tell.
 pub returns-in_err-declare-in-Some-Workload-clause-boxes : goal.returns-in_err-declare-in-Some-Workload-clause-boxes
 returns-in_err-declare-in-Some-Workload-clause-boxes g c =
     let p = err_from_is_err_and c.from_residual-in_err-declare-in-Some-Workload.result c.from_residual-in_err-declare-in-Some-Workload.ensures.1 in
-    rw (p.1, p.2) (leaves_alike _ _ _ c.in_err-declare-in-Some-Workload.ensures.boxes)
+    rw (p.1, p.2) (c.in_err-declare-in-Some-Workload.ensures.boxes)
 
 pub returns-in_err-declare-in-Some-Workload-clause-bounded : goal.returns-in_err-declare-in-Some-Workload-clause-bounded
 returns-in_err-declare-in-Some-Workload-clause-bounded g c = λ none.
