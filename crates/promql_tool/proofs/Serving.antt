@@ -133,10 +133,10 @@ when_named (run.EngineFault i) P p = p
 when_named (run.OutOfStep i expected got) P p = p
 when_named (run.WrongCell i at) P p = p
 
--- a fact beside another of a refusal
-pub first_if_err : {X Y : Type 0} (r : Result X Y) (P Q : Type 0) → IfErr r (λ _. P × Q) → IfErr r (λ _. P)
-first_if_err (Ok x) P Q h = tt
-first_if_err (Err e) P Q h = h.0
+-- a fact beside others of a refusal
+pub first_if_err : {X Y : Type 0} (r : Result X Y) (P Q R : Type 0) → IfErr r (λ _. P × Q × R) → IfErr r (λ _. P)
+first_if_err (Ok x) P Q R h = tt
+first_if_err (Err e) P Q R h = h.0
 
 -- ---- boxes that labels were declared to
 

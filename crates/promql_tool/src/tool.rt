@@ -79,7 +79,7 @@ fn run_words<L: Library, S: Sink, C: Courier, W: Ledger>(
     ensures told { L.told library.new ≡ L.told library.old }
     ensures library_sound { L.sound library.old → L.sound library.new }
     ensures gone { IfOk result (λ status. status.0 ≡ 3 → Rose (L.faults library.old) (L.faults library.new)) }
-    ensures came { IfOk result (λ status. EndsWords (length engines.old.items) (map string_bytes words.now) (IsFound (L.told library.old) (L.sound library.old)) (work.new ≡ work.old) (S.written out.new) status.0) }
+    ensures came { IfOk result (λ status. EndsWords (length engines.old.items) (map string_bytes words.now) (IsFound (L.told library.old) (L.sound library.old)) (work.new ≡ work.old) (S.written out.old) (S.written out.new) status.0) }
     ensures unevaluated { AsksToPrint (asked (length engines.old.items) (map string_bytes words.now)) → work.new ≡ work.old }
     ensures cause { HasCause (S.faults out.old) (S.faults out.new) (IsErrOf result Cut.Write) }
     ensures sound { S.sound out.old → S.sound out.new }

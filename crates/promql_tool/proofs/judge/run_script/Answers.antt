@@ -7,23 +7,23 @@ use Rattle.promql_tool.proofs.judge.run_script.Goals as goal
 
 pub returns-in-Err-Write-clause-cut : goal.returns-in-Err-Write-clause-cut
 returns-in-Err-Write-clause-cut g c = λ tell.
-    script_cut _ g.S.Sink.written c.args.out.now c.run.new.out _ (under c.args.options.now.closed c.args.declared.now) c.args.searches.now c.args.path.now c.args.script.now (samples_left c.args.declared.now c.args.script.now) refl c.run.ensures.untouched
+    script_cut _ g.S.Sink.written c.args.out.now c.run.new.out _ _ _ (under c.args.options.now.closed c.args.declared.now) c.args.searches.now c.args.path.now c.args.script.now (samples_left c.args.declared.now c.args.script.now) refl c.run.ensures.untouched
     (rw c.in-Err-Write.field-0-is at (c.in-Err-Write.ensures.cut tell))
 
 pub returns-in-Err-Memory-clause-cut : goal.returns-in-Err-Memory-clause-cut
 returns-in-Err-Memory-clause-cut g c = λ tell.
-    script_cut _ g.S.Sink.written c.args.out.now c.run.new.out _ (under c.args.options.now.closed c.args.declared.now) c.args.searches.now c.args.path.now c.args.script.now (samples_left c.args.declared.now c.args.script.now) refl c.run.ensures.untouched
+    script_cut _ g.S.Sink.written c.args.out.now c.run.new.out _ _ _ (under c.args.options.now.closed c.args.declared.now) c.args.searches.now c.args.path.now c.args.script.now (samples_left c.args.declared.now c.args.script.now) refl c.run.ensures.untouched
     (rw c.in-Err-Memory.field-0-is at (c.in-Err-Memory.ensures.cut tell))
 
 pub returns-in-Err-Run-clause-cut : goal.returns-in-Err-Run-clause-cut
 returns-in-Err-Run-clause-cut g c = λ tell.
-    let stopped = script_stopped _ g.S.Sink.written c.args.out.now c.run.new.out _ (under c.args.options.now.closed c.args.declared.now) c.args.searches.now c.args.path.now c.args.script.now (samples_left c.args.declared.now c.args.script.now) refl c.run.ensures.untouched
+    let stopped = script_stopped _ g.S.Sink.written c.args.out.now c.run.new.out _ _ _ (under c.args.options.now.closed c.args.declared.now) c.args.searches.now c.args.path.now c.args.script.now (samples_left c.args.declared.now c.args.script.now) refl c.run.ensures.untouched
     (rw c.in-Err-Run.field-0-is at (c.in-Err-Run.ensures.stopped tell)) in
     stopped_cut _ _ _ _ _ _ stopped
 
 pub returns-in-Err-Run-clause-stopped : goal.returns-in-Err-Run-clause-stopped
 returns-in-Err-Run-clause-stopped g c = λ tell.
-    rw c.of.ensures (when_named c.in-Err-Run.fault _ (script_stopped _ g.S.Sink.written c.args.out.now c.run.new.out _ (under c.args.options.now.closed c.args.declared.now) c.args.searches.now c.args.path.now c.args.script.now (samples_left c.args.declared.now c.args.script.now) refl c.run.ensures.untouched
+    rw c.of.ensures (when_named c.in-Err-Run.fault _ (script_stopped _ g.S.Sink.written c.args.out.now c.run.new.out _ _ _ (under c.args.options.now.closed c.args.declared.now) c.args.searches.now c.args.path.now c.args.script.now (samples_left c.args.declared.now c.args.script.now) refl c.run.ensures.untouched
     (rw c.in-Err-Run.field-0-is at (c.in-Err-Run.ensures.stopped tell))))
 
 pub returns-in-Ok-clause-boxes : goal.returns-in-Ok-clause-boxes

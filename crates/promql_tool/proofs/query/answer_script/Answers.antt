@@ -29,19 +29,19 @@ pub returns-in-Err-Run-clause-sure : goal.returns-in-Err-Run-clause-sure
 returns-in-Err-Run-clause-sure g c = λ tell sound. absurd (rw c.in-Err-Run.field-0-is at (c.in-Err-Run.ensures.sure tell sound))
 
 pub returns-in-Ok-clause-idle : goal.returns-in-Ok-clause-idle
-returns-in-Ok-clause-idle g c = first_if_err _ _ _ c.answer.ensures.idle
+returns-in-Ok-clause-idle g c = first_if_err _ _ _ _ c.answer.ensures.idle
 
 pub returns-in-Err-Refused-clause-idle : goal.returns-in-Err-Refused-clause-idle
-returns-in-Err-Refused-clause-idle g c = first_if_err _ _ _ c.answer.ensures.idle
+returns-in-Err-Refused-clause-idle g c = first_if_err _ _ _ _ c.answer.ensures.idle
 
 pub returns-in-Err-Range-clause-idle : goal.returns-in-Err-Range-clause-idle
-returns-in-Err-Range-clause-idle g c = first_if_err _ _ _ c.answer.ensures.idle
+returns-in-Err-Range-clause-idle g c = first_if_err _ _ _ _ c.answer.ensures.idle
 
 pub returns-in-Err-Run-clause-idle : goal.returns-in-Err-Run-clause-idle
-returns-in-Err-Run-clause-idle g c = first_if_err _ _ _ c.answer.ensures.idle
+returns-in-Err-Run-clause-idle g c = first_if_err _ _ _ _ c.answer.ensures.idle
 
 pub returns-in-Err-Write-clause-idle : goal.returns-in-Err-Write-clause-idle
-returns-in-Err-Write-clause-idle g c = first_if_err _ _ _ c.answer.ensures.idle
+returns-in-Err-Write-clause-idle g c = first_if_err _ _ _ _ c.answer.ensures.idle
 
 pub returns-in-Err-Memory-clause-idle : goal.returns-in-Err-Memory-clause-idle
-returns-in-Err-Memory-clause-idle g c = first_if_err _ _ _ c.answer.ensures.idle
+returns-in-Err-Memory-clause-idle g c = first_if_err _ _ _ _ c.answer.ensures.idle
