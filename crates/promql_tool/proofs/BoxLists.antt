@@ -309,6 +309,11 @@ pub none_by : (cause : SinkFail) → IfNames (cut_by cause) (λ _. ⊥)
 none_by sinks.Failed = tt
 none_by sinks.Memory = tt
 
+-- after a write that failed all boxes stand
+pub write_keeps : (cause : SinkFail) (es : List EngineSeen) → LeavesBut (cut_by cause) es es
+write_keeps sinks.Failed es = kept_itself es
+write_keeps sinks.Memory es = kept_itself es
+
 -- what holds of more boxes holds of fewer
 pub sound_sooner : (n m : ℕ) (es : List EngineSeen) → n ≤ m → AreSound (take m es) → AreSound (take n es)
 sound_sooner n m es few sound i e at =

@@ -11,16 +11,16 @@ use Rattle.exchange.specs.declared.fault.RunFault.{RunFault}
 use Rattle.exchange.specs.declared.fault.RunFault.TheVariants as run
 use Rattle.label_set.specs.Labels.{is_named, metric_name}
 use Rattle.parting_laws.specs.Parted.{MayBeDeclared, names_of_first as parts_first}
-use Rattle.query_engine.specs.Engines.{last_place, moved_last}
+use Rattle.query_engine.specs.Engines.{last_place, moved_last, named_by}
 use Rattle.remote_api.specs.Seen.{EngineSeen, Holding, KeepsStrays}
 use Rattle.remote_api.specs.declared.frame.Stray.{Stray}
 use Rattle.step_table.specs.Groups.{Names}
-use Rattle.test_runner.specs.Boxes.{AllTell, AreReady, AreSound, LeavesServing, RunFaulted, Serves}
+use Rattle.test_runner.specs.Boxes.{AllTell, AreReady, AreSound, FaultedBy, Serves, ServesBut}
 use Rattle.test_runner.specs.declared.fault.RunnerFault.{RunnerFault}
 use Rattle.test_runner.specs.declared.fault.RunnerFault.TheVariants as runner
 use Rattle.tool_words.specs.Asked.{Wish, asked}
 use Rattle.tool_words.specs.Engines.{AreDeclarable, AreDeclaredTo, Labels, names_of_first as words_first}
-use Rattle.promql_tool.specs.Boxes.{DeclaredSound, HasLost, IfLost, IsToBlame, KeepsBoxes, KeepsCalm, Lasts, LeavesBoxes, LosesNone, cut_of}
+use Rattle.promql_tool.specs.Boxes.{DeclaredSound, HasLost, IfNames, IsToBlame, KeepsBoxes, KeepsCalm, Lasts, LeavesBoxes, LeavesBut, cut_of}
 use Rattle.promql_tool.specs.declared.fault.Cut.{Cut}
 use Rattle.promql_tool.specs.Declaring.{HoldDeclared}
 use Rattle.promql_tool.specs.Chosen.{DeclaredTell, declared_of, terms_asked}
@@ -55,9 +55,9 @@ blamed_failed i es fs inside h = subst (λ (n : ℕ). HasFailed n (moved_last i 
 blamed_strayed : (i : ℕ) (one : Stray) (es fs : List EngineSeen) → i < length es → HasStrayed (last_place es) one (moved_last i es) fs → IsToBlame (Some one) (moved_last i es) fs
 blamed_strayed i one es fs inside h = subst (λ (n : ℕ). HasStrayed n one (moved_last i es) fs) (ap (λ n. n - 1) (sym (moved_size i es inside))) h
 
-module _ {T U : Type 0} (before now : List Names) (es fs : List EngineSeen) (few : length before ≤ length es) where
-  -- an engine's fault
-  pub fault_leaves : (fault : RunFault) → LeavesServing {T = T} (Err (runner.Run fault)) before now es fs → RunFaulted {T = T} (Err (runner.Run fault)) es fs → LeavesBoxes {T = U} (Err (cut_of fault)) es fs
+-- an engine's fault
+module _ (before now : List Names) (es fs : List EngineSeen) (few : length before ≤ length es) where
+  pub fault_leaves : (fault : RunFault) → ServesBut (named_by fault) before now es fs → FaultedBy (runner.Run fault) es fs → LeavesBut (cut_of fault) es fs
   fault_leaves run.Memory h blame = all_kept es fs h.many h.boxes
   fault_leaves (run.EngineFault i) h blame =
       let inside : i < length es = omega (arith, h.one, few) in
@@ -127,7 +127,7 @@ module _ (boxes : ℕ) (words : List (List ℕ)) (wish : Option Wish) (is : aske
   alone_sound es none = subst (λ (l : List Labels). AreSound (take (length l) es)) (sym (declared_by ∙ none)) (none_sound es)
 
 -- what is known where an engine's fault is told
-pub when_named : {T : Type 0} (fault : RunFault) (P : Type 0) → P → IfLost {T = T} (Err (cut_of fault)) (λ _. P)
+pub when_named : (fault : RunFault) (P : Type 0) → P → IfNames (cut_of fault) (λ _. P)
 when_named run.Memory P p = tt
 when_named (run.EngineFault i) P p = p
 when_named (run.OutOfStep i expected got) P p = p

@@ -107,9 +107,10 @@ fn run_words<L: Library, S: Sink, C: Courier, W: Ledger>(
         ) => {
             declare(engines, declared.as_slice())?;
             let options = options_of(choices);
+            let files = files.as_slice();
             run_files(
                 alloc,
-                files.as_slice(),
+                files,
                 &options,
                 library,
                 engines,

@@ -13,7 +13,7 @@ use Rattle.promql_tool.proofs.Mapped.{comes_so, cut_so, ends_so, stopped_so}
 use Rattle.promql_tool.specs.Spending.{FilesSpend, no_file_left, one_file_more}
 use Rattle.promql_tool.proofs.Serving.{tell_on}
 use Rattle.promql_tool.proofs.Spending.{file_so}
-use Rattle.promql_tool.proofs.WordsRun.{when_lost}
+use Rattle.promql_tool.proofs.WordsRun.{when_names}
 use Rattle.promql_tool.proofs.files.run_files.Goals as goal
 
 pub returns-in_err-totals-clause-fetched : goal.returns-in_err-totals-clause-fetched
@@ -67,7 +67,7 @@ returns-in-Stopped-clause-ends g c = λ tell.
     let to = found_since _ _ _ _ c.loop-file.invariant.told c.loop-file.invariant.library_sound path in
     let came = ends_so later found path to terms mid now (c.run_file.new.work ≡ c.loop-file.work) (Stopped c.in-Stopped.stop) (rw (c.in-Stopped.is, c.loop-file.invariant.labels) at c.in_ok-totals.ensures.came) in
     let run_on = subst (λ (w : Option (List ℕ)). RunSoFar terms found files (path ∷ drop (i + 1) files) before w idle c.loop-file.tally.passed c.loop-file.tally.failed) (sym came.1) run in
-    rw c.or_cut-in-Stopped.ensures.is (ends_cut _ _ _ _ c.print_stop.result (stop_printed terms found files before path (drop (i + 1) files) now idle _ _ run_on c.in-Stopped.stop (g.S.Sink.written c.print_stop.new.out) _ c.print_stop.result came.0 (λ rests. came.2 ∙ rests)
+    rw c.or_cut.ensures.is (ends_cut _ _ _ _ c.print_stop.result (stop_printed terms found files before path (drop (i + 1) files) now idle _ _ run_on c.in-Stopped.stop (g.S.Sink.written c.print_stop.new.out) _ c.print_stop.result came.0 (λ rests. came.2 ∙ rests)
     c.print_stop.ensures.ok c.print_stop.ensures.err))
 
 pub loop-file-init : goal.loop-file-init
@@ -111,7 +111,7 @@ loop-file-preserved g c =
     let to = found_since _ _ _ _ c.loop-file.invariant.told c.loop-file.invariant.library_sound path in
     let rests = rw c.in-Judged.is at c.in_ok-totals.ensures.rests in
     let sums = c.with-tally.ensures in
-    let left_boxes = rw c.loop-file.invariant.labels at c.in_ok-totals.ensures.boxes in
+    let left_boxes = c.in_ok-totals.ensures.boxes in
     record {
       run = λ tell.
           let run = subst (λ (left : List (List ℕ)). RunSoFar terms found files left before mid idle tally.passed tally.failed) here (c.loop-file.invariant.run tell) in
@@ -151,7 +151,7 @@ returns-clause-ends g c = λ tell.
     let tally = c.loop-file.tally in
     let none = drop_all c.loop-file.file-index files c.loop-file-test.false in
     let run = subst (λ (left : List (List ℕ)). RunSoFar terms found files left before mid idle tally.passed tally.failed) none (c.loop-file.invariant.run tell) in
-    rw c.or_cut.ensures.is (ends_cut _ _ _ _ c.print_totals.result (totals_printed terms found files before mid idle tally.passed tally.failed run (g.S.Sink.written c.print_totals.new.out) c.print_totals.result c.print_totals.ensures.ok c.print_totals.ensures.err))
+    rw c.or_cut-2.ensures.is (ends_cut _ _ _ _ c.print_totals.result (totals_printed terms found files before mid idle tally.passed tally.failed run (g.S.Sink.written c.print_totals.new.out) c.print_totals.result c.print_totals.ensures.ok c.print_totals.ensures.err))
 
 pub returns-in_err-totals-clause-reached : goal.returns-in_err-totals-clause-reached
 returns-in_err-totals-clause-reached g c = λ tell.
@@ -194,7 +194,7 @@ returns-in-Stopped-clause-reached g c = λ tell.
     let run_on = subst (λ (w : Option (List ℕ)). RunSoFar terms found files (path ∷ drop (i + 1) files) before w idle c.loop-file.tally.passed c.loop-file.tally.failed) (sym came.1) run in
     let fetched = fetched_next _ g.L.Library.fetches files i c.file-item.result path c.args.library.now c.loop-file.library c.run_file.new.library c.loop-file-test.true
     c.as_str-path.ensures c.file-item.is c.loop-file.invariant.fetched c.run_file.ensures.fetched in
-    rw c.or_cut-in-Stopped.ensures.is (stop_reaches _ g.L.Library.fetches c.args.library.now c.run_file.new.library terms found files before now idle _ _ i path run_on fetched c.in-Stopped.stop (g.S.Sink.written c.print_stop.new.out) _ c.print_stop.result came.0
+    rw c.or_cut.ensures.is (stop_reaches _ g.L.Library.fetches c.args.library.now c.run_file.new.library terms found files before now idle _ _ i path run_on fetched c.in-Stopped.stop (g.S.Sink.written c.print_stop.new.out) _ c.print_stop.result came.0
     (λ rests. came.2 ∙ rests) c.print_stop.ensures.ok c.print_stop.ensures.err)
 
 pub returns-clause-reached : goal.returns-clause-reached
@@ -209,7 +209,7 @@ returns-clause-reached g c = λ tell.
     let none = drop_all c.loop-file.file-index files c.loop-file-test.false in
     let run = subst (λ (left : List (List ℕ)). RunSoFar terms found files left before mid idle tally.passed tally.failed) none (c.loop-file.invariant.run tell) in
     let fetched = subst (λ (ps : List (List ℕ)). Fetches g.L.Library.fetches ps c.args.library.now c.loop-file.library) (take_all c.loop-file.file-index files c.loop-file-test.false) c.loop-file.invariant.fetched in
-    rw c.or_cut.ensures.is (totals_reach _ g.L.Library.fetches c.args.library.now c.loop-file.library terms found files before mid idle tally.passed tally.failed run fetched (g.S.Sink.written c.print_totals.new.out) idle c.print_totals.result c.print_totals.ensures.ok c.print_totals.ensures.err)
+    rw c.or_cut-2.ensures.is (totals_reach _ g.L.Library.fetches c.args.library.now c.loop-file.library terms found files before mid idle tally.passed tally.failed run fetched (g.S.Sink.written c.print_totals.new.out) idle c.print_totals.result c.print_totals.ensures.ok c.print_totals.ensures.err)
 
 pub returns-in-Stopped-clause-came : goal.returns-in-Stopped-clause-came
 returns-in-Stopped-clause-came g c =
@@ -226,7 +226,7 @@ returns-in-Stopped-clause-came g c =
     let to = found_since _ _ _ _ c.loop-file.invariant.told c.loop-file.invariant.library_sound path in
     let came = ends_so later found path to terms mid now (c.run_file.new.work ≡ c.loop-file.work) (Stopped c.in-Stopped.stop) (rw (c.in-Stopped.is, c.loop-file.invariant.labels) at c.in_ok-totals.ensures.came) in
     let parts = ap (λ (l : List (List ℕ)). take i files ++ l) (sym here) ∙ take-append-drop i files in
-    rw c.or_cut-in-Stopped.ensures.is (stop_ends terms found (take i files) path (drop (i + 1) files) files c.in-Stopped.stop now (g.S.Sink.written c.print_stop.new.out) idle _ c.print_stop.result parts c.loop-file.invariant.ran came.0 (λ rests. came.2 ∙ rests) c.print_stop.ensures.ok)
+    rw c.or_cut.ensures.is (stop_ends terms found (take i files) path (drop (i + 1) files) files c.in-Stopped.stop now (g.S.Sink.written c.print_stop.new.out) idle _ c.print_stop.result parts c.loop-file.invariant.ran came.0 (λ rests. came.2 ∙ rests) c.print_stop.ensures.ok)
 
 pub returns-clause-came : goal.returns-clause-came
 returns-clause-came g c =
@@ -235,7 +235,7 @@ returns-clause-came g c =
     let terms = under c.args.options.now.closed c.args.declared.now in
     let idle = c.loop-file.work ≡ c.args.work.now in
     let ran = subst (λ (ps : List (List ℕ)). RanSoFar terms found ps idle) (take_all c.loop-file.file-index files c.loop-file-test.false) c.loop-file.invariant.ran in
-    rw c.or_cut.ensures.is (totals_end terms found files c.loop-file.tally.failed idle _ (g.S.Sink.written c.print_totals.new.out) _ c.print_totals.result ran c.print_totals.ensures.ok)
+    rw c.or_cut-2.ensures.is (totals_end terms found files c.loop-file.tally.failed idle _ (g.S.Sink.written c.print_totals.new.out) _ c.print_totals.result ran c.print_totals.ensures.ok)
 
 pub returns-in_err-totals-clause-stopped : goal.returns-in_err-totals-clause-stopped
 returns-in_err-totals-clause-stopped g c = λ tell.
@@ -254,7 +254,7 @@ returns-in_err-totals-clause-stopped g c = λ tell.
     let to = found_since _ _ _ _ c.loop-file.invariant.told c.loop-file.invariant.library_sound path in
     let tell_mid = tell_on (length c.args.declared.now) _ _ c.loop-file.invariant.kept tell in
     let p = err_from_is_err_and c.from_residual.result c.from_residual.ensures.1 in
-    rw (p.1, p.2) (when_lost (Err c.in_err-totals.error) _ _ (λ s. next_stopped terms found files before path (drop (i + 1) files) mid _ _ _ run now (stopped_so later found path to terms mid now s)) ((rw c.loop-file.invariant.labels at c.in_err-totals.ensures.stopped) tell_mid))
+    rw (p.1, p.2) (when_names _ _ _ (λ s. next_stopped terms found files before path (drop (i + 1) files) mid _ _ _ run now (stopped_so later found path to terms mid now s)) ((rw c.loop-file.invariant.labels at c.in_err-totals.ensures.stopped) tell_mid))
 
 pub returns-in_err-totals-clause-boxes : goal.returns-in_err-totals-clause-boxes
 returns-in_err-totals-clause-boxes g c =
@@ -263,11 +263,11 @@ returns-in_err-totals-clause-boxes g c =
 
 pub returns-in-Stopped-clause-boxes : goal.returns-in-Stopped-clause-boxes
 returns-in-Stopped-clause-boxes g c =
-    kept_leaves _ _ c.or_cut-in-Stopped.result c.or_cut-in-Stopped.ensures.none (still_on _ _ _ c.loop-file.invariant.kept c.in_ok-totals.ensures.boxes)
+    kept_leaves _ _ c.or_cut.result c.or_cut.ensures.none (still_on _ _ _ c.loop-file.invariant.kept c.in_ok-totals.ensures.boxes)
 
 pub returns-clause-boxes : goal.returns-clause-boxes
 returns-clause-boxes g c =
-    kept_leaves _ _ c.or_cut.result c.or_cut.ensures.none c.loop-file.invariant.kept
+    kept_leaves _ _ c.or_cut-2.result c.or_cut-2.ensures.none c.loop-file.invariant.kept
 
 pub returns-in_err-totals-clause-sure : goal.returns-in_err-totals-clause-sure
 returns-in_err-totals-clause-sure g c = λ tell.

@@ -45,3 +45,9 @@ returns-in-Bytes-clause-stopped g c =
 
 pub returns-in-Stopped-clause-boxes : goal.returns-in-Stopped-clause-boxes
 returns-in-Stopped-clause-boxes g c = still_itself _
+
+pub returns-in-Stopped-clause-ran : goal.returns-in-Stopped-clause-ran
+returns-in-Stopped-clause-ran g c = λ tell. (rw c.in-Stopped.is at (c.in_ok-bytes.ensures.file (under c.args.options.now.closed c.args.declared.now)), refl, refl)
+
+pub returns-in-Stopped-clause-came : goal.returns-in-Stopped-clause-came
+returns-in-Stopped-clause-came g c = (rw c.in-Stopped.is at (c.in_ok-bytes.ensures.file (under c.args.options.now.closed c.args.declared.now)), refl, refl)

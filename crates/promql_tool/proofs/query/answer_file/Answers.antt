@@ -37,3 +37,9 @@ returns-in-Bytes-clause-came g c =
 
 pub returns-in-Stopped-clause-boxes : goal.returns-in-Stopped-clause-boxes
 returns-in-Stopped-clause-boxes g c = still_itself _
+
+pub returns-in-Stopped-clause-answered : goal.returns-in-Stopped-clause-answered
+returns-in-Stopped-clause-answered g c = λ tell. (rw c.in-Stopped.is at (c.in_ok-bytes.ensures.file (under c.args.question.options.now.closed c.args.declared.now)), refl)
+
+pub returns-in-Stopped-clause-came : goal.returns-in-Stopped-clause-came
+returns-in-Stopped-clause-came g c = (rw c.in-Stopped.is at (c.in_ok-bytes.ensures.file (under c.args.question.options.now.closed c.args.declared.now)), refl)

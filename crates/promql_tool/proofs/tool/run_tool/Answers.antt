@@ -96,7 +96,7 @@ returns-in-Ok-clause-outside g c =
 
 pub returns-in-Err-clause-outside : goal.returns-in-Err-clause-outside
 returns-in-Err-clause-outside g c =
-    let is = cut_status c.in-Err.cut _ _ _ c.end_cut.ensures.ended (IsOneOf (3 ∷ 4 ∷ 5 ∷ 6 ∷ 7 ∷ [])) refl refl refl in told_each (g.L.Library.told c.args.library.now) _ (λ files path named no. is)
+    let is = cut_status c.in-Err.cut _ _ _ c.end_cut.ensures.ended (IsOneOf (3 ∷ 4 ∷ 5 ∷ 6 ∷ 7 ∷ [])) refl refl refl in told_each (g.L.Library.told c.args.library.now) _ (λ files path named unfit. is)
 
 pub returns-in-Ok-clause-made : goal.returns-in-Ok-clause-made
 returns-in-Ok-clause-made g c =
@@ -120,7 +120,7 @@ returns-in-Ok-clause-idle_first g c =
 
 pub returns-in-Err-clause-idle_first : goal.returns-in-Err-clause-idle_first
 returns-in-Err-clause-idle_first g c =
-    told_each (g.L.Library.told c.args.library.now) _ (λ files. first_of (files_of (length c.args.engines.now.items) (map string_bytes c.args.words.now)) _ (λ path no one. absurd (cut_status c.in-Err.cut _ _ _ c.end_cut.ensures.ended (λ n. IsOneOf (3 ∷ 6 ∷ []) n → ⊥) (λ h. cc) (λ h. cc) (λ h. cc) one)))
+    told_each (g.L.Library.told c.args.library.now) _ (λ files. first_of (files_of (length c.args.engines.now.items) (map string_bytes c.args.words.now)) _ (λ path unfit one. absurd (cut_status c.in-Err.cut _ _ _ c.end_cut.ensures.ended (λ n. IsOneOf (3 ∷ 6 ∷ []) n → ⊥) (λ h. cc) (λ h. cc) (λ h. cc) one)))
 
 pub returns-in-Err-clause-fetch : goal.returns-in-Err-clause-fetch
 returns-in-Err-clause-fetch g c = λ e.
@@ -164,7 +164,7 @@ returns-in-Ok-clause-write g c = λ e.
 
 pub returns-in-Err-clause-write : goal.returns-in-Err-clause-write
 returns-in-Err-clause-write g c =
-    cut_wrote _ _ _ c.in-Err.cut _ _ _ c.end_cut.ensures.ended c.run_words.ensures.cause c.end_cut.ensures.cause
+    cut_wrote _ _ _ c.in-Err.cut _ _ _ c.end_cut.ensures.ended c.in-Err.ensures.cause c.end_cut.ensures.cause
 
 pub returns-in-Ok-clause-sound : goal.returns-in-Ok-clause-sound
 returns-in-Ok-clause-sound g c = λ s e.
@@ -212,7 +212,7 @@ returns-in-Ok-clause-boxes_cut g c = λ one.
 
 pub returns-in-Err-clause-boxes_cut : goal.returns-in-Err-clause-boxes_cut
 returns-in-Err-clause-boxes_cut g c = λ one.
-    boxes_cut _ _ _ _ _ c.in-Err.cut c.in-Err.ensures.boxes
+    boxes_cut _ _ c.in-Err.cut c.in-Err.ensures.boxes
 
 pub returns-in-Ok-clause-none_declared : goal.returns-in-Ok-clause-none_declared
 returns-in-Ok-clause-none_declared g c = λ none e.
