@@ -14,7 +14,7 @@ use Rattle.query_engine.specs.Engines.{last_place, moved_last}
 use Rattle.test_runner.specs.Boxes.{AreSound}
 use Rattle.remote_api.specs.Seen.{EngineSeen, KeepsStrays}
 use Rattle.remote_api.specs.declared.frame.Stray.{Stray}
-use Rattle.promql_tool.specs.Boxes.{HasLost, IfNames, IsToBlame, KeepsBoxes, KeepsCalm, Lasts, LeavesBoxes, LeavesBut, LosesNone, cut_by, or_cut}
+use Rattle.promql_tool.specs.Boxes.{HasLost, IsToBlame, KeepsBoxes, KeepsCalm, Lasts, LeavesBoxes, LeavesBut, LosesNone, cut_by, or_cut}
 use Rattle.promql_tool.specs.declared.fault.Cut.{Cut}
 use Rattle.promql_tool.specs.declared.fault.Cut.TheVariants as cut
 use Rattle.promql_tool.specs.declared.fault.Lost.{Lost}
@@ -303,11 +303,6 @@ pub sound_since : (n : ℕ) (es fs : List EngineSeen) → KeepsCalm es fs → Ar
 sound_since n es fs a sound i f at =
     let o = stood Lasts es fs i f a.kept.many a.kept.boxes (take_get fs n i f at) in
     o.2.sound (sound i o.0 (get_taken es n i o.0 (take_inside fs n i f at) o.1))
-
--- a write names no engine
-pub none_by : (cause : SinkFail) → IfNames (cut_by cause) (λ _. ⊥)
-none_by sinks.Failed = tt
-none_by sinks.Memory = tt
 
 -- after a write that failed all boxes stand
 pub write_keeps : (cause : SinkFail) (es : List EngineSeen) → LeavesBut (cut_by cause) es es

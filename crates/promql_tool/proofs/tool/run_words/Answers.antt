@@ -99,7 +99,7 @@ pub returns-in_err-declare-in-Some-Test-clause-sure : goal.returns-in_err-declar
 returns-in_err-declare-in-Some-Test-clause-sure g c = λ tell sound.
     let wish = rw (c.in-Some-Test.is, c.in-Some-Test.field-0-is, c.box_count-boxes.ensures, c.as_slice.ensures.value) at c.in_ok-read_words.ensures.wish in
     let p = err_from_is_err_and c.from_residual-in_err-declare-in-Some-Test.result c.from_residual-in_err-declare-in-Some-Test.ensures.1 in
-    rw (p.1, p.2) (c.in_err-declare-in-Some-Test.ensures.sure (sound_by (length c.args.engines.now.items) (map string_bytes c.args.words.now) _ (sym wish) _ sound))
+    rw (p.1, p.2) ((rw c.as_slice-in-Some-Test.ensures at c.in_err-declare-in-Some-Test.ensures.sure) (sound_by (length c.args.engines.now.items) (map string_bytes c.args.words.now) _ (sym wish) _ sound))
 
 pub returns-in_ok-declare-in-Some-Test-clause-ends : goal.returns-in_ok-declare-in-Some-Test-clause-ends
 returns-in_ok-declare-in-Some-Test-clause-ends g c = λ tell.
@@ -122,7 +122,7 @@ returns-in_ok-declare-in-Some-Test-clause-stopped g c = λ tell.
     let wish = rw (c.in-Some-Test.is, c.in-Some-Test.field-0-is, c.box_count-boxes.ensures, c.as_slice.ensures.value) at c.in_ok-read_words.ensures.wish in
     let is : asked (length c.args.engines.now.items) (map string_bytes c.args.words.now) ≡ Some (test c.in-Some-Test.choices c.in-Some-Test.declared c.as_slice-files.result.now) = sym wish ∙ ap (λ (paths : List (List ℕ)). Some (test c.in-Some-Test.choices c.in-Some-Test.declared paths)) (sym c.as_slice-files.ensures) in
     let tell_now = tell_on (length c.in-Some-Test.declared) _ _ c.in_ok-declare-in-Some-Test.ensures.boxes (tell_by (length c.args.engines.now.items) (map string_bytes c.args.words.now) _ is _ tell) in
-    files_stopped (length c.args.engines.now.items) (map string_bytes c.args.words.now) c.in-Some-Test.choices c.in-Some-Test.declared found (g.S.Sink.written c.args.out.now) (g.S.Sink.written c.run_files.new.out) _ c.as_slice-files.result.now c.run_files.result is ((rw c.options_of-options.ensures at c.run_files.ensures.stopped) tell_now)
+    files_stopped (length c.args.engines.now.items) (map string_bytes c.args.words.now) c.in-Some-Test.choices c.in-Some-Test.declared found (g.S.Sink.written c.args.out.now) (g.S.Sink.written c.run_files.new.out) (Unit {0}) c.as_slice-files.result.now c.run_files.result is ((rw c.options_of-options.ensures at c.run_files.ensures.stopped) tell_now)
 
 pub returns-in_ok-declare-in-Some-Test-clause-reached : goal.returns-in_ok-declare-in-Some-Test-clause-reached
 returns-in_ok-declare-in-Some-Test-clause-reached g c = λ tell.
@@ -192,7 +192,7 @@ pub returns-in_err-declare-in-Some-Query-clause-sure : goal.returns-in_err-decla
 returns-in_err-declare-in-Some-Query-clause-sure g c = λ tell sound.
     let wish = rw (c.in-Some-Query.is, c.in-Some-Query.field-0-is, c.box_count-boxes.ensures, c.as_slice.ensures.value) at c.in_ok-read_words.ensures.wish in
     let p = err_from_is_err_and c.from_residual-in_err-declare-in-Some-Query.result c.from_residual-in_err-declare-in-Some-Query.ensures.1 in
-    rw (p.1, p.2) (c.in_err-declare-in-Some-Query.ensures.sure (sound_by (length c.args.engines.now.items) (map string_bytes c.args.words.now) _ (sym wish) _ sound))
+    rw (p.1, p.2) ((rw c.as_slice-in-Some-Query.ensures at c.in_err-declare-in-Some-Query.ensures.sure) (sound_by (length c.args.engines.now.items) (map string_bytes c.args.words.now) _ (sym wish) _ sound))
 
 pub returns-in_ok-declare-in-Some-Query-clause-ends : goal.returns-in_ok-declare-in-Some-Query-clause-ends
 returns-in_ok-declare-in-Some-Query-clause-ends g c = λ tell.
@@ -288,7 +288,7 @@ pub returns-in_err-declare-in-Some-Workload-clause-sure : goal.returns-in_err-de
 returns-in_err-declare-in-Some-Workload-clause-sure g c = λ tell sound.
     let wish = rw (c.in-Some-Workload.is, c.in-Some-Workload.field-0-is, c.box_count-boxes.ensures, c.as_slice.ensures.value) at c.in_ok-read_words.ensures.wish in
     let p = err_from_is_err_and c.from_residual-in_err-declare-in-Some-Workload.result c.from_residual-in_err-declare-in-Some-Workload.ensures.1 in
-    rw (p.1, p.2) (c.in_err-declare-in-Some-Workload.ensures.sure (sound_by (length c.args.engines.now.items) (map string_bytes c.args.words.now) _ (sym wish) _ sound))
+    rw (p.1, p.2) ((rw c.as_slice-in-Some-Workload.ensures at c.in_err-declare-in-Some-Workload.ensures.sure) (sound_by (length c.args.engines.now.items) (map string_bytes c.args.words.now) _ (sym wish) _ sound))
 
 pub returns-in_ok-declare-in-Some-Workload-clause-ends : goal.returns-in_ok-declare-in-Some-Workload-clause-ends
 returns-in_ok-declare-in-Some-Workload-clause-ends g c = λ tell.
@@ -311,7 +311,7 @@ returns-in_ok-declare-in-Some-Workload-clause-stopped g c = λ tell.
     let wish = rw (c.in-Some-Workload.is, c.in-Some-Workload.field-0-is, c.box_count-boxes.ensures, c.as_slice.ensures.value) at c.in_ok-read_words.ensures.wish in
     let is : asked (length c.args.engines.now.items) (map string_bytes c.args.words.now) ≡ Some (workload c.in-Some-Workload.choices c.in-Some-Workload.declared c.in-Some-Workload.count) = sym wish in
     let tell_now = tell_on (length c.in-Some-Workload.declared) _ _ c.in_ok-declare-in-Some-Workload.ensures.boxes (tell_by (length c.args.engines.now.items) (map string_bytes c.args.words.now) _ is _ tell) in
-    workload_stopped (length c.args.engines.now.items) (map string_bytes c.args.words.now) c.in-Some-Workload.choices c.in-Some-Workload.declared found (g.S.Sink.written c.args.out.now) (g.S.Sink.written c.run_workload.new.out) _ c.in-Some-Workload.count c.run_workload.result is ((rw c.options_of-options-in-Some-Workload.ensures at c.run_workload.ensures.stopped) tell_now)
+    workload_stopped (length c.args.engines.now.items) (map string_bytes c.args.words.now) c.in-Some-Workload.choices c.in-Some-Workload.declared found (g.S.Sink.written c.args.out.now) (g.S.Sink.written c.run_workload.new.out) (Unit {0}) c.in-Some-Workload.count c.run_workload.result is ((rw c.options_of-options-in-Some-Workload.ensures at c.run_workload.ensures.stopped) tell_now)
 
 pub returns-in_ok-declare-in-Some-Workload-clause-reached : goal.returns-in_ok-declare-in-Some-Workload-clause-reached
 returns-in_ok-declare-in-Some-Workload-clause-reached g c = λ tell.
