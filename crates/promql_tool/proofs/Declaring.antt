@@ -52,6 +52,7 @@ one_keeps i labels es fs many c = record {
     lasts k e same at =
         let o = c.one e (ap (slice_get es) (sym same) ∙ at) in
         (o.0, ap (slice_get fs) same ∙ o.1, o.2.lasts)
+
     calm : (k : ℕ) (e : EngineSeen) → k ≡ i → slice_get es k ≡ Some e → (f : EngineSeen) × (slice_get fs k ≡ Some f) × KeepsStrays e f
     calm k e same at =
         let o = c.one e (ap (slice_get es) (sym same) ∙ at) in
