@@ -1,24 +1,21 @@
 -- Lists of boxes, place by place, and what becomes of them.
-use Rattle.std.proofs.Common.{◌≡◌, ◌∙◌, ℕ, zero, suc, ◌+◌, ◌-◌, ◌<◌, ◌≤◌, List, [], ◌∷◌, ◌++◌, drop, get_or, length, length-append, map, take, slice_get, slice_set, refl, sym, ap, ap₂, subst, arith, Option, Some, None, ⊎_elim}
-use Rattle.std.specs.Prelude.{Result, Ok, Err, IsErrOf, OnErr, OnOk, remove, true, is_some, ⊤}
+use Rattle.std.proofs.Common.{◌≡◌, ◌∙◌, ℕ, zero, suc, ◌+◌, ◌-◌, ◌<◌, ◌≤◌, List, [], ◌∷◌, ◌++◌, drop, get_or, length, length-append, map, take, slice_get, slice_set, refl, sym, ap, ap₂, subst, arith, Option, Some, None}
+use Rattle.std.specs.Prelude.{Result, Ok, Err, remove}
 use Rattle.std.specs.List.{AllZip}
-use Rattle.std.proofs.lemmas.Bool.{cases_eq}
 use Rattle.std.proofs.lemmas.List.{map-set}
 use Rattle.std.proofs.lemmas.Option.{slice_get_read}
 use Rattle.edge_io.specs.Causes.{Rose}
 use Rattle.edge_io.specs.declared.sink.SinkFail.{SinkFail}
 use Rattle.edge_io.specs.declared.sink.SinkFail.TheVariants as sinks
 use Rattle.exchange.specs.Calls.{Each, IsCalled}
-use Rattle.exchange.specs.Faults.{HasFailed, HasStrayed}
 use Rattle.query_engine.specs.Engines.{last_place, moved_last}
 use Rattle.test_runner.specs.Boxes.{AreSound}
 use Rattle.remote_api.specs.Seen.{EngineSeen, KeepsStrays}
 use Rattle.remote_api.specs.declared.frame.Stray.{Stray}
-use Rattle.promql_tool.specs.Boxes.{HasLost, IsToBlame, KeepsBoxes, KeepsCalm, Lasts, LeavesBoxes, LeavesBut, LosesNone, cut_by, or_cut}
+use Rattle.promql_tool.specs.Boxes.{HasLost, IsToBlame, KeepsBoxes, KeepsCalm, Lasts, LeavesBoxes, LeavesBut, LosesNone, cut_by}
 use Rattle.promql_tool.specs.declared.fault.Cut.{Cut}
 use Rattle.promql_tool.specs.declared.fault.Cut.TheVariants as cut
 use Rattle.promql_tool.specs.declared.fault.Lost.{Lost}
-use Rattle.promql_tool.specs.declared.print.Status.{Status}
 
 -- ---- places
 

@@ -1,12 +1,12 @@
 -- Labels that were declared to boxes, one by one.
-use Rattle.std.proofs.Common.{◌≡◌, ◌∙◌, ℕ, ◌+◌, ◌-◌, ◌<◌, ◌≤◌, List, [], length, slice_get, take, refl, sym, ap, subst, arith, Option, Some, None, ⊎_elim, true}
+use Rattle.std.proofs.Common.{◌≡◌, ◌∙◌, ℕ, ◌+◌, ◌-◌, ◌<◌, ◌≤◌, List, length, slice_get, take, refl, sym, ap, subst, arith, Option, Some, None, ⊎_elim}
 use Rattle.std.specs.Prelude.{Result, Ok, Err, IfSome, ⊤}
 use Rattle.std.specs.Option.{option_map}
 use Rattle.std.proofs.lemmas.Bool.{cases_eq}
 use Rattle.exchange.specs.Calls.{Each, IsCalled}
-use Rattle.query_engine.specs.Engines.{last_place, moved_last}
+use Rattle.query_engine.specs.Engines.{moved_last}
 use Rattle.test_runner.specs.Boxes.{AreSound}
-use Rattle.remote_api.specs.Seen.{EngineSeen, HasDeclared, Holding, KeepsStrays, MayDeclare, declared_with}
+use Rattle.remote_api.specs.Seen.{EngineSeen, HasDeclared, Holding, KeepsStrays, declared_with}
 use Rattle.remote_api.specs.declared.engine.EngineFail.{EngineFail}
 use Rattle.remote_api.specs.declared.engine.EngineFail.TheVariants as fail
 use Rattle.tool_words.specs.Engines.{Labels}

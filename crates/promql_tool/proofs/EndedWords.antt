@@ -6,14 +6,13 @@ use Rattle.std.proofs.lemmas.Bool.Decides.{Decides-eqb}
 use Rattle.std.proofs.lemmas.List.Elements.{All-contains, All-from_recursion, Contains-append_left, Contains-append_right, Contains-push}
 use Rattle.edge_io.specs.Written.{appended}
 use Rattle.ticks.specs.Moments.{moments_in}
-use Rattle.ticks.specs.declared.grid.Grid.{Grid}
 use Rattle.tool_words.specs.Asked.{Wish, asked, explain, format, query, test, workload}
 use Rattle.tool_words.specs.Engines.{Labels}
 use Rattle.tool_words.specs.declared.asked.Choices.{Choices}
 use Rattle.promql_tool.specs.Chosen.{Terms, terms_asked, terms_in, terms_of}
 use Rattle.promql_tool.specs.Ended.{EndWith, EndsFiles, EndsWords, HasItsFiles, IsGoneLast, IsRefusedLast, IsTaken, IsThere, makes, misused, names, printed, queried, ran, stopped, tested, worked}
 use Rattle.promql_tool.specs.Ends.{IfFirst, IfMade, IsOneOf, IsUnrun}
-use Rattle.promql_tool.specs.Found.{Have, IsFound, Just}
+use Rattle.promql_tool.specs.Found.{IsFound, Just}
 use Rattle.promql_tool.specs.Reading.{IsNoScript, IsRefusedFor}
 use Rattle.promql_tool.specs.Report.{AsksToPrint, files_asked, files_of}
 use Rattle.promql_tool.specs.Runs.{HoldsScript, Stops, stop_report}

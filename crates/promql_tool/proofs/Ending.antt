@@ -1,12 +1,12 @@
 -- How a run ends that was cut off.
-use Rattle.std.proofs.Common.{◌≡◌, ◌≤◌, ◌∙◌, ◌++◌, ◌⊎◌, ℕ, List, [], ◌∷◌, Option, None, Some, IfSome, Err, refl, sym, ap, subst, inl, inr, arith, append_assoc, ⊎_elim}
-use Rattle.std.specs.Prelude.{IsErrOf, Result}
+use Rattle.std.proofs.Common.{◌≡◌, ◌∙◌, ◌++◌, ◌⊎◌, ℕ, List, [], ◌∷◌, Option, None, Some, IfSome, Err, refl, sym, ap, subst, inl, inr, arith, append_assoc, ⊎_elim}
+use Rattle.std.specs.Prelude.{IsErrOf}
 use Rattle.edge_io.specs.Causes.{HasCause, Rose}
 use Rattle.edge_io.specs.Fronts.{appended-appended, front_last}
 use Rattle.edge_io.specs.Written.{appended, WroteFront}
 use Rattle.remote_api.specs.Seen.{EngineSeen}
-use Rattle.tool_words.specs.Asked.{Wish, asked, explain, format, query, test, workload}
-use Rattle.promql_tool.specs.Boxes.{EndsCut, HasLost, HasLostOne, IfLost, IfWritten, IsLostLast, KeepsBoxes, LeavesBoxes, LosesNone}
+use Rattle.tool_words.specs.Asked.{Wish, explain, format, query, test, workload}
+use Rattle.promql_tool.specs.Boxes.{EndsCut, HasLostOne, IfLost, IfWritten, IsLostLast, KeepsBoxes, LeavesBoxes, LosesNone}
 use Rattle.promql_tool.specs.Chosen.{Terms, terms_in}
 use Rattle.promql_tool.specs.Ends.{IfFirst, IfMade, IsCut, IsOneOf, IsStoppedWords, losing}
 use Rattle.promql_tool.specs.Reached.{Reaches, ReachesFiles, StopsAt, WroteTheir, files, no_file, no_memory, one_file, status_of, undeclared, up_to, whole}

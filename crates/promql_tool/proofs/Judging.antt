@@ -1,5 +1,5 @@
 -- What a script and bytes come to.
-use Rattle.std.proofs.Common.{◌≡◌, ℕ, List, [], ◌++◌, Option, Result, Ok, Err, IfErr, IfOk, OnErr, refl, sym, ap, ◌∙◌, append-nil}
+use Rattle.std.proofs.Common.{◌≡◌, ℕ, List, [], Option, Result, Ok, Err, IfErr, IfOk, OnErr, refl, ap, append-nil}
 use Rattle.edge_io.specs.Written.{appended, WroteFront}
 use Rattle.sample_store.specs.Samples.{AllSeries}
 use Rattle.script_read.specs.Outcomes.{PatternList}
@@ -16,7 +16,6 @@ use Rattle.promql_tool.specs.Found.{Just}
 use Rattle.promql_tool.specs.Runs.{ComesTo, Cut, FileEnds, IsCutFile, IsCutScript, IsStoppedFile, IsStoppedScript, Midway, RefusesLoads, Running, ScriptComesTo, ScriptEnds, Standing, Unbegun, Unmoved, Unrun, Unwritten}
 use Rattle.promql_tool.specs.declared.fault.Cut.{Cut as Cutting}
 use Rattle.promql_tool.specs.declared.fault.Cut.TheVariants as cut
-use Rattle.promql_tool.specs.declared.fault.Lost.{Lost}
 use Rattle.promql_tool.specs.declared.fault.Refusal.{Refusal}
 use Rattle.promql_tool.specs.declared.fault.Refusal.TheVariants as refusal
 use Rattle.promql_tool.specs.declared.fault.Stop.TheVariants as stop

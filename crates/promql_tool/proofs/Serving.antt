@@ -1,12 +1,11 @@
 -- What a script leaves of boxes, as a run sees it.
 use Rattle.std.proofs.Common.{◌≡◌, ◌∙◌, ℕ, zero, suc, ◌-◌, ◌<◌, ◌≤◌, List, [], ◌∷◌, ◌++◌, length, map, slice_get, take, refl, sym, ap, subst, arith, Option, None, Some}
-use Rattle.std.specs.Prelude.{Result, Ok, Err, IfErr, IfSome, OnOk, ◌^◌, false, is_some, ⊤}
+use Rattle.std.specs.Prelude.{Result, Ok, Err, IfErr, IfSome, OnOk, ◌^◌, false, ⊤}
 use Rattle.std.specs.List.{AllByRecursion}
 use Rattle.std.specs.Map.{keys_of}
 use Rattle.std.specs.Option.{option_map}
 use Rattle.exchange.specs.Calls.{Each}
 use Rattle.exchange.specs.Faults.{HasFailed, HasStrayed}
-use Rattle.exchange.specs.Standing.{Tells}
 use Rattle.exchange.specs.declared.fault.RunFault.{RunFault}
 use Rattle.exchange.specs.declared.fault.RunFault.TheVariants as run
 use Rattle.label_set.specs.Labels.{is_named, metric_name}
@@ -16,11 +15,10 @@ use Rattle.remote_api.specs.Seen.{EngineSeen, Holding, KeepsStrays}
 use Rattle.remote_api.specs.declared.frame.Stray.{Stray}
 use Rattle.step_table.specs.Groups.{Names}
 use Rattle.test_runner.specs.Boxes.{AllTell, AreReady, AreSound, FaultedBy, Serves, ServesBut}
-use Rattle.test_runner.specs.declared.fault.RunnerFault.{RunnerFault}
 use Rattle.test_runner.specs.declared.fault.RunnerFault.TheVariants as runner
 use Rattle.tool_words.specs.Asked.{Wish, asked}
 use Rattle.tool_words.specs.Engines.{AreDeclarable, AreDeclaredTo, Labels, names_of_first as words_first}
-use Rattle.promql_tool.specs.Boxes.{DeclaredSound, HasLost, IfNames, IsToBlame, KeepsBoxes, KeepsCalm, Lasts, LeavesBoxes, LeavesBut, cut_of}
+use Rattle.promql_tool.specs.Boxes.{DeclaredSound, IfNames, IsToBlame, KeepsBoxes, KeepsCalm, Lasts, LeavesBoxes, LeavesBut, cut_of}
 use Rattle.promql_tool.specs.declared.fault.Cut.{Cut}
 use Rattle.promql_tool.specs.Declaring.{HoldDeclared}
 use Rattle.promql_tool.specs.Chosen.{DeclaredTell, declared_of, terms_asked}

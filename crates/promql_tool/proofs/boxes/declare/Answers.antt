@@ -1,4 +1,3 @@
-use Rattle.std.proofs.Common.{length, map}
 use Rattle.promql_tool.proofs.Serving.{ready_whole}
 use Rattle.promql_tool.proofs.boxes.declare.Goals as goal
 

@@ -1,4 +1,4 @@
-use Rattle.std.proofs.Common.{◌≡◌, ◌∙◌, ◌+◌, ◌<◌, length, map, refl, sym, arith, Err, Some, slice_get}
+use Rattle.std.proofs.Common.{◌∙◌, ◌+◌, length, refl, sym, arith}
 use Rattle.std.proofs.lemmas.Option.{slice_get_read}
 use Rattle.std.proofs.lemmas.Result.{err_from_is_err_and}
 use Rattle.promql_tool.proofs.BoxLists.{but_since, map_size, sound_since, sound_sooner}

@@ -1,4 +1,4 @@
-use Rattle.std.proofs.Common.{◌≡◌, ◌∙◌, length, map, refl, sym, ap, arith}
+use Rattle.std.proofs.Common.{◌∙◌, map, sym, ap, arith}
 use Rattle.promql_tool.proofs.BoxLists.{map_moved, map_size}
 use Rattle.promql_tool.proofs.Declaring.{called_calm, called_keeps, called_lost, called_ok, called_sound}
 use Rattle.promql_tool.proofs.boxes.declare_next.Goals as goal

@@ -1,4 +1,4 @@
-use Rattle.std.proofs.Common.{ap, map, refl, sym}
+use Rattle.std.proofs.Common.{ap, map, refl}
 use Rattle.promql_tool.specs.Chosen.{under}
 use Rattle.promql_tool.proofs.Judging.{script_cut, script_stopped, stopped_cut}
 use Rattle.promql_tool.proofs.Serving.{all_kept, all_still, fault_leaves, ready_on, untouched_still, when_err, when_named}

@@ -1,4 +1,4 @@
-use Rattle.std.proofs.Common.{ap, map, refl}
+use Rattle.std.proofs.Common.{ap, map}
 use Rattle.promql_tool.proofs.Serving.{all_kept, all_still, fault_leaves, first_if_err, untouched_still, when_err}
 use Rattle.promql_tool.proofs.query.answer_script.Goals as goal
 

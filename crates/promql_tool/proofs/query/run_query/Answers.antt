@@ -1,4 +1,3 @@
-use Rattle.std.proofs.Common.{Err}
 use Rattle.std.proofs.lemmas.Result.{err_from_is_err_and}
 use Rattle.promql_tool.specs.Found.{IsFound}
 use Rattle.promql_tool.proofs.BoxLists.{kept_leaves}

@@ -1,12 +1,6 @@
-use Rattle.std.proofs.Common.{◌≡◌, ◌⊎◌, ◌<◌, [], ◌∷◌, None, length, map, string_bytes, refl, sym, arith, inl, inr}
-use Rattle.promql_tool.specs.Boxes.{LosesNone}
-use Rattle.promql_tool.specs.Chosen.{terms_of}
-use Rattle.promql_tool.specs.Ended.{HasItsFiles}
-use Rattle.promql_tool.specs.Ends.{IfFirst, IfMade, IsOneOf, IsUnrun, IsGone, Reports}
-use Rattle.promql_tool.specs.Found.{Have}
-use Rattle.promql_tool.specs.Reading.{IsNoScript}
-use Rattle.promql_tool.specs.Report.{HasReport, files_of}
-use Rattle.promql_tool.specs.declared.print.Status.{Status}
+use Rattle.std.proofs.Common.{◌≡◌, [], ◌∷◌, None, length, map, string_bytes, refl, arith, inr}
+use Rattle.promql_tool.specs.Ends.{IsOneOf}
+use Rattle.promql_tool.specs.Report.{files_of}
 use Rattle.tool_words.specs.Asked.{asked}
 use Rattle.promql_tool.proofs.EndedWords.{ended_complete, ended_gone, ended_idle, ended_made, ended_missing, ended_outside, ended_refused, ended_rests, ended_status, ended_usage, ended_words}
 use Rattle.promql_tool.proofs.Ending.{boxes_cut, cut_alone, cut_reaches, cut_seven, cut_short, cut_sound, cut_status, cut_wrote, first_of, lost_last, made_each, stands_before, told_each}
