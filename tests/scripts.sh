@@ -2,7 +2,7 @@
 # Judges each script below tests/scripts/, whose README.md says which must pass and which must fail, and runs it in batches of
 # other sizes and with fewer rewrites of plans too, which must print the same bytes: those named optimised*.test with each choice
 # of rewrites. It prints a line for each script that does otherwise, and last how many scripts passed and failed. It runs
-# tests/refusals.sh, tests/texts.sh and tests/limits.sh too. It ends with 0 where all passed.
+# tests/refusals.sh, tests/texts.sh, tests/limits.sh and tests/engines.sh too. It ends with 0 where all passed.
 #   tests/scripts.sh                   by bin/promqltest; it fails where the release isn't of the sources that stand here
 #   tests/scripts.sh --program FILE    by this program, whatever the release is
 set -u
@@ -116,7 +116,7 @@ judge_all "${together[@]}"
 for file in "${alone[@]}"; do judge_one "$file"; done
 mapfile -t choices < <(all_rewrites)
 judge_all "${optimised[@]}"
-for more in refusals texts limits; do
+for more in refusals texts limits engines; do
     [ ! -e "$top/tests/$more.sh" ] || "$top/tests/$more.sh" "${program[0]}" || failed=$((failed + 1))
 done
 echo "scripts: ${#together[@]} that pass as they stand, ${#optimised[@]} by each choice of rewrites, ${#alone[@]} with files beside them, $failed failed"

@@ -1,6 +1,5 @@
 //! Runs of words over boxes of engines: what is printed depends neither on who is pulled next, nor on how many instants are computed at once.
-ghost use Rattle.promql_tool.specs.Boxes.{AreFresh};
-ghost use Rattle.std.specs.Prelude.{◌≡◌, ◌≤◌, length, map, IfOk};
+ghost use Rattle.std.specs.Prelude.{◌≡◌};
 
 use crate::rows::rows_hold;
 use edge_io::{MemLibrary, MemSink};
@@ -131,19 +130,7 @@ fn words_of(alloc: Global, line: &str, batch: &str) -> Result<Vec<String>, Alloc
     Ok(words)
 }
 
-/// So many boxes of engines, each as it was made.
-fn boxes_of(alloc: Global, count: u32) -> Result<Vec<Box<dyn Engine>>, AllocError>
-    ensures many { IfOk result (λ boxes. length boxes.items ≡ count) }
-    ensures fresh { IfOk result (λ boxes. AreFresh (map (λ b. seen b) boxes.items)) }
-{
-    let mut boxes: Vec<Box<dyn Engine>> = Vec::new(alloc);
-    for _ in 0..count {
-        boxes.push(Box::new(alloc, LocalEngine::new(alloc))?)?;
-    }
-    Ok(boxes)
-}
-
-/// Runs words over so many boxes, with counters of their own.
+/// Runs words over so many boxes of engines, each as it was made, with counters of their own.
 fn run_counted<W: Ledger, C: Courier>(
     alloc: Global,
     blank: Blank,
@@ -157,7 +144,10 @@ fn run_counted<W: Ledger, C: Courier>(
     requires three { blank.parts ≡ 3 }
 {
     let mut library = library_of(alloc)?;
-    let mut engines = boxes_of(alloc, boxes)?;
+    let mut engines: Vec<Box<dyn Engine>> = Vec::new(alloc);
+    for _ in 0..boxes {
+        engines.push(Box::new(alloc, LocalEngine::new(alloc))?)?;
+    }
     let mut work = Work::<W>::new(blank);
     Ok(run_tool(
         alloc,

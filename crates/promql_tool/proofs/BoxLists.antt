@@ -1,23 +1,21 @@
 -- Lists of boxes, place by place, and what becomes of them.
-use Rattle.std.proofs.Common.{◌≡◌, ◌∙◌, ℕ, zero, suc, ◌+◌, ◌-◌, ◌<◌, ◌≤◌, List, [], ◌∷◌, ◌++◌, drop, get_or, length, map, take, slice_get, slice_set, refl, sym, ap, ap₂, subst, arith, Option, Some, None, ⊎_elim}
-use Rattle.std.specs.Prelude.{Result, Ok, Err, IsErrOf, OnErr, OnOk, remove, true, is_some, ⊤}
+use Rattle.std.proofs.Common.{◌≡◌, ◌∙◌, ℕ, zero, suc, ◌+◌, ◌-◌, ◌<◌, ◌≤◌, List, [], ◌∷◌, ◌++◌, drop, get_or, length, length-append, map, take, slice_get, slice_set, refl, sym, ap, ap₂, subst, arith, Option, Some, None}
+use Rattle.std.specs.Prelude.{Result, Ok, Err, remove}
 use Rattle.std.specs.List.{AllZip}
-use Rattle.std.proofs.lemmas.Bool.{cases_eq}
 use Rattle.std.proofs.lemmas.List.{map-set}
 use Rattle.std.proofs.lemmas.Option.{slice_get_read}
 use Rattle.edge_io.specs.Causes.{Rose}
 use Rattle.edge_io.specs.declared.sink.SinkFail.{SinkFail}
 use Rattle.edge_io.specs.declared.sink.SinkFail.TheVariants as sinks
 use Rattle.exchange.specs.Calls.{Each, IsCalled}
-use Rattle.exchange.specs.Faults.{HasFailed, HasStrayed}
-use Rattle.query_engine.specs.Engines.{AreSound, last_place, moved_last}
-use Rattle.remote_api.specs.Seen.{EngineSeen}
+use Rattle.query_engine.specs.Engines.{last_place, moved_last}
+use Rattle.test_runner.specs.Boxes.{AreSound}
+use Rattle.remote_api.specs.Seen.{EngineSeen, KeepsStrays}
 use Rattle.remote_api.specs.declared.frame.Stray.{Stray}
-use Rattle.promql_tool.specs.Boxes.{HasLost, IsToBlame, KeepsBoxes, Lasts, LeavesBoxes, LosesNone, cut_by, or_cut}
+use Rattle.promql_tool.specs.Boxes.{HasLost, IsToBlame, KeepsBoxes, KeepsCalm, Lasts, LeavesBoxes, LeavesBut, LosesNone, cut_by}
 use Rattle.promql_tool.specs.declared.fault.Cut.{Cut}
 use Rattle.promql_tool.specs.declared.fault.Cut.TheVariants as cut
 use Rattle.promql_tool.specs.declared.fault.Lost.{Lost}
-use Rattle.promql_tool.specs.declared.print.Status.{Status}
 
 -- ---- places
 
@@ -175,16 +173,12 @@ moved_there {X} i n xs x size e =
     let here : n - 1 ≡ length (remove xs i) = omega (arith, s, size) in
     ap₂ (λ (ys : List X) (k : ℕ). slice_get (remove xs i ++ ys) k) (one_there i xs x e) here ∙ back_get (remove xs i) x
 
-both_size : {X : Type 0} (xs ys : List X) → length (xs ++ ys) ≡ length xs + length ys
-both_size [] ys = refl
-both_size (x ∷ xs) ys = ap suc (both_size xs ys)
-
 pub moved_size : {X : Type 0} (i : ℕ) (xs : List X) → i < length xs → length (moved_last i xs) ≡ length xs
 moved_size i xs l =
     let x = within_get xs i l in
     let s : suc (length (remove xs i)) ≡ length xs = removed_size i xs x.0 x.1 in
     let one : length (take 1 (drop i xs)) ≡ 1 = ap length (one_there i xs x.0 x.1) in
-    let two : length (moved_last i xs) ≡ length (remove xs i) + length (take 1 (drop i xs)) = both_size (remove xs i) (take 1 (drop i xs)) in
+    let two : length (moved_last i xs) ≡ length (remove xs i) + length (take 1 (drop i xs)) = length-append (remove xs i) (take 1 (drop i xs)) in
     omega (arith, s, one, two)
 
 pub map_moved : {X Y : Type 0} (f : X → Y) (i : ℕ) (xs : List X) → map f (moved_last i xs) ≡ moved_last i (map f xs)
@@ -201,22 +195,37 @@ front_of_rest (suc i) (x ∷ xs) l = front_of_rest i xs (omega (arith, l))
 -- ---- boxes that last
 
 pub lasts_itself : (e : EngineSeen) → Lasts e e
-lasts_itself e = record { tells = refl; faults = omega arith; strays = omega arith; sound = λ s. s }
+lasts_itself e = record { tells = refl; faults = omega arith; sound = λ s. s }
 
 lasts_on : (e f g : EngineSeen) → Lasts e f → Lasts f g → Lasts e g
-lasts_on e f g a b = record { tells = b.tells ∙ a.tells; faults = omega (arith, a.faults, b.faults); strays = omega (arith, a.strays, b.strays); sound = λ s. b.sound (a.sound s) }
+lasts_on e f g a b = record { tells = b.tells ∙ a.tells; faults = omega (arith, a.faults, b.faults); sound = λ s. b.sound (a.sound s) }
 
-each_on : (es fs gs : List EngineSeen) → Each Lasts es fs → Each Lasts fs gs → Each Lasts es gs
-each_on es fs gs a b i e at =
+pub calm_itself : (e : EngineSeen) → KeepsStrays e e
+calm_itself e = record { strays = refl; stray = refl }
+
+calm_on : (e f g : EngineSeen) → KeepsStrays e f → KeepsStrays f g → KeepsStrays e g
+calm_on e f g a b = record { strays = b.strays ∙ a.strays; stray = b.stray ∙ a.stray }
+
+each_on : (R : EngineSeen → EngineSeen → Type 0) → ((e f g : EngineSeen) → R e f → R f g → R e g) → (es fs gs : List EngineSeen) → Each R es fs → Each R fs gs → Each R es gs
+each_on R on es fs gs a b i e at =
     let o = a i e at in
     let p = b i o.0 o.1 in
-    (p.0, p.1, lasts_on e o.0 p.0 o.2 p.2)
-
-pub kept_itself : (es : List EngineSeen) → KeepsBoxes es es
-kept_itself es = record { many = refl; boxes = λ i e at. (e, at, lasts_itself e) }
+    (p.0, p.1, on e o.0 p.0 o.2 p.2)
 
 pub kept_on : (es fs gs : List EngineSeen) → KeepsBoxes es fs → KeepsBoxes fs gs → KeepsBoxes es gs
-kept_on es fs gs a b = record { many = b.many ∙ a.many; boxes = each_on es fs gs a.boxes b.boxes }
+kept_on es fs gs a b = record { many = b.many ∙ a.many; boxes = each_on Lasts lasts_on es fs gs a.boxes b.boxes }
+
+pub still_itself : (es : List EngineSeen) → KeepsCalm es es
+still_itself es = record {
+  kept = record { many = refl; boxes = λ i e at. (e, at, lasts_itself e) };
+  calm = λ i e at. (e, at, calm_itself e);
+}
+
+pub kept_itself : (es : List EngineSeen) → KeepsBoxes es es
+kept_itself es = (still_itself es).kept
+
+pub still_on : (es fs gs : List EngineSeen) → KeepsCalm es fs → KeepsCalm fs gs → KeepsCalm es gs
+still_on es fs gs a b = record { kept = kept_on es fs gs a.kept b.kept; calm = each_on KeepsStrays calm_on es fs gs a.calm b.calm }
 
 -- a count that rose later
 pub rose_before : (a b c : ℕ) → a ≤ b → Rose b c → Rose a c
@@ -227,8 +236,8 @@ pub rose_after : (a b c : ℕ) → Rose a b → b ≤ c → Rose a c
 rose_after a b c r l = omega arith
 
 -- who is to blame now is so from before
-blamed_since : (last : Option Stray) (es fs gs : List EngineSeen) → length fs ≡ length es → Each Lasts es fs → IsToBlame last fs gs → IsToBlame last es gs
-blamed_since None es fs gs many lasts h =
+blamed_since : (last : Option Stray) (es fs gs : List EngineSeen) → length fs ≡ length es → Each Lasts es fs → Each KeepsStrays es fs → IsToBlame last fs gs → IsToBlame last es gs
+blamed_since None es fs gs many lasts calm h =
     let o = stood Lasts es fs (last_place fs) h.e many lasts h.e_at in
     let here : last_place fs ≡ last_place es = ap (λ n. n - 1) many in
     record {
@@ -239,61 +248,63 @@ blamed_since None es fs gs many lasts h =
       rose = rose_before o.0.faults h.e.faults h.f.faults o.2.faults h.rose;
       unsound = λ s. h.unsound (o.2.sound s);
     }
-blamed_since (Some one) es fs gs many lasts h =
+blamed_since (Some one) es fs gs many lasts calm h =
     let o = stood Lasts es fs (last_place fs) h.e many lasts h.e_at in
+    let q = stood KeepsStrays es fs (last_place fs) h.e many calm h.e_at in
+    let same : q.0 ≡ o.0 = some_same q.0 o.0 (sym q.1 ∙ o.1) in
+    let strays : h.e.strays ≡ o.0.strays = q.2.strays ∙ ap (λ (x : EngineSeen). x.strays) same in
     let here : last_place fs ≡ last_place es = ap (λ n. n - 1) many in
     record {
       e = o.0;
       f = h.f;
       e_at = ap (slice_get es) (sym here) ∙ o.1;
       f_at = ap (slice_get gs) (sym here) ∙ h.f_at;
-      rose = rose_before o.0.strays h.e.strays h.f.strays o.2.strays h.rose;
+      rose = rose_before o.0.strays h.e.strays h.f.strays (omega (arith, strays)) h.rose;
       last = h.last;
       untold = λ t. h.untold (o.2.tells ∙ t);
     }
 
-pub lost_since : (es fs gs : List EngineSeen) (lost : Lost) → KeepsBoxes es fs → HasLost lost fs gs → HasLost lost es gs
+pub lost_since : (es fs gs : List EngineSeen) (lost : Lost) → KeepsCalm es fs → HasLost lost fs gs → HasLost lost es gs
 lost_since es fs gs lost a h =
-    let one : lost.engine < length es = omega (arith, h.one, a.many) in
-    let moved = each_moved Lasts lost.engine es fs a.many a.boxes in
-    let many = moved_size lost.engine fs h.one ∙ a.many ∙ sym (moved_size lost.engine es one) in
+    let kept = a.kept in
+    let one : lost.engine < length es = omega (arith, h.one, kept.many) in
+    let moved = each_moved Lasts lost.engine es fs kept.many kept.boxes in
+    let calm = each_moved KeepsStrays lost.engine es fs kept.many a.calm in
+    let many = moved_size lost.engine fs h.one ∙ kept.many ∙ sym (moved_size lost.engine es one) in
     record {
       one = one;
-      many = h.many ∙ a.many;
-      boxes = each_on (moved_last lost.engine es) (moved_last lost.engine fs) gs moved h.boxes;
-      blamed = blamed_since lost.stray (moved_last lost.engine es) (moved_last lost.engine fs) gs many moved h.blamed;
+      many = h.many ∙ kept.many;
+      boxes = each_on Lasts lasts_on (moved_last lost.engine es) (moved_last lost.engine fs) gs moved h.boxes;
+      blamed = blamed_since lost.stray (moved_last lost.engine es) (moved_last lost.engine fs) gs many moved calm h.blamed;
     }
 
 -- what an answer leaves of boxes that were kept before
-pub leaves_since : {T : Type 0} (es fs gs : List EngineSeen) (r : Result T Cut) → KeepsBoxes es fs → LeavesBoxes r fs gs → LeavesBoxes r es gs
-leaves_since es fs gs (Ok x) a h = kept_on es fs gs a h
-leaves_since es fs gs (Err cut.Write) a h = kept_on es fs gs a h
-leaves_since es fs gs (Err cut.Memory) a h = kept_on es fs gs a h
-leaves_since es fs gs (Err (cut.Lost lost)) a h = lost_since es fs gs lost a h
+pub but_since : (es fs gs : List EngineSeen) (why : Cut) → KeepsCalm es fs → LeavesBut why fs gs → LeavesBut why es gs
+but_since es fs gs cut.Write a h = kept_on es fs gs a.kept h
+but_since es fs gs cut.Memory a h = kept_on es fs gs a.kept h
+but_since es fs gs (cut.Lost lost) a h = lost_since es fs gs lost a h
+
+pub leaves_since : {T : Type 0} (es fs gs : List EngineSeen) (r : Result T Cut) → KeepsCalm es fs → LeavesBoxes r fs gs → LeavesBoxes r es gs
+leaves_since es fs gs (Ok x) a h = still_on es fs gs a h
+leaves_since es fs gs (Err why) a h = but_since es fs gs why a h
 
 -- an answer that names no engine leaves all
-pub kept_leaves : {T : Type 0} (es fs : List EngineSeen) (r : Result T Cut) → LosesNone r → KeepsBoxes es fs → LeavesBoxes r es fs
+pub kept_leaves : {T : Type 0} (es fs : List EngineSeen) (r : Result T Cut) → LosesNone r → KeepsCalm es fs → LeavesBoxes r es fs
 kept_leaves es fs (Ok x) none a = a
-kept_leaves es fs (Err cut.Write) none a = a
-kept_leaves es fs (Err cut.Memory) none a = a
+kept_leaves es fs (Err cut.Write) none a = a.kept
+kept_leaves es fs (Err cut.Memory) none a = a.kept
 kept_leaves es fs (Err (cut.Lost lost)) none a = absurd none
 
--- answers with the same error leave the same
-pub leaves_alike : {S T : Type 0} (es fs : List EngineSeen) (e : Cut) → LeavesBoxes {T = S} (Err e) es fs → LeavesBoxes {T = T} (Err e) es fs
-leaves_alike es fs cut.Write a = a
-leaves_alike es fs cut.Memory a = a
-leaves_alike es fs (cut.Lost lost) a = a
-
 -- sound boxes stay sound
-pub sound_since : (n : ℕ) (es fs : List EngineSeen) → KeepsBoxes es fs → AreSound (take n es) → AreSound (take n fs)
+pub sound_since : (n : ℕ) (es fs : List EngineSeen) → KeepsCalm es fs → AreSound (take n es) → AreSound (take n fs)
 sound_since n es fs a sound i f at =
-    let o = stood Lasts es fs i f a.many a.boxes (take_get fs n i f at) in
+    let o = stood Lasts es fs i f a.kept.many a.kept.boxes (take_get fs n i f at) in
     o.2.sound (sound i o.0 (get_taken es n i o.0 (take_inside fs n i f at) o.1))
 
--- a write names no engine
-pub none_by : {T : Type 0} (cause : SinkFail) → LosesNone {T = T} (Err (cut_by cause))
-none_by sinks.Failed = tt
-none_by sinks.Memory = tt
+-- after a write that failed all boxes stand
+pub write_keeps : (cause : SinkFail) (es : List EngineSeen) → LeavesBut (cut_by cause) es es
+write_keeps sinks.Failed es = kept_itself es
+write_keeps sinks.Memory es = kept_itself es
 
 -- what holds of more boxes holds of fewer
 pub sound_sooner : (n m : ℕ) (es : List EngineSeen) → n ≤ m → AreSound (take m es) → AreSound (take n es)

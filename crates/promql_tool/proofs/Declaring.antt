@@ -1,29 +1,30 @@
 -- Labels that were declared to boxes, one by one.
-use Rattle.std.proofs.Common.{◌≡◌, ◌∙◌, ℕ, ◌+◌, ◌-◌, ◌<◌, ◌≤◌, List, [], length, slice_get, take, refl, sym, ap, subst, arith, Option, Some, None, ⊎_elim, true}
+use Rattle.std.proofs.Common.{◌≡◌, ◌∙◌, ℕ, ◌+◌, ◌-◌, ◌<◌, ◌≤◌, List, length, slice_get, take, refl, sym, ap, subst, arith, Option, Some, None, ⊎_elim}
 use Rattle.std.specs.Prelude.{Result, Ok, Err, IfSome, ⊤}
 use Rattle.std.specs.Option.{option_map}
 use Rattle.std.proofs.lemmas.Bool.{cases_eq}
 use Rattle.exchange.specs.Calls.{Each, IsCalled}
-use Rattle.query_engine.specs.Engines.{AreSound, last_place, moved_last}
-use Rattle.remote_api.specs.Seen.{EngineSeen, HasDeclared, Holding, MayDeclare, declared_with}
+use Rattle.query_engine.specs.Engines.{moved_last}
+use Rattle.test_runner.specs.Boxes.{AreSound}
+use Rattle.remote_api.specs.Seen.{EngineSeen, HasDeclared, Holding, KeepsStrays, declared_with}
 use Rattle.remote_api.specs.declared.engine.EngineFail.{EngineFail}
 use Rattle.remote_api.specs.declared.engine.EngineFail.TheVariants as fail
 use Rattle.tool_words.specs.Engines.{Labels}
-use Rattle.promql_tool.specs.Boxes.{AreFresh, HasLost, KeepsBoxes, Lasts}
+use Rattle.promql_tool.specs.Boxes.{AreFresh, HasLost, KeepsBoxes, KeepsCalm, Lasts}
 use Rattle.promql_tool.specs.Declaring.{AreUndeclaredFrom, HasItsLabels, HoldDeclared, HoldDeclaredTo, IsDeclared}
-use Rattle.promql_tool.proofs.BoxLists.{each_moved, get_taken, get_within, kept_itself, kept_on, lasts_itself, moved_size, moved_there, some_same, within_get}
+use Rattle.promql_tool.proofs.BoxLists.{calm_itself, each_moved, get_taken, get_within, lasts_itself, moved_size, moved_there, some_same, still_itself, still_on, within_get}
 
 -- ---- one call
 
 called_lasts : (labels : Labels) (r : Result ⊤ EngineFail) (e f : EngineSeen) → HasDeclared labels r e f → Lasts e f
-called_lasts labels r e f h = record { tells = h.faults.tells; faults = h.faults.cause.later; strays = omega (arith, h.strays.strays); sound = h.faults.sound }
+called_lasts labels r e f h = record { tells = h.faults.tells; faults = h.faults.cause.later; sound = h.faults.sound }
 
 has_labels : (labels : Labels) (was now : Option Holding) → now ≡ option_map (declared_with labels) was → IfSome now (λ h. h.declared ≡ Some labels)
 has_labels labels None now is = subst (λ (o : Option Holding). IfSome o (λ h. h.declared ≡ Some labels)) (sym is) tt
 has_labels labels (Some h) now is = subst (λ (o : Option Holding). IfSome o (λ x. x.declared ≡ Some labels)) (sym is) refl
 
 declared_one : (labels : Labels) (e f : EngineSeen) → HasDeclared labels (Ok tt) e f → IsDeclared labels e f
-declared_one labels e f h = record { lasts = called_lasts labels (Ok tt) e f h; labels_are = has_labels labels e.holding f.holding h.declared }
+declared_one labels e f h = record { lasts = called_lasts labels (Ok tt) e f h; strays = h.strays; labels_are = has_labels labels e.holding f.holding h.declared }
 
 pub called_ok : (i : ℕ) (labels : Labels) (es fs : List EngineSeen) → IsCalled i (HasDeclared labels (Ok tt)) es fs → IsCalled i (IsDeclared labels) es fs
 called_ok i labels es fs c = record { others = c.others; one = λ e at. (let o = c.one e at in (o.0, o.1, declared_one labels e o.0 o.2)) }
@@ -39,6 +40,26 @@ called_keeps i labels r es fs many c = record {
     here k e same at =
         let o = c.one e (ap (slice_get es) (sym same) ∙ at) in
         (o.0, ap (slice_get fs) same ∙ o.1, called_lasts labels r e o.0 o.2)
+
+-- the same of a call that was taken, after which none has strayed
+one_keeps : (i : ℕ) (labels : Labels) (es fs : List EngineSeen) → length fs ≡ length es → IsCalled i (IsDeclared labels) es fs → KeepsCalm es fs
+one_keeps i labels es fs many c = record {
+  kept = record { many = many; boxes = λ k e at. ⊎_elim (λ same. lasts k e same at) (λ other. (e, c.others k other ∙ at, lasts_itself e)) (cases_eq k i) };
+  calm = λ k e at. ⊎_elim (λ same. calm k e same at) (λ other. (e, c.others k other ∙ at, calm_itself e)) (cases_eq k i);
+}
+  where
+    lasts : (k : ℕ) (e : EngineSeen) → k ≡ i → slice_get es k ≡ Some e → (f : EngineSeen) × (slice_get fs k ≡ Some f) × Lasts e f
+    lasts k e same at =
+        let o = c.one e (ap (slice_get es) (sym same) ∙ at) in
+        (o.0, ap (slice_get fs) same ∙ o.1, o.2.lasts)
+
+    calm : (k : ℕ) (e : EngineSeen) → k ≡ i → slice_get es k ≡ Some e → (f : EngineSeen) × (slice_get fs k ≡ Some f) × KeepsStrays e f
+    calm k e same at =
+        let o = c.one e (ap (slice_get es) (sym same) ∙ at) in
+        (o.0, ap (slice_get fs) same ∙ o.1, o.2.strays)
+
+pub called_calm : (i : ℕ) (labels : Labels) (es fs : List EngineSeen) → length fs ≡ length es → IsCalled i (HasDeclared labels (Ok tt)) es fs → KeepsCalm es fs
+called_calm i labels es fs many c = one_keeps i labels es fs many (called_ok i labels es fs c)
 
 -- the box that failed was lost
 pub called_lost : (i : ℕ) (labels : Labels) (es fs gs : List EngineSeen) → i < length es → length fs ≡ length es → IsCalled i (HasDeclared labels (Err fail.Failed)) es fs → gs ≡ moved_last i fs
@@ -73,38 +94,27 @@ called_sound i labels es fs inside c sound =
 
 -- labels were declared to so many boxes
 pub record DeclaredSo (i : ℕ) (declared : List Labels) (es fs : List EngineSeen) : Type 0 where
-  pub kept : KeepsBoxes es fs
+  pub kept : KeepsCalm es fs
   pub below : HoldDeclaredTo i declared fs
   pub above : (k : ℕ) → i ≤ k → slice_get fs k ≡ slice_get es k
 
 pub none_declared : (declared : List Labels) (es : List EngineSeen) → DeclaredSo 0 declared es es
-none_declared declared es = record { kept = kept_itself es; below = λ k labels e l at there. absurd (omega (arith, l)); above = λ k l. refl }
+none_declared declared es = record { kept = still_itself es; below = λ k labels e l at there. absurd (omega (arith, l)); above = λ k l. refl }
 
 pub undeclared : (i : ℕ) (declared : List Labels) (es fs : List EngineSeen) → AreFresh es → DeclaredSo i declared es fs → AreUndeclaredFrom i fs
 undeclared i declared es fs fresh so k f l at = (fresh k f (sym (so.above k l) ∙ at)).undeclared
 
-one_keeps : (i : ℕ) (labels : Labels) (es fs : List EngineSeen) → length fs ≡ length es → IsCalled i (IsDeclared labels) es fs → KeepsBoxes es fs
-one_keeps i labels es fs many c = record {
-  many = many;
-  boxes = λ k e at. ⊎_elim (λ same. here k e same at) (λ other. (e, c.others k other ∙ at, lasts_itself e)) (cases_eq k i);
-}
-  where
-    here : (k : ℕ) (e : EngineSeen) → k ≡ i → slice_get es k ≡ Some e → (f : EngineSeen) × (slice_get fs k ≡ Some f) × Lasts e f
-    here k e same at =
-        let o = c.one e (ap (slice_get es) (sym same) ∙ at) in
-        (o.0, ap (slice_get fs) same ∙ o.1, o.2.lasts)
-
 pub one_declared : (i : ℕ) (declared : List Labels) (labels : Labels) (es fs gs : List EngineSeen) → slice_get declared i ≡ Some labels → i < length es → length gs ≡ length fs → DeclaredSo i declared es fs → IsCalled i (IsDeclared labels) fs gs
     → DeclaredSo (i + 1) declared es gs
 one_declared i declared labels es fs gs its inside many so c = record {
-  kept = kept_on es fs gs so.kept (one_keeps i labels fs gs many c);
+  kept = still_on es fs gs so.kept (one_keeps i labels fs gs many c);
   below = λ k names g l at there. ⊎_elim (λ same. here k names g same at there) (λ other. so.below k names g (omega (arith, l, other)) at (sym (c.others k other) ∙ there)) (cases_eq k i);
   above = λ k l. c.others k (λ same. absurd (omega (arith, l, same))) ∙ so.above k (omega (arith, l));
 }
   where
     here : (k : ℕ) (names : Labels) (g : EngineSeen) → k ≡ i → slice_get declared k ≡ Some names → slice_get gs k ≡ Some g → HasItsLabels names g
     here k names g same at there =
-        let f = within_get fs i (omega (arith, inside, so.kept.many)) in
+        let f = within_get fs i (omega (arith, inside, so.kept.kept.many)) in
         let o = c.one f.0 f.1 in
         let one : o.0 ≡ g = some_same o.0 g (sym o.1 ∙ ap (slice_get gs) (sym same) ∙ there) in
         let its_own : labels ≡ names = some_same labels names (sym its ∙ ap (slice_get declared) (sym same) ∙ at) in

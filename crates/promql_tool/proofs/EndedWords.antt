@@ -1,18 +1,18 @@
 -- What holds of a run that ended, whatever engines gave.
-use Rattle.std.proofs.Common.{◌≡◌, ◌≤◌, ◌∙◌, ◌++◌, ℕ, zero, suc, List, [], ◌∷◌, length, Option, None, Some, IfSome, refl, sym, ap, subst, arith}
-use Rattle.std.specs.Prelude.{Contains}
+use Rattle.std.proofs.Common.{◌≡◌, ◌≤◌, ◌∙◌, ◌++◌, ◌⊎◌, ⊎_elim, inl, inr, Bool, true, false, ℕ, List, [], ◌∷◌, length, Option, None, Some, IfSome, refl, sym, ap, subst, arith}
+use Rattle.std.specs.Prelude.{◌==◌, ◌||◌, Contains, IsTrue}
 use Rattle.std.specs.List.{AllByRecursion}
+use Rattle.std.proofs.lemmas.Bool.Decides.{Decides-eqb}
 use Rattle.std.proofs.lemmas.List.Elements.{All-contains, All-from_recursion, Contains-append_left, Contains-append_right, Contains-push}
 use Rattle.edge_io.specs.Written.{appended}
 use Rattle.ticks.specs.Moments.{moments_in}
-use Rattle.ticks.specs.declared.grid.Grid.{Grid}
 use Rattle.tool_words.specs.Asked.{Wish, asked, explain, format, query, test, workload}
 use Rattle.tool_words.specs.Engines.{Labels}
 use Rattle.tool_words.specs.declared.asked.Choices.{Choices}
 use Rattle.promql_tool.specs.Chosen.{Terms, terms_asked, terms_in, terms_of}
 use Rattle.promql_tool.specs.Ended.{EndWith, EndsFiles, EndsWords, HasItsFiles, IsGoneLast, IsRefusedLast, IsTaken, IsThere, makes, misused, names, printed, queried, ran, stopped, tested, worked}
 use Rattle.promql_tool.specs.Ends.{IfFirst, IfMade, IsOneOf, IsUnrun}
-use Rattle.promql_tool.specs.Found.{Have, IsFound, Just}
+use Rattle.promql_tool.specs.Found.{IsFound, Just}
 use Rattle.promql_tool.specs.Reading.{IsNoScript, IsRefusedFor}
 use Rattle.promql_tool.specs.Report.{AsksToPrint, files_asked, files_of}
 use Rattle.promql_tool.specs.Runs.{HoldsScript, Stops, stop_report}
@@ -23,10 +23,13 @@ use Rattle.promql_tool.specs.declared.fault.Stop.{Stop}
 use Rattle.promql_tool.specs.declared.fault.Stop.TheVariants as stop
 
 -- a status that is one of two
+one_test : (a b : Bool) → IsTrue (a || (b || false)) → IsTrue a ⊎ IsTrue b
+one_test true b h = inl refl
+one_test false true h = inr refl
+one_test false false h = absurd (cc)
+
 one_of_two : (status : ℕ) (P : ℕ → Type 0) → IsOneOf (0 ∷ 1 ∷ []) status → P 0 → P 1 → P status
-one_of_two zero P one p0 p1 = p0
-one_of_two (suc zero) P one p0 p1 = p1
-one_of_two (suc (suc n)) P one p0 p1 = absurd (cc)
+one_of_two status P one p0 p1 = ⊎_elim (λ a. subst P ((Decides-eqb 0 status).0 a) p0) (λ b. subst P ((Decides-eqb 1 status).0 b) p1) (one_test (0 == status) (1 == status) one)
 
 -- and the status of a file that isn't run
 stop_status : (path : List ℕ) (end : Stop) (P : ℕ → Type 0) → P 3 → P 6 → P (stop_report path end).status
@@ -96,7 +99,7 @@ module _ (terms : Terms) (found : List ℕ → Option (List ℕ) → Type 0) (id
     first_missing : (paths : List (List ℕ)) → EndsFiles terms found paths idle now status → IfFirst paths (λ path. IsNone path → IsOneOf (3 ∷ []) status)
     first_missing [] e = tt
     first_missing (first ∷ rest) e = λ none.
-        let s = stops_first IsNone (λ path no holds. never path holds.0 no holds.1) first rest (first ∷ rest) refl none e in
+        let s = stops_first IsNone (λ path unfit holds. never path holds.0 unfit holds.1) first rest (first ∷ rest) refl none e in
         first_gone first s.0 none s.1 s.2
 
   -- ---- completeness
@@ -165,11 +168,11 @@ module _ (boxes : ℕ) (words : List (List ℕ)) (idle : Type 0) (before now : O
     ended_usage (printed asks one) two = absurd (one_of_two status (λ n. n ≡ 2 → ⊥) one (λ e. omega (arith, e)) (λ e. omega (arith, e)) two)
 
     pub ended_words : Ended → asked boxes words ≡ None → status ≡ 2
-    ended_words (misused none rests text is) no = is
-    ended_words (tested choices engines paths is e) no = absurd (cc)
-    ended_words (queried choices engines grid instant path expr is e) no = absurd (cc)
-    ended_words (worked choices engines series is e) no = absurd (cc)
-    ended_words (printed asks one) no = absurd (print_asked (asked boxes words) asks no)
+    ended_words (misused none rests text is) unfit = is
+    ended_words (tested choices engines paths is e) unfit = absurd (cc)
+    ended_words (queried choices engines grid instant path expr is e) unfit = absurd (cc)
+    ended_words (worked choices engines series is e) unfit = absurd (cc)
+    ended_words (printed asks one) unfit = absurd (print_asked (asked boxes words) asks unfit)
 
     -- 3
     files_gone_last : (terms : Terms) (paths : List (List ℕ)) → paths ≡ files_of boxes words → EndsFiles terms found paths idle now status → status ≡ 3 → IsGoneLast boxes words found now
@@ -273,29 +276,29 @@ module _ (boxes : ℕ) (words : List (List ℕ)) (idle : Type 0) (before now : O
 
     -- a file that can't be run holds no script
     unrun : (terms : Terms) (path : List ℕ) → IsUnrun terms (files path) → HoldsScript terms Over path → ⊥
-    unrun terms path no holds = let never = subst (IsUnrun terms) holds.1.if_some no in never holds.2 holds.3 holds.4
+    unrun terms path unfit holds = let never = subst (IsUnrun terms) holds.1.if_some unfit in never holds.2 holds.3 holds.4
 
     some_there : (path bytes : List ℕ) → files path ≡ None → Over path (Some bytes) → ⊥
     some_there path bytes none h = let some : files path ≡ Some bytes = h.if_some in cc
 
     files_outside : (terms : Terms) (paths : List (List ℕ)) → terms ≡ terms_of boxes words → paths ≡ files_of boxes words → EndsFiles terms Over paths idle now status
         → (path : List ℕ) → Contains (files_of boxes words) path → IsUnrun (terms_of boxes words) (files path) → IsOneOf (3 ∷ 6 ∷ []) status
-    files_outside terms paths edge is e path named no =
+    files_outside terms paths edge is e path named unfit =
         files_stop terms Over idle now status (λ (p : List ℕ). IsUnrun terms (files p)) (unrun terms) paths e path (subst (λ (ps : List (List ℕ)). Contains ps path) (sym is) named)
-        (subst (λ (t : Terms). IsUnrun t (files path)) (sym edge) no)
+        (subst (λ (t : Terms). IsUnrun t (files path)) (sym edge) unfit)
 
     nowhere : (wish : Option Wish) (path : List ℕ) → asked boxes words ≡ wish → files_asked wish ≡ [] → Contains (files_of boxes words) path → ⊥
     nowhere wish path is none named =
         let empty = subst (λ (ps : List (List ℕ)). Contains ps path) (sym (named_by boxes words wish is) ∙ none) named in omega (arith, empty.1)
 
     outside_one : EndsWords boxes words Over idle before now status → (path : List ℕ) → Contains (files_of boxes words) path → IsUnrun (terms_of boxes words) (files path) → IsOneOf (3 ∷ 6 ∷ []) status
-    outside_one (misused none rests text is) path named no = absurd (nowhere None path none refl named)
-    outside_one (tested choices engines paths is e) path named no =
-        let wish = Some (test choices engines paths) in files_outside (terms_in choices engines) paths (terms_by boxes words wish is) (named_by boxes words wish is) e path named no
-    outside_one (queried choices engines grid instant file expr is e) path named no =
-        let wish = Some (query choices engines (moments_in grid instant) file expr) in files_outside (terms_in choices engines) (file ∷ []) (terms_by boxes words wish is) (named_by boxes words wish is) e path named no
-    outside_one (worked choices engines series is e) path named no = absurd (nowhere (Some (workload choices engines series)) path is refl named)
-    outside_one (printed asks one) path named no = absurd (nowhere (asked boxes words) path refl (none_printed (asked boxes words) asks) named)
+    outside_one (misused none rests text is) path named unfit = absurd (nowhere None path none refl named)
+    outside_one (tested choices engines paths is e) path named unfit =
+        let wish = Some (test choices engines paths) in files_outside (terms_in choices engines) paths (terms_by boxes words wish is) (named_by boxes words wish is) e path named unfit
+    outside_one (queried choices engines grid instant file expr is e) path named unfit =
+        let wish = Some (query choices engines (moments_in grid instant) file expr) in files_outside (terms_in choices engines) (file ∷ []) (terms_by boxes words wish is) (named_by boxes words wish is) e path named unfit
+    outside_one (worked choices engines series is e) path named unfit = absurd (nowhere (Some (workload choices engines series)) path is refl named)
+    outside_one (printed asks one) path named unfit = absurd (nowhere (asked boxes words) path refl (none_printed (asked boxes words) asks) named)
 
     -- the first file
     abbrev RestsFirst : Terms → List (List ℕ) → Type 0
@@ -331,7 +334,7 @@ module _ (boxes : ℕ) (words : List (List ℕ)) (idle : Type 0) (before now : O
 
     -- what words need is there
     gone_never : (terms : Terms) → sound → (path : List ℕ) → IsThere terms files path → Over path None → ⊥
-    gone_never terms s path there none = let no : files path ≡ None = none.if_sound s in let some = there.1 in cc
+    gone_never terms s path there none = let unfit : files path ≡ None = none.if_sound s in let some = there.1 in cc
 
     refused_never : (terms : Terms) (path bytes : List ℕ) (refusal : Refusal) → IsThere terms files path → Over path (Some bytes) → IsRefusedFor terms bytes refusal → ⊥
     refused_never terms path bytes refusal there found why =
@@ -367,7 +370,7 @@ module _ (boxes : ℕ) (words : List (List ℕ)) (idle : Type 0) (before now : O
     pub ended_outside : (told : Option (List ℕ → Option (List ℕ))) → EndsWords boxes words (IsFound told sound) idle before now status
         → IfSome told (λ files. (path : List ℕ) → Contains (files_of boxes words) path → IsUnrun (terms_of boxes words) (files path) → IsOneOf (3 ∷ 4 ∷ 5 ∷ 6 ∷ 7 ∷ []) status)
     ended_outside None e = tt
-    ended_outside (Some files) e = λ path named no. stops_widely (outside_one sound files e path named no)
+    ended_outside (Some files) e = λ path named unfit. stops_widely (outside_one sound files e path named unfit)
 
     pub ended_rests : (told : Option (List ℕ → Option (List ℕ))) → EndsWords boxes words (IsFound told sound) idle before now status
         → IfSome told (λ files. IfFirst (files_of boxes words) (λ path. IsUnrun (terms_of boxes words) (files path) → IsOneOf (3 ∷ 6 ∷ []) status → idle))

@@ -1,12 +1,12 @@
 -- How a run ends that was cut off.
-use Rattle.std.proofs.Common.{◌≡◌, ◌≤◌, ◌∙◌, ◌++◌, ◌⊎◌, ℕ, List, [], ◌∷◌, Option, None, Some, IfSome, Err, refl, sym, ap, subst, inl, inr, arith, append_assoc, ⊎_elim}
-use Rattle.std.specs.Prelude.{IsErrOf, Result}
+use Rattle.std.proofs.Common.{◌≡◌, ◌∙◌, ◌++◌, ◌⊎◌, ℕ, List, [], ◌∷◌, Option, None, Some, IfSome, Err, refl, sym, ap, subst, inl, inr, arith, append_assoc, ⊎_elim}
+use Rattle.std.specs.Prelude.{IsErrOf}
 use Rattle.edge_io.specs.Causes.{HasCause, Rose}
 use Rattle.edge_io.specs.Fronts.{appended-appended, front_last}
 use Rattle.edge_io.specs.Written.{appended, WroteFront}
 use Rattle.remote_api.specs.Seen.{EngineSeen}
-use Rattle.tool_words.specs.Asked.{Wish, asked, explain, format, query, test, workload}
-use Rattle.promql_tool.specs.Boxes.{EndsCut, HasLost, HasLostOne, IfLost, IfWritten, IsLostLast, KeepsBoxes, LeavesBoxes, LosesNone}
+use Rattle.tool_words.specs.Asked.{Wish, explain, format, query, test, workload}
+use Rattle.promql_tool.specs.Boxes.{EndsCut, HasLostOne, IfLost, IfWritten, IsLostLast, KeepsBoxes, LeavesBoxes, LosesNone}
 use Rattle.promql_tool.specs.Chosen.{Terms, terms_in}
 use Rattle.promql_tool.specs.Ends.{IfFirst, IfMade, IsCut, IsOneOf, IsStoppedWords, losing}
 use Rattle.promql_tool.specs.Reached.{Reaches, ReachesFiles, StopsAt, WroteTheir, files, no_file, no_memory, one_file, status_of, undeclared, up_to, whole}
@@ -37,7 +37,7 @@ cut_alone (cut.Lost lost) mid now status e none P p4 p7 = absurd none
 -- what holds of each holds of those that are told
 pub told_each : (told : Option (List ℕ → Option (List ℕ))) (P : (List ℕ → Option (List ℕ)) → Type 0) → ((files : List ℕ → Option (List ℕ)) → P files) → IfSome told P
 told_each None P each = tt
-told_each (Some files) P each = each files
+told_each (Some those) P each = each those
 
 -- what holds of each holds of the first
 pub first_of : (paths : List (List ℕ)) (P : List ℕ → Type 0) → ((path : List ℕ) → P path) → IfFirst paths P
@@ -58,21 +58,21 @@ five_not status five one = let h = subst (IsOneOf (4 ∷ 7 ∷ [])) five one in 
 
 -- ---- boxes
 
-module _ (es fs : List EngineSeen) (mid now : Option (List ℕ)) (status : ℕ) where
-  -- 5
-  pub lost_last : (why : Cut) → EndsCut why mid now status → LeavesBoxes {T = Status} (Err why) es fs → status ≡ 5 → IsLostLast es fs now
-  lost_last cut.Write e h five = absurd (omega (arith, e.0, five))
-  lost_last cut.Memory e h five = absurd (omega (arith, e.0, five))
-  lost_last (cut.Lost lost) e h five = (lost, h, (mid, written))
-    where
-      written : now ≡ appended mid (lost_text lost)
-      written = ⊎_elim (λ told. told.1) (λ short. absurd (⊎_elim (λ four. omega (arith, four, five)) (λ seven. omega (arith, seven, five)) short.0)) e
+-- the line of an engine that was lost was written
+lost_written : (lost : Lost) (mid now : Option (List ℕ)) (status : ℕ) → EndsCut (cut.Lost lost) mid now status → status ≡ 5 → now ≡ appended mid (lost_text lost)
+lost_written lost mid now status e five = ⊎_elim (λ told. told.1) (λ short. absurd (⊎_elim (λ four. omega (arith, four, five)) (λ seven. omega (arith, seven, five)) short.0)) e
 
-  -- 4 and 7
-  pub boxes_cut : (why : Cut) → LeavesBoxes {T = Status} (Err why) es fs → KeepsBoxes es fs ⊎ HasLostOne es fs
-  boxes_cut cut.Write h = inl h
-  boxes_cut cut.Memory h = inl h
-  boxes_cut (cut.Lost lost) h = inr (lost, h)
+-- 5
+pub lost_last : (es fs : List EngineSeen) (mid now : Option (List ℕ)) (status : ℕ) (why : Cut) → EndsCut why mid now status → LeavesBoxes {T = Status} (Err why) es fs → status ≡ 5 → IsLostLast es fs now
+lost_last es fs mid now status cut.Write e h five = absurd (omega (arith, e.0, five))
+lost_last es fs mid now status cut.Memory e h five = absurd (omega (arith, e.0, five))
+lost_last es fs mid now status (cut.Lost lost) e h five = (lost, h, (mid, lost_written lost mid now status e five))
+
+-- 4 and 7
+pub boxes_cut : (es fs : List EngineSeen) (why : Cut) → LeavesBoxes {T = Status} (Err why) es fs → KeepsBoxes es fs ⊎ HasLostOne es fs
+boxes_cut es fs cut.Write h = inl h
+boxes_cut es fs cut.Memory h = inl h
+boxes_cut es fs (cut.Lost lost) h = inr (lost, h)
 
 -- ---- what was written
 
@@ -90,13 +90,12 @@ module _ (boxes : ℕ) (words : List (List ℕ)) (found : List ℕ → Option (L
   stands_before es fs cut.Write e s h five = absurd (omega (arith, e.0, five))
   stands_before es fs cut.Memory e s h five = absurd (omega (arith, e.0, five))
   stands_before es fs (cut.Lost lost) e s h five =
-      let last = lost_last es fs mid now status (cut.Lost lost) e h five in
       record {
         lost = lost;
         one = h;
         text = s.text;
         first = s.first;
-        written = last.2.1 ∙ ap (λ (w : Option (List ℕ)). appended w (lost_text lost)) s.written ∙ appended-appended before s.text (lost_text lost);
+        written = lost_written lost mid now status e five ∙ ap (λ (w : Option (List ℕ)). appended w (lost_text lost)) s.written ∙ appended-appended before s.text (lost_text lost);
       }
 
 -- ---- how far it came
@@ -120,7 +119,7 @@ module _ {L : Type 0} (fetch : L → List ℕ → L → Type 0) (boxes : ℕ) (w
     never_stops one = cases (λ n. IsOneOf (3 ∷ 6 ∷ []) n → ⊥) (λ e. cc) (λ e. cc) (λ e. cc) one
 
     files_on : (terms : Terms) (paths : List (List ℕ)) → ReachesFiles fetch terms found paths library_before library_now before mid idle 5 → ReachesFiles fetch terms found paths library_before library_now before now idle status
-    files_on terms paths (whole judged names are fetched wrote no) = absurd (cc)
+    files_on terms paths (whole judged names are fetched wrote ended) = absurd (cc)
     files_on terms paths (up_to judged path later names are fetched wrote stops rests) =
         up_to judged path later names are fetched (wrote_on judged wrote) (stops_on terms path) (λ stopped none. absurd (never_stops stopped))
 

@@ -13,8 +13,8 @@ use Rattle.test_runner.specs.Lines.{failed_in, lines_text, passed_in}
 use Rattle.test_runner.specs.Verdicts.{Judged}
 use Rattle.promql_tool.specs.Boxes.{cut_by, or_cut}
 use Rattle.promql_tool.specs.Chosen.{Terms}
-use Rattle.promql_tool.specs.Ended.{EndWith, EndsFiles, ran, stopped as ended}
-use Rattle.promql_tool.specs.Files.{All, Begins, Gone, IsJudged, JudgedFile, Last, Refused, Sees, all, all_failed, all_passed, files_text, gone, judged, last_text, last_status, refused, report_of, running, waiting}
+use Rattle.promql_tool.specs.Ended.{EndsFiles, ran, stopped as ended}
+use Rattle.promql_tool.specs.Files.{All, Begins, IsJudged, JudgedFile, Last, Sees, all, all_failed, all_passed, files_text, gone, judged, last_text, last_status, refused, report_of, running, waiting}
 use Rattle.promql_tool.specs.Runs.{Early, Ends, HasJudged, HoldsScript, IsCutFile, IsCutFiles, IsStoppedFile, IsStoppedFiles, Late, ReportsFiles, Running, Standing, Stops, Unmoved, Unwritten, last_at, stop_report}
 use Rattle.promql_tool.specs.Reached.{AreJudged, ReachesFiles, StopsAt, WroteTheir, paths_of, status_of, up_to, whole}
 use Rattle.promql_tool.specs.Ends.{IsOneOf}

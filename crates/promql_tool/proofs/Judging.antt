@@ -1,5 +1,5 @@
 -- What a script and bytes come to.
-use Rattle.std.proofs.Common.{◌≡◌, ℕ, List, [], ◌++◌, Option, Result, Ok, Err, IfErr, IfOk, OnErr, refl, sym, ap, ◌∙◌, append-nil}
+use Rattle.std.proofs.Common.{◌≡◌, ℕ, List, [], Option, Result, Ok, Err, IfErr, IfOk, OnErr, refl, ap, append-nil}
 use Rattle.edge_io.specs.Written.{appended, WroteFront}
 use Rattle.sample_store.specs.Samples.{AllSeries}
 use Rattle.script_read.specs.Outcomes.{PatternList}
@@ -16,23 +16,22 @@ use Rattle.promql_tool.specs.Found.{Just}
 use Rattle.promql_tool.specs.Runs.{ComesTo, Cut, FileEnds, IsCutFile, IsCutScript, IsStoppedFile, IsStoppedScript, Midway, RefusesLoads, Running, ScriptComesTo, ScriptEnds, Standing, Unbegun, Unmoved, Unrun, Unwritten}
 use Rattle.promql_tool.specs.declared.fault.Cut.{Cut as Cutting}
 use Rattle.promql_tool.specs.declared.fault.Cut.TheVariants as cut
-use Rattle.promql_tool.specs.declared.fault.Lost.{Lost}
 use Rattle.promql_tool.specs.declared.fault.Refusal.{Refusal}
 use Rattle.promql_tool.specs.declared.fault.Refusal.TheVariants as refusal
 use Rattle.promql_tool.specs.declared.fault.Stop.TheVariants as stop
 use Rattle.promql_tool.specs.declared.judge.FileEnd.{FileEnd}
 use Rattle.promql_tool.specs.declared.judge.FileEnd.TheVariants as ended
 
-module _ (S : Type 0) (written : S → Option (List ℕ)) (old new : S) (rest : Type 0) (terms : Terms) (kept : PatternList) (path : List ℕ) (script : Script) where
+module _ (S : Type 0) (written : S → Option (List ℕ)) (old new : S) (P Q R : Type 0) (terms : Terms) (kept : PatternList) (path : List ℕ) (script : Script) where
   -- a run that was cut off: nothing was run where the loads are refused
   pub script_cut : (r : Result AllSeries RunnerFault) → samples_left terms.declared script ≡ r
-      → IfErr r (λ _. (new ≡ old) × rest) → WasCut terms.closed terms.declared kept path script (written old) (written new) → IsCutScript terms kept path script (written old) (written new)
+      → IfErr r (λ _. (new ≡ old) × P × Q × R) → WasCut terms.closed terms.declared kept path script (written old) (written new) → IsCutScript terms kept path script (written old) (written new)
   script_cut (Ok series) taken untouched cut = Cut series taken cut
   script_cut (Err fault) refused untouched cut = Unrun (ap written untouched.0)
 
   -- a run that an engine stopped
   pub script_stopped : (r : Result AllSeries RunnerFault) → samples_left terms.declared script ≡ r
-      → IfErr r (λ _. (new ≡ old) × rest) → StoppedAt terms.closed kept path terms.declared script (written old) (written new) → IsStoppedScript terms kept path script (written old) (written new)
+      → IfErr r (λ _. (new ≡ old) × P × Q × R) → StoppedAt terms.closed kept path terms.declared script (written old) (written new) → IsStoppedScript terms kept path script (written old) (written new)
   script_stopped (Ok series) taken untouched stopped = Midway series taken stopped
   script_stopped (Err fault) refused untouched stopped = Unbegun (ap written untouched.0)
 

@@ -1,10 +1,10 @@
 -- What a fetch finds in two senses: what is said of a file in one of them holds in the other.
-use Rattle.std.proofs.Common.{◌≡◌, ℕ, Bool, List, Option, None, Some, Result, Ok, Err, IfOk, OnErr, refl, sym, subst}
+use Rattle.std.proofs.Common.{◌≡◌, ℕ, List, Option, None, Some, Result, Ok, Err, IfOk, OnErr, refl, sym, subst}
 use Rattle.std.proofs.lemmas.Result.{IfOk-weaker}
 use Rattle.test_runner.specs.Verdicts.{Judged}
 use Rattle.promql_tool.specs.Boxes.{IfLost}
 use Rattle.promql_tool.specs.Chosen.{Terms}
-use Rattle.promql_tool.specs.Files.{Gone, IsJudged, IsRunning, JudgedFile, Last, Refused, Sees, all, gone, judged, refused}
+use Rattle.promql_tool.specs.Files.{Gone, IsJudged, IsRunning, JudgedFile, Last, Sees, all, gone, judged, refused}
 use Rattle.promql_tool.specs.Found.{Just}
 use Rattle.promql_tool.specs.Runs.{ComesTo, FileAnswers, FileEnds, HoldsScript, IsCutFile, IsStoppedFile, Running, Standing, Stops, Unmoved, Unwritten}
 use Rattle.promql_tool.specs.declared.fault.Cut.{Cut}

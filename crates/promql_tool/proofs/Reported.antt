@@ -1,29 +1,25 @@
 -- What stands after a run, from what was reported.
 use Rattle.std.proofs.Common.{◌≡◌, ◌≤◌, ℕ, Bool, true, false, List, [], ◌∷◌, ◌++◌, length, Option, None, Some, IfSome, refl, sym, ap, subst, ◌∙◌, inl, ◌⊎◌, arith}
-use Rattle.std.specs.Prelude.{◌==◌, if◌then◌else◌, Contains}
-use Rattle.std.specs.List.{AllByRecursion}
-use Rattle.std.proofs.lemmas.List.Elements.{All-contains, All-from_recursion}
+use Rattle.std.specs.Prelude.{◌==◌, if◌then◌else◌}
 use Rattle.edge_io.specs.Written.{appended}
-use Rattle.edge_io.specs.declared.sink.SinkFail.{SinkFail}
-use Rattle.edge_io.specs.declared.sink.SinkFail.TheVariants as fail
 use Rattle.plan_rewrites.specs.declared.choosing.Choices.{Choices as Rewrites}
 use Rattle.promql_meaning.specs.declared.answer.Outcome.{Outcome}
 use Rattle.promql_meaning.specs.declared.answer.Outcome.TheVariants as outcome
 use Rattle.ticks.specs.declared.grid.Grid.{Grid}
-use Rattle.tool_words.specs.Asked.{Wish, asked, explain, format, query, test, workload}
+use Rattle.tool_words.specs.Asked.{Wish, asked, query, test, workload}
 use Rattle.tool_words.specs.Engines.{Labels}
 use Rattle.tool_words.specs.declared.asked.Choices.{Choices}
 use Rattle.ticks.specs.Moments.{moments_in}
-use Rattle.promql_tool.specs.Ends.{IfFirst, IfMade, IsGone, IsOneOf, IsRefused, IsUnrun, Reports, makes, refuses}
+use Rattle.promql_tool.specs.Ends.{IsGone, IsOneOf, IsRefused, Reports, makes, refuses}
 use Rattle.promql_tool.specs.Chosen.{Terms, terms_asked, terms_in, terms_of}
-use Rattle.promql_tool.specs.Files.{All, Gone, IsJudged, JudgedFile, Last, Refused, Sees, all, all_failed, gone, judged, last_status, refused, report_of}
+use Rattle.promql_tool.specs.Files.{All, Gone, JudgedFile, Last, Refused, Sees, all, all_failed, gone, judged, last_status, refused, report_of}
 use Rattle.promql_tool.specs.Found.{Have, IsFound, Just}
 use Rattle.promql_tool.specs.Printed.{Explained, Formatted, planned, refused as format_refused, taken, unplanned}
 use Rattle.promql_tool.specs.Query.{Queried, answered, gone as query_gone, outcome_report, refused as query_refused}
-use Rattle.promql_tool.specs.Reading.{IsNoScript, IsRefusedFor}
+use Rattle.promql_tool.specs.Reading.{IsRefusedFor}
 use Rattle.promql_tool.specs.Report.{HasReport, IsReport, files_asked, files_of, explained, formatted, misused, queried, tested, worked}
-use Rattle.promql_tool.specs.Runs.{Explains, Formats, Misused, Queries, ReportsFiles, ReportsWords, ReportsWorkload, Tested, Works}
-use Rattle.promql_tool.specs.Texts.{Report, refusal_text, usage}
+use Rattle.promql_tool.specs.Runs.{Explains, Formats, Misused, Queries, ReportsWords, ReportsWorkload, Tested, Works}
+use Rattle.promql_tool.specs.Texts.{Report, refusal_text}
 use Rattle.promql_tool.specs.Workload.{loaded_text, workload_path, workload_text}
 use Rattle.promql_tool.specs.declared.fault.Refusal.{Refusal as Refusing}
 use Rattle.promql_tool.proofs.Mapped.{sees_so}

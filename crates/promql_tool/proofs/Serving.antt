@@ -1,40 +1,50 @@
 -- What a script leaves of boxes, as a run sees it.
-use Rattle.std.proofs.Common.{◌≡◌, ◌∙◌, ℕ, ◌-◌, ◌<◌, ◌≤◌, List, [], ◌∷◌, length, slice_get, take, refl, sym, ap, subst, arith, Option, None, Some}
-use Rattle.std.specs.Prelude.{Result, Ok, Err, IfErr, IfSome, OnOk, ◌^◌, false, is_some, ⊤}
+use Rattle.std.proofs.Common.{◌≡◌, ◌∙◌, ℕ, zero, suc, ◌-◌, ◌<◌, ◌≤◌, List, [], ◌∷◌, ◌++◌, length, map, slice_get, take, refl, sym, ap, subst, arith, Option, None, Some}
+use Rattle.std.specs.Prelude.{Result, Ok, Err, IfErr, IfSome, OnOk, ◌^◌, false, ⊤}
 use Rattle.std.specs.List.{AllByRecursion}
 use Rattle.std.specs.Map.{keys_of}
 use Rattle.std.specs.Option.{option_map}
 use Rattle.exchange.specs.Calls.{Each}
 use Rattle.exchange.specs.Faults.{HasFailed, HasStrayed}
-use Rattle.exchange.specs.Standing.{Tells}
 use Rattle.exchange.specs.declared.fault.RunFault.{RunFault}
 use Rattle.exchange.specs.declared.fault.RunFault.TheVariants as run
 use Rattle.label_set.specs.Labels.{is_named, metric_name}
 use Rattle.parting_laws.specs.Parted.{MayBeDeclared, names_of_first as parts_first}
-use Rattle.query_engine.specs.Engines.{AreSound, last_place, moved_last}
-use Rattle.remote_api.specs.Seen.{EngineSeen, Holding}
+use Rattle.query_engine.specs.Engines.{last_place, moved_last, named_by}
+use Rattle.remote_api.specs.Seen.{EngineSeen, Holding, KeepsStrays}
 use Rattle.remote_api.specs.declared.frame.Stray.{Stray}
 use Rattle.step_table.specs.Groups.{Names}
-use Rattle.test_runner.specs.Boxes.{AllTell, AreReady, LeavesServing, RunFaulted, Serves}
-use Rattle.test_runner.specs.declared.fault.RunnerFault.{RunnerFault}
+use Rattle.test_runner.specs.Boxes.{AllTell, AreReady, AreSound, FaultedBy, Serves, ServesBut}
 use Rattle.test_runner.specs.declared.fault.RunnerFault.TheVariants as runner
 use Rattle.tool_words.specs.Asked.{Wish, asked}
 use Rattle.tool_words.specs.Engines.{AreDeclarable, AreDeclaredTo, Labels, names_of_first as words_first}
-use Rattle.promql_tool.specs.Boxes.{DeclaredSound, HasLost, IfLost, IsToBlame, KeepsBoxes, Lasts, LeavesBoxes, LosesNone, cut_of}
+use Rattle.promql_tool.specs.Boxes.{DeclaredSound, IfNames, IsToBlame, KeepsBoxes, KeepsCalm, Lasts, LeavesBoxes, LeavesBut, cut_of}
 use Rattle.promql_tool.specs.declared.fault.Cut.{Cut}
 use Rattle.promql_tool.specs.Declaring.{HoldDeclared}
 use Rattle.promql_tool.specs.Chosen.{DeclaredTell, declared_of, terms_asked}
-use Rattle.promql_tool.proofs.BoxLists.{get_taken, moved_size, stood, take_get, take_inside}
+use Rattle.promql_tool.proofs.BoxLists.{get_taken, map_size, moved_size, still_itself, stood, take_get, take_inside}
 
 -- a box that serves lasts
 serves_lasts : (e f : EngineSeen) → Serves e f → Lasts e f
-serves_lasts e f s = record { tells = s.tells; faults = s.faults; strays = s.strays; sound = s.sound }
+serves_lasts e f s = record { tells = s.tells; faults = s.faults; sound = s.sound }
 
 each_lasts : (es fs : List EngineSeen) → Each Serves es fs → Each Lasts es fs
 each_lasts es fs each i e at = let o = each i e at in (o.0, o.1, serves_lasts e o.0 o.2)
 
 pub all_kept : (es fs : List EngineSeen) → length fs ≡ length es → Each Serves es fs → KeepsBoxes es fs
 all_kept es fs many each = record { many = many; boxes = each_lasts es fs each }
+
+-- and where none has strayed
+pub all_still : (es fs : List EngineSeen) → length fs ≡ length es → Each Serves es fs → Each KeepsStrays es fs → KeepsCalm es fs
+all_still es fs many each calm = record { kept = all_kept es fs many each; calm = calm }
+
+-- what holds of a refusal
+pub when_err : {X Y : Type 0} (r : Result X Y) (y : Y) (P : Type 0) → IfErr r (λ _. P) → r ≡ Err y → P
+when_err {X} {Y} r y P h e = subst (λ (r : Result X Y). IfErr r (λ _. P)) e h
+
+-- boxes that weren't touched
+pub untouched_still : (es fs : List EngineSeen) → fs ≡ es → KeepsCalm es fs
+untouched_still es fs e = subst (KeepsCalm es) (sym e) (still_itself es)
 
 -- the place at which blame falls
 blamed_failed : (i : ℕ) (es fs : List EngineSeen) → i < length es → HasFailed (last_place es) (moved_last i es) fs → IsToBlame None (moved_last i es) fs
@@ -43,9 +53,9 @@ blamed_failed i es fs inside h = subst (λ (n : ℕ). HasFailed n (moved_last i 
 blamed_strayed : (i : ℕ) (one : Stray) (es fs : List EngineSeen) → i < length es → HasStrayed (last_place es) one (moved_last i es) fs → IsToBlame (Some one) (moved_last i es) fs
 blamed_strayed i one es fs inside h = subst (λ (n : ℕ). HasStrayed n one (moved_last i es) fs) (ap (λ n. n - 1) (sym (moved_size i es inside))) h
 
-module _ {T U : Type 0} (before now : List Names) (es fs : List EngineSeen) (few : length before ≤ length es) where
-  -- an engine's fault
-  pub fault_leaves : (fault : RunFault) → LeavesServing {T = T} (Err (runner.Run fault)) before now es fs → RunFaulted {T = T} (Err (runner.Run fault)) es fs → LeavesBoxes {T = U} (Err (cut_of fault)) es fs
+-- an engine's fault
+module _ (before now : List Names) (es fs : List EngineSeen) (few : length before ≤ length es) where
+  pub fault_leaves : (fault : RunFault) → ServesBut (named_by fault) before now es fs → FaultedBy (runner.Run fault) es fs → LeavesBut (cut_of fault) es fs
   fault_leaves run.Memory h blame = all_kept es fs h.many h.boxes
   fault_leaves (run.EngineFault i) h blame =
       let inside : i < length es = omega (arith, h.one, few) in
@@ -78,9 +88,9 @@ ready_on declared es fs many each ready = record {
 
 -- ---- boxes that tell
 
-pub tell_on : (n : ℕ) (es fs : List EngineSeen) → KeepsBoxes es fs → AllTell n es → AllTell n fs
-tell_on n es fs kept tell i f at =
-    let o = stood Lasts es fs i f kept.many kept.boxes (take_get fs n i f at) in
+pub tell_on : (n : ℕ) (es fs : List EngineSeen) → KeepsCalm es fs → AllTell n es → AllTell n fs
+tell_on n es fs a tell i f at =
+    let o = stood Lasts es fs i f a.kept.many a.kept.boxes (take_get fs n i f at) in
     o.2.tells ∙ tell i o.0 (get_taken es n i o.0 (take_inside fs n i f at) o.1)
 
 pub none_tell : (es : List EngineSeen) → AllTell 0 es
@@ -115,16 +125,16 @@ module _ (boxes : ℕ) (words : List (List ℕ)) (wish : Option Wish) (is : aske
   alone_sound es none = subst (λ (l : List Labels). AreSound (take (length l) es)) (sym (declared_by ∙ none)) (none_sound es)
 
 -- what is known where an engine's fault is told
-pub when_named : {T : Type 0} (fault : RunFault) (P : Type 0) → P → IfLost {T = T} (Err (cut_of fault)) (λ _. P)
+pub when_named : (fault : RunFault) (P : Type 0) → P → IfNames (cut_of fault) (λ _. P)
 when_named run.Memory P p = tt
 when_named (run.EngineFault i) P p = p
 when_named (run.OutOfStep i expected got) P p = p
 when_named (run.WrongCell i at) P p = p
 
--- a fact beside another of a refusal
-pub first_if_err : {X Y : Type 0} (r : Result X Y) (P Q : Type 0) → IfErr r (λ _. P × Q) → IfErr r (λ _. P)
-first_if_err (Ok x) P Q h = tt
-first_if_err (Err e) P Q h = h.0
+-- a fact beside others of a refusal
+pub first_if_err : {X Y : Type 0} (r : Result X Y) (P Q R : Type 0) → IfErr r (λ _. P × Q × R) → IfErr r (λ _. P)
+first_if_err (Ok x) P Q R h = tt
+first_if_err (Err e) P Q R h = h.0
 
 -- ---- boxes that labels were declared to
 
@@ -147,6 +157,21 @@ ready_of boxes declared es fs size few to kept hold = record {
   theirs = hold;
 }
 
-pub ready_on_ok : (boxes : ℕ) (declared : List Labels) (es fs : List EngineSeen) (r : Result ⊤ Cut) → boxes ≡ length es → boxes < 2 ^ 32 → AreDeclaredTo boxes declared → LeavesBoxes r es fs → OnOk r (HoldDeclared declared fs) → OnOk r (AreReady declared fs)
-ready_on_ok boxes declared es fs (Ok x) size few to kept hold = ready_of boxes declared es fs size few to kept hold
-ready_on_ok boxes declared es fs (Err why) size few to kept hold = tt
+take_front : {B : Type 0} (cs zs : List B) (n : ℕ) → length cs ≡ n → take n (cs ++ zs) ≡ cs
+take_front [] zs zero e = refl
+take_front [] zs (suc n) e = absurd (omega (arith, e))
+take_front (c ∷ cs) zs zero e = absurd (omega (arith, e))
+take_front (c ∷ cs) zs (suc n) e = ap (λ ds. c ∷ ds) (take_front cs zs n (omega (arith, e)))
+
+-- boxes that were written over as a whole
+pub ready_whole : {B : Type 0} (f : B → EngineSeen) (n : ℕ) (bs ds cs zs : List B) (declared : List Labels) (r : Result ⊤ Cut) → ds ≡ bs → length ds ≡ n → length bs < 2 ^ 32 → AreDeclaredTo (length bs) declared → LeavesBoxes r (map f ds) (map f cs)
+    → OnOk r (HoldDeclared declared (map f cs)) → OnOk r (AreReady declared (map f (take n (cs ++ zs))))
+ready_whole {B} f n bs ds cs zs declared (Ok x) same size few to still hold =
+    let es = map_size f ds in
+    let fs = map_size f cs in
+    let many = still.kept.many in
+    let front : take n (cs ++ zs) ≡ cs = take_front cs zs n (omega (arith, es, fs, many, size)) in
+    let bss = map_size f bs in
+    let kept : KeepsBoxes (map f bs) (map f cs) = subst (λ (l : List B). KeepsBoxes (map f l) (map f cs)) same still.kept in
+    subst (λ (l : List B). AreReady declared (map f l)) (sym front) (ready_of (length bs) declared (map f bs) (map f cs) (sym bss) few to kept hold)
+ready_whole f n bs ds cs zs declared (Err why) same size few to still hold = tt

@@ -11,7 +11,7 @@ use Rattle.tool_words.specs.Engines.{Labels}
 use Rattle.tool_words.specs.declared.asked.Choices.{Choices}
 use Rattle.tool_words.specs.declared.asked.Optimisers.{Optimisers}
 use Rattle.ticks.specs.Moments.{moments_in}
-use Rattle.promql_tool.specs.Boxes.{IfLost, or_cut}
+use Rattle.promql_tool.specs.Boxes.{IfLost, IfNames, or_cut}
 use Rattle.promql_tool.specs.Chosen.{terms_in}
 use Rattle.promql_tool.specs.Ended.{EndsFiles, EndsWords, misused as misused_so, printed as printed_so, queried as queried_so, tested as tested_so, worked as worked_so}
 use Rattle.promql_tool.specs.Ends.{IsCut, IsOneOf, IsStoppedWords, beginning, judging, nothing, reporting, unwritten, working}
@@ -29,11 +29,14 @@ use Rattle.promql_tool.specs.declared.fault.Cut.TheVariants as cut
 use Rattle.promql_tool.specs.declared.print.Status.{Status}
 
 -- what is known of each engine that is lost
+pub when_names : (why : Cut) (P Q : Type 0) → (P → Q) → IfNames why (λ _. P) → IfNames why (λ _. Q)
+when_names cut.Write P Q f h = tt
+when_names cut.Memory P Q f h = tt
+when_names (cut.Lost lost) P Q f h = f h
+
 pub when_lost : {T : Type 0} (r : Result T Cut) (P Q : Type 0) → (P → Q) → IfLost r (λ _. P) → IfLost r (λ _. Q)
 when_lost (Ok x) P Q f h = tt
-when_lost (Err cut.Write) P Q f h = tt
-when_lost (Err cut.Memory) P Q f h = tt
-when_lost (Err (cut.Lost lost)) P Q f h = f h
+when_lost (Err why) P Q f h = when_names why P Q f h
 
 pub lost_any : {T : Type 0} (r : Result T Cut) (P : Type 0) → P → IfLost r (λ _. P)
 lost_any (Ok x) P p = tt

@@ -1,5 +1,5 @@
 -- A run over one text, and of a workload.
-use Rattle.std.proofs.Common.{◌≡◌, ℕ, ◌+◌, Bool, List, [], ◌∷◌, ◌++◌, Option, Result, Ok, Err, refl, sym, ap, subst, ◌∙◌, append-nil}
+use Rattle.std.proofs.Common.{◌≡◌, ℕ, List, [], ◌∷◌, ◌++◌, Option, Result, Ok, Err, refl, sym, ap, subst, ◌∙◌, append-nil}
 use Rattle.edge_io.specs.Written.{appended, WroteFront}
 use Rattle.promql_tool.specs.Boxes.{IfLost}
 use Rattle.promql_tool.specs.Chosen.{Terms}

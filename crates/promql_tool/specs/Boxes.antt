@@ -1,5 +1,5 @@
 -- Boxes of engines over a run, of which at most one is lost. (This project's own.)
-use Rattle.std.specs.Prelude.{◌≡◌, ◌≤◌, ◌<◌, ◌⊎◌, ℕ, true, List, length, take, is_some, slice_get, Option, None, Some, Result, Ok, Err, IfSome, ⊤}
+use Rattle.std.specs.Prelude.{◌≡◌, ◌≤◌, ◌<◌, ◌⊎◌, ℕ, true, List, [], length, take, is_some, slice_get, Option, None, Some, Result, Ok, Err, IfSome, ⊤}
 use Rattle.edge_io.specs.Written.{appended, WroteFront}
 use Rattle.edge_io.specs.declared.sink.SinkFail.{SinkFail}
 use Rattle.edge_io.specs.declared.sink.SinkFail.TheVariants as sinks
@@ -7,10 +7,11 @@ use Rattle.exchange.specs.Calls.{Each}
 use Rattle.exchange.specs.Faults.{HasFailed, HasStrayed}
 use Rattle.exchange.specs.declared.fault.RunFault.{RunFault}
 use Rattle.exchange.specs.declared.fault.RunFault.TheVariants as run
-use Rattle.query_engine.specs.Engines.{AreSound, last_place, moved_last}
-use Rattle.remote_api.specs.Seen.{EngineSeen}
+use Rattle.query_engine.specs.Engines.{last_place, moved_last}
+use Rattle.remote_api.specs.Seen.{EngineSeen, KeepsStrays}
 use Rattle.remote_api.specs.declared.frame.Stray.{Stray}
 use Rattle.remote_api.specs.declared.frame.Stray.TheVariants as stray
+use Rattle.test_runner.specs.Boxes.{AreSound}
 use Rattle.promql_tool.specs.Chosen.{declared_of}
 use Rattle.promql_tool.specs.Ended.{EndWith}
 use Rattle.promql_tool.specs.Texts.{lost_text}
@@ -38,17 +39,21 @@ DeclaredSound boxes words es = AreSound (take (length (declared_of boxes words))
 
 -- ---- what becomes of them
 
--- whether a box tells what it holds hasn't changed, its counts haven't fallen, and it is sound if it was
+-- whether a box tells what it holds hasn't changed, its faults haven't fallen, and it is sound if it was
 pub record Lasts (e f : EngineSeen) : Type 0 where
   pub tells : is_some f.holding ≡ is_some e.holding
   pub faults : e.faults ≤ f.faults
-  pub strays : e.strays ≤ f.strays
   pub sound : e.sound ≡ true → f.sound ≡ true
 
 -- all boxes stand in their order
 pub record KeepsBoxes (es fs : List EngineSeen) : Type 0 where
   pub many : length fs ≡ length es
   pub boxes : Each Lasts es fs
+
+-- all boxes stand in their order, and none has strayed
+pub record KeepsCalm (es fs : List EngineSeen) : Type 0 where
+  pub kept : KeepsBoxes es fs
+  pub calm : Each KeepsStrays es fs
 
 -- the box at the last place has failed, or has strayed, and this was the last time
 abbrev pub IsToBlame : Option Stray → List EngineSeen → List EngineSeen → Type 0
@@ -66,12 +71,16 @@ pub record HasLost (lost : Lost) (es fs : List EngineSeen) : Type 0 where
 abbrev pub HasLostOne : List EngineSeen → List EngineSeen → Type 0
 HasLostOne es fs = (lost : Lost) × HasLost lost es fs
 
--- the box that an answer names was lost; where it names none, all stand in their order
+-- what cuts a run off leaves all boxes in their order, but one that was lost
+abbrev pub LeavesBut : Cut → List EngineSeen → List EngineSeen → Type 0
+LeavesBut cut.Write es fs = KeepsBoxes es fs
+LeavesBut cut.Memory es fs = KeepsBoxes es fs
+LeavesBut (cut.Lost lost) es fs = HasLost lost es fs
+
+-- the box that an answer names was lost; where it names none, all stand in their order, and where it is no error, none has strayed
 abbrev pub LeavesBoxes : {T : Type 0} → Result T Cut → List EngineSeen → List EngineSeen → Type 0
-LeavesBoxes (Ok x) es fs = KeepsBoxes es fs
-LeavesBoxes (Err cut.Write) es fs = KeepsBoxes es fs
-LeavesBoxes (Err cut.Memory) es fs = KeepsBoxes es fs
-LeavesBoxes (Err (cut.Lost lost)) es fs = HasLost lost es fs
+LeavesBoxes (Ok x) es fs = KeepsCalm es fs
+LeavesBoxes (Err why) es fs = LeavesBut why es fs
 
 -- ---- which one is lost
 
@@ -96,10 +105,15 @@ abbrev pub or_cut : Result Status SinkFail → Result Status Cut
 or_cut (Ok status) = Ok status
 or_cut (Err cause) = Err (cut_by cause)
 
+-- where what cuts a run off names an engine
+abbrev pub IfNames : Cut → (Lost → Type 0) → Type 0
+IfNames (cut.Lost lost) IsSuch = IsSuch lost
+IfNames _ IsSuch = ⊤
+
 -- where an answer names an engine
 abbrev pub IfLost : {T : Type 0} → Result T Cut → (Lost → Type 0) → Type 0
-IfLost (Err (cut.Lost lost)) IsSuch = IsSuch lost
-IfLost _ IsSuch = ⊤
+IfLost (Ok x) IsSuch = ⊤
+IfLost (Err why) IsSuch = IfNames why IsSuch
 
 -- an answer names no engine
 abbrev pub LosesNone : {T : Type 0} → Result T Cut → Type 0

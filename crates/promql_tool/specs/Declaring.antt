@@ -1,6 +1,6 @@
 -- Labels are declared to boxes of engines, one by one. (This project's own.)
 use Rattle.std.specs.Prelude.{◌≡◌, ◌≤◌, ◌<◌, ℕ, List, Some, slice_get, IfSome}
-use Rattle.remote_api.specs.Seen.{EngineSeen, MayDeclare}
+use Rattle.remote_api.specs.Seen.{EngineSeen, KeepsStrays, MayDeclare}
 use Rattle.tool_words.specs.Engines.{Labels}
 use Rattle.promql_tool.specs.Boxes.{Lasts}
 
@@ -15,6 +15,7 @@ HasItsLabels labels e = IfSome e.holding (λ h. h.declared ≡ Some labels)
 -- a box stands as it did, and has these labels
 pub record IsDeclared (labels : Labels) (e f : EngineSeen) : Type 0 where
   pub lasts : Lasts e f
+  pub strays : KeepsStrays e f
   pub labels_are : HasItsLabels labels f
 
 -- the k-th box has the k-th labels

@@ -1,5 +1,5 @@
 -- How a run ended that wasn't cut off, whatever engines gave. (This project's own.)
-use Rattle.std.specs.Prelude.{◌≡◌, ℕ, List, [], ◌∷◌, ◌++◌, Contains, Option, None, Some, ⊤}
+use Rattle.std.specs.Prelude.{◌≡◌, ℕ, Bool, List, [], ◌∷◌, ◌++◌, Contains, Option, None, Some, ⊤}
 use Rattle.std.specs.List.{AllByRecursion}
 use Rattle.edge_io.specs.Written.{appended}
 use Rattle.ticks.specs.Moments.{moments_in}

@@ -1,5 +1,5 @@
 -- What a run of words prints, and its status. (This project's own, after promqltest and promtool.)
-use Rattle.std.specs.Prelude.{◌≡◌, ℕ, List, [], ◌∷◌, ◌++◌, Option, None, Some, ⊤}
+use Rattle.std.specs.Prelude.{◌≡◌, ℕ, Bool, List, [], ◌∷◌, ◌++◌, Option, None, Some, ⊤}
 use Rattle.ticks.specs.declared.grid.Grid.{Grid}
 use Rattle.tool_words.specs.Asked.{Wish, asked, explain, format, query, test, workload}
 use Rattle.tool_words.specs.Engines.{Labels}

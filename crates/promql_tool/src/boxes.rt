@@ -2,10 +2,10 @@
 ghost use Rattle.exchange.specs.Calls.{IsCalled};
 ghost use Rattle.promql_tool.specs.Boxes.{AreFresh, LeavesBoxes, LosesNone};
 ghost use Rattle.promql_tool.specs.Declaring.{AreUndeclaredFrom, HoldDeclared, IsDeclared};
-ghost use Rattle.query_engine.specs.Engines.{AreSound, moved_last};
+ghost use Rattle.query_engine.specs.Engines.{moved_last};
 ghost use Rattle.remote_api.specs.Seen.{HasDeclared, MayDeclare};
 ghost use Rattle.std.specs.Prelude.{◌≡◌, ◌+◌, ◌<◌, ◌≤◌, ◌^◌, length, map, take, IsErrOf, OnOk};
-ghost use Rattle.test_runner.specs.Boxes.{AreReady};
+ghost use Rattle.test_runner.specs.Boxes.{AreReady, AreSound};
 ghost use Rattle.tool_words.specs.Engines.{AreDeclaredTo};
 
 use crate::fault::Cut;

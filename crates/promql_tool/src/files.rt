@@ -9,9 +9,9 @@ ghost use Rattle.promql_tool.specs.Reached.{ReachesFiles, status_of};
 ghost use Rattle.promql_tool.specs.Runs.{Ends, IsCutFiles, IsStoppedFiles, ReportsFiles};
 ghost use Rattle.promql_tool.specs.Spending.{FileSpends, FilesSpend};
 ghost use Rattle.query_engine.specs.Batches.{IsBatch};
-ghost use Rattle.query_engine.specs.Engines.{AreSound, DoNotRise};
+ghost use Rattle.query_engine.specs.Engines.{DoNotRise};
 ghost use Rattle.std.specs.Prelude.{◌≡◌, ◌+◌, ◌<◌, ◌^◌, [], ◌∷◌, length, map, take, IfOk, OnOk, IsErrOf};
-ghost use Rattle.test_runner.specs.Boxes.{AllTell, AreReady};
+ghost use Rattle.test_runner.specs.Boxes.{AllTell, AreReady, AreSound};
 
 use crate::fault::Cut;
 use crate::judge::{FileEnd, run_bytes, run_file};

@@ -8,10 +8,10 @@ ghost use Rattle.promql_tool.specs.Spending.{FileSpends};
 ghost use Rattle.promql_tool.specs.declared.fault.Stop.TheVariants.{Gone};
 ghost use Rattle.promql_tool.specs.declared.judge.FileEnd.TheVariants.{Stopped};
 ghost use Rattle.query_engine.specs.Batches.{IsBatch};
-ghost use Rattle.query_engine.specs.Engines.{AreSound, DoNotRise};
+ghost use Rattle.query_engine.specs.Engines.{DoNotRise};
 ghost use Rattle.script_check.specs.Verdicts.{KeepsPatterns};
 ghost use Rattle.std.specs.Prelude.{◌≡◌, ◌≤◌, ◌<◌, ◌^◌, [], length, map, take, IfOk, OnErr, OnOk, IsErrOf};
-ghost use Rattle.test_runner.specs.Boxes.{AllTell, AreReady};
+ghost use Rattle.test_runner.specs.Boxes.{AllTell, AreReady, AreSound};
 ghost use Rattle.test_runner.specs.Spending.{CommandsSpend};
 
 use crate::fault::{Cut, Refusal, Stop};

@@ -11,10 +11,10 @@ ghost use Rattle.promql_tool.specs.declared.fault.Stop.TheVariants.{Gone};
 ghost use Rattle.promql_tool.specs.declared.query.Answered.TheVariants.{Stopped};
 ghost use Rattle.query_engine.specs.Batches.{IsBatch};
 ghost use Rattle.query_engine.specs.Bounds.{Spends};
-ghost use Rattle.query_engine.specs.Engines.{AreSound, DoNotRise};
+ghost use Rattle.query_engine.specs.Engines.{DoNotRise};
 ghost use Rattle.query_engine.specs.Planning.{choices_of};
 ghost use Rattle.std.specs.Prelude.{◌≡◌, ◌<◌, ℕ, List, [], ◌∷◌, length, map, take, IfErr, IfOk, IsErrOf};
-ghost use Rattle.test_runner.specs.Boxes.{AllTell, AreReady};
+ghost use Rattle.test_runner.specs.Boxes.{AllTell, AreReady, AreSound};
 ghost use Rattle.test_runner.specs.Loads.{samples_left};
 
 use crate::fault::{Cut, Refusal, Stop};

@@ -2,7 +2,7 @@
 ghost use Rattle.edge_io.specs.Causes.{HasCause, Rose};
 ghost use Rattle.edge_io.specs.Fetches.{FetchesFront};
 ghost use Rattle.edge_io.specs.Written.{appended};
-ghost use Rattle.promql_tool.specs.Boxes.{AreFresh, DeclaredSound, HasLostOne, IfLost, IsLostLast, KeepsBoxes, LeavesBoxes, LosesNone};
+ghost use Rattle.promql_tool.specs.Boxes.{AreFresh, DeclaredSound, HasLostOne, IfLost, IsLostLast, KeepsBoxes, KeepsCalm, LeavesBoxes, LosesNone};
 ghost use Rattle.promql_tool.specs.Chosen.{DeclaredTell, declared_of, terms_of};
 ghost use Rattle.promql_tool.specs.Ended.{EndsWords, HasItsFiles, IsGoneLast, IsRefusedLast};
 ghost use Rattle.promql_tool.specs.Ends.{IfFirst, IfMade, IsCut, IsGone, IsOneOf, IsRefused, IsStoppedWords, IsUnrun, Reports};
@@ -79,7 +79,7 @@ fn run_words<L: Library, S: Sink, C: Courier, W: Ledger>(
     ensures told { L.told library.new ≡ L.told library.old }
     ensures library_sound { L.sound library.old → L.sound library.new }
     ensures gone { IfOk result (λ status. status.0 ≡ 3 → Rose (L.faults library.old) (L.faults library.new)) }
-    ensures came { IfOk result (λ status. EndsWords (length engines.old.items) (map string_bytes words.now) (IsFound (L.told library.old) (L.sound library.old)) (work.new ≡ work.old) (S.written out.new) status.0) }
+    ensures came { IfOk result (λ status. EndsWords (length engines.old.items) (map string_bytes words.now) (IsFound (L.told library.old) (L.sound library.old)) (work.new ≡ work.old) (S.written out.old) (S.written out.new) status.0) }
     ensures unevaluated { AsksToPrint (asked (length engines.old.items) (map string_bytes words.now)) → work.new ≡ work.old }
     ensures cause { HasCause (S.faults out.old) (S.faults out.new) (IsErrOf result Cut.Write) }
     ensures sound { S.sound out.old → S.sound out.new }
@@ -107,9 +107,10 @@ fn run_words<L: Library, S: Sink, C: Courier, W: Ledger>(
         ) => {
             declare(engines, declared.as_slice())?;
             let options = options_of(choices);
+            let files = files.as_slice();
             run_files(
                 alloc,
-                files.as_slice(),
+                files,
                 &options,
                 library,
                 engines,
@@ -282,11 +283,11 @@ pub fn run_tool<L: Library, S: Sink, C: Courier, W: Ledger>(
 
     // 5: an engine failed or strayed, which is printed last; its box stands behind all others, which stay in their order. Where each declared
     // engine tells, what was written up to then stands before that line. It doesn't come where no engine is declared, nor where each that is
-    // declared is sound and tells. After any other status the boxes stand in their order, but that after a write that failed, or want of
-    // memory, one may have been lost as well.
+    // declared is sound and tells. After any other status the boxes stand in their order and none has strayed, but that after a write that
+    // failed, or want of memory, one may have strayed or been lost as well.
     ensures engine_fault { result.0 ≡ 5 → IsLostLast (map (λ b. seen b) engines.old.items) (map (λ b. seen b) engines.new.items) (S.written out.new) }
     ensures before { DeclaredTell (length engines.old.items) (map string_bytes words.now) (map (λ b. seen b) engines.old.items) → result.0 ≡ 5 → StandsBefore (length engines.old.items) (map string_bytes words.now) (IsFound (L.told library.old) (L.sound library.old)) (map (λ b. seen b) engines.old.items) (map (λ b. seen b) engines.new.items) (S.written out.old) (S.written out.new) }
-    ensures boxes { IsOneOf (0 ∷ 1 ∷ 2 ∷ 3 ∷ 6 ∷ []) result.0 → KeepsBoxes (map (λ b. seen b) engines.old.items) (map (λ b. seen b) engines.new.items) }
+    ensures boxes { IsOneOf (0 ∷ 1 ∷ 2 ∷ 3 ∷ 6 ∷ []) result.0 → KeepsCalm (map (λ b. seen b) engines.old.items) (map (λ b. seen b) engines.new.items) }
     ensures boxes_cut { IsOneOf (4 ∷ 7 ∷ []) result.0 → KeepsBoxes (map (λ b. seen b) engines.old.items) (map (λ b. seen b) engines.new.items) ⊎ HasLostOne (map (λ b. seen b) engines.old.items) (map (λ b. seen b) engines.new.items) }
     ensures none_declared { declared_of (length engines.old.items) (map string_bytes words.now) ≡ [] → result.0 ≡ 5 → ⊥ }
     ensures sound_boxes { DeclaredTell (length engines.old.items) (map string_bytes words.now) (map (λ b. seen b) engines.old.items) → DeclaredSound (length engines.old.items) (map string_bytes words.now) (map (λ b. seen b) engines.old.items) → result.0 ≡ 5 → ⊥ }

@@ -8,9 +8,9 @@ ghost use Rattle.promql_tool.specs.Runs.{Ends, IsCutWorkload, IsStoppedWorkload,
 ghost use Rattle.promql_tool.specs.Spending.{FileSpends};
 ghost use Rattle.promql_tool.specs.Workload.{workload_path, workload_text};
 ghost use Rattle.query_engine.specs.Batches.{IsBatch};
-ghost use Rattle.query_engine.specs.Engines.{AreSound, DoNotRise};
+ghost use Rattle.query_engine.specs.Engines.{DoNotRise};
 ghost use Rattle.std.specs.Prelude.{◌≡◌, ◌≤◌, ◌<◌, [], ◌∷◌, length, map, take, IfOk, IsErrOf};
-ghost use Rattle.test_runner.specs.Boxes.{AllTell, AreReady};
+ghost use Rattle.test_runner.specs.Boxes.{AllTell, AreReady, AreSound};
 
 use crate::fault::Cut;
 use crate::files::run_text;

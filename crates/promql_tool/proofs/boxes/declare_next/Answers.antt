@@ -1,13 +1,13 @@
-use Rattle.std.proofs.Common.{◌≡◌, ◌∙◌, length, map, refl, sym, ap, arith}
+use Rattle.std.proofs.Common.{◌∙◌, map, sym, ap, arith}
 use Rattle.promql_tool.proofs.BoxLists.{map_moved, map_size}
-use Rattle.promql_tool.proofs.Declaring.{called_keeps, called_lost, called_ok, called_sound}
+use Rattle.promql_tool.proofs.Declaring.{called_calm, called_keeps, called_lost, called_ok, called_sound}
 use Rattle.promql_tool.proofs.boxes.declare_next.Goals as goal
 
 pub returns-in-Ok-clause-one : goal.returns-in-Ok-clause-one
 returns-in-Ok-clause-one g c = called_ok c.args.i c.args.labels.now _ _ c.in-Ok.ensures.declared
 
 pub returns-in-Ok-clause-boxes : goal.returns-in-Ok-clause-boxes
-returns-in-Ok-clause-boxes g c = called_keeps c.args.i c.args.labels.now _ _ _ (map_size _ _ ∙ c.declare_at.ensures.len ∙ sym (map_size _ _)) c.in-Ok.ensures.declared
+returns-in-Ok-clause-boxes g c = called_calm c.args.i c.args.labels.now _ _ (map_size _ _ ∙ c.declare_at.ensures.len ∙ sym (map_size _ _)) c.in-Ok.ensures.declared
 
 pub returns-in-Err-Memory-clause-boxes : goal.returns-in-Err-Memory-clause-boxes
 returns-in-Err-Memory-clause-boxes g c = called_keeps c.args.i c.args.labels.now _ _ _ (map_size _ _ ∙ c.declare_at.ensures.len ∙ sym (map_size _ _)) c.in-Err-Memory.ensures.declared

@@ -1,6 +1,6 @@
 use Rattle.std.proofs.Common.{◌≡◌, ◌≤◌, ◌<◌, ◌*◌, ◌^◌, [], drop, length, map, take}
 use Rattle.edge_io.specs.Fetches.{Fetches}
-use Rattle.promql_tool.specs.Boxes.{KeepsBoxes}
+use Rattle.promql_tool.specs.Boxes.{KeepsCalm}
 use Rattle.promql_tool.specs.Chosen.{under}
 use Rattle.promql_tool.specs.Found.{IsFound}
 use Rattle.promql_tool.specs.Spending.{FilesSpend}
@@ -16,7 +16,7 @@ invariant-loop-file g l = record {
       l.tally.passed l.tally.failed;
   ran : RanSoFar (under l.options.closed l.fn.declared) (IsFound (g.L.Library.told l.fn.library) (g.L.Library.sound l.fn.library)) (take l.file-index l.files) (l.work ≡ l.fn.work);
   unmoved : 0 < length l.fn.declared → DoNotRise l.fn.work l.work;
-  kept : KeepsBoxes (map (λ b. (goal.Engine-dyn g (b.vtable, b.value)).seen b.value) l.fn.engines.items) (map (λ b. (goal.Engine-dyn g (b.vtable, b.value)).seen b.value) l.engines.items);
+  kept : KeepsCalm (map (λ b. (goal.Engine-dyn g (b.vtable, b.value)).seen b.value) l.fn.engines.items) (map (λ b. (goal.Engine-dyn g (b.vtable, b.value)).seen b.value) l.engines.items);
   labels : l.declared ≡ l.fn.declared;
   ready : AreReady l.declared (map (λ b. (goal.Engine-dyn g (b.vtable, b.value)).seen b.value) l.engines.items);
   few_passed : l.tally.passed ≤ l.file-index * 2 ^ 32;

@@ -1,10 +1,10 @@
-use Rattle.std.proofs.Common.{◌≡◌, ◌+◌, [], ◌∷◌, List, ℕ, Option, Err, arith, refl, sym, subst}
+use Rattle.std.proofs.Common.{◌≡◌, ◌+◌, [], ◌∷◌, List, ℕ, Option, arith, refl, sym, subst}
 use Rattle.std.proofs.lemmas.Result.{err_from_is_err_and}
 use Rattle.promql_tool.specs.Chosen.{under}
 use Rattle.promql_tool.specs.Found.{Just}
-use Rattle.promql_tool.proofs.BoxLists.{kept_leaves, leaves_alike}
+use Rattle.promql_tool.proofs.BoxLists.{kept_leaves}
 use Rattle.promql_tool.proofs.FilesRun.{RunSoFar, ends_cut, next_cut, next_stopped, none_ran, none_run, one_more, stop_ends, stop_printed, totals_end, totals_printed}
-use Rattle.promql_tool.proofs.WordsRun.{when_lost}
+use Rattle.promql_tool.proofs.WordsRun.{when_names}
 use Rattle.promql_tool.proofs.files.run_text.Goals as goal
 
 pub returns-in_err-totals-clause-ends : goal.returns-in_err-totals-clause-ends
@@ -27,7 +27,7 @@ returns-in_err-totals-clause-stopped g c = λ tell.
     let now = g.S.Sink.written c.run_bytes.new.out in
     let run = none_run terms found (path ∷ []) before (Unit {0}) tt in
     let p = err_from_is_err_and c.from_residual.result c.from_residual.ensures.1 in
-    rw (p.1, p.2) (when_lost (Err c.in_err-totals.error) _ _ (λ s. next_stopped terms found (path ∷ []) before path [] before (Unit {0}) 0 0 run now s) (c.in_err-totals.ensures.stopped tell))
+    rw (p.1, p.2) (when_names _ _ _ (λ s. next_stopped terms found (path ∷ []) before path [] before (Unit {0}) 0 0 run now s) (c.in_err-totals.ensures.stopped tell))
 
 pub returns-in-Judged-clause-ends : goal.returns-in-Judged-clause-ends
 returns-in-Judged-clause-ends g c = λ tell.
@@ -83,7 +83,7 @@ returns-in-Stopped-clause-came g c =
 pub returns-in_err-totals-clause-boxes : goal.returns-in_err-totals-clause-boxes
 returns-in_err-totals-clause-boxes g c =
     let p = err_from_is_err_and c.from_residual.result c.from_residual.ensures.1 in
-    rw (p.1, p.2) (leaves_alike _ _ _ c.in_err-totals.ensures.boxes)
+    rw (p.1, p.2) (c.in_err-totals.ensures.boxes)
 
 pub returns-in-Judged-clause-boxes : goal.returns-in-Judged-clause-boxes
 returns-in-Judged-clause-boxes g c =

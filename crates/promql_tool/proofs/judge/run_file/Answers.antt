@@ -1,7 +1,7 @@
 use Rattle.std.proofs.Common.{List, ℕ, Some, refl, subst, sym}
 use Rattle.promql_tool.specs.Chosen.{under}
 use Rattle.promql_tool.specs.Found.{IsFound}
-use Rattle.promql_tool.proofs.BoxLists.{kept_itself}
+use Rattle.promql_tool.proofs.BoxLists.{still_itself}
 use Rattle.promql_tool.proofs.Mapped.{bytes_came, bytes_cut, bytes_ended, bytes_stopped}
 use Rattle.promql_tool.specs.Spending.{no_file}
 use Rattle.promql_tool.proofs.Spending.{bytes_spend}
@@ -44,4 +44,10 @@ returns-in-Bytes-clause-stopped g c =
     λ tell. bytes_stopped (under c.args.options.now.closed c.args.declared.now) found c.args.path.now c.as_slice.result.now is_found _ _ c.run_bytes.result (c.run_bytes.ensures.stopped tell)
 
 pub returns-in-Stopped-clause-boxes : goal.returns-in-Stopped-clause-boxes
-returns-in-Stopped-clause-boxes g c = kept_itself _
+returns-in-Stopped-clause-boxes g c = still_itself _
+
+pub returns-in-Stopped-clause-ran : goal.returns-in-Stopped-clause-ran
+returns-in-Stopped-clause-ran g c = λ tell. (rw c.in-Stopped.is at (c.in_ok-bytes.ensures.file (under c.args.options.now.closed c.args.declared.now)), refl, refl)
+
+pub returns-in-Stopped-clause-came : goal.returns-in-Stopped-clause-came
+returns-in-Stopped-clause-came g c = (rw c.in-Stopped.is at (c.in_ok-bytes.ensures.file (under c.args.options.now.closed c.args.declared.now)), refl, refl)

@@ -1,4 +1,3 @@
-use Rattle.std.proofs.Common.{◌≡◌, ◌⊎◌, ⊎_elim, inl, inr, refl, sym}
 use Rattle.promql_tool.proofs.LostLine.{lost_ended}
 use Rattle.promql_tool.proofs.print.end_cut.Goals as goal
 

@@ -1,7 +1,7 @@
 use Rattle.std.proofs.Common.{refl}
 use Rattle.promql_tool.specs.Chosen.{under}
 use Rattle.promql_tool.specs.Reading.{unread}
-use Rattle.promql_tool.proofs.BoxLists.{kept_itself}
+use Rattle.promql_tool.proofs.BoxLists.{still_itself}
 use Rattle.promql_tool.proofs.Querying.{script_answered, script_came}
 use Rattle.promql_tool.specs.Spending.{no_answer}
 use Rattle.promql_tool.proofs.Spending.{script_asked}
@@ -36,7 +36,4 @@ returns-in-Err-Refused-clause-came g c =
     λ path. rw (c.refused.ensures, c.in-Err-Refused.refusal-is) ((c.args.bytes.now, refl, unread c.read_script.new.searches c.in-Err-Refused.refusal said), refl)
 
 pub returns-in-Err-Refused-clause-boxes : goal.returns-in-Err-Refused-clause-boxes
-returns-in-Err-Refused-clause-boxes g c = kept_itself _
-
-pub returns-in-Err-Memory-clause-boxes : goal.returns-in-Err-Memory-clause-boxes
-returns-in-Err-Memory-clause-boxes g c = kept_itself _
+returns-in-Err-Refused-clause-boxes g c = still_itself _

@@ -1,7 +1,7 @@
 use Rattle.std.proofs.Common.{List, ℕ, Some, refl, subst, sym}
 use Rattle.promql_tool.specs.Chosen.{under}
 use Rattle.promql_tool.specs.Found.{IsFound}
-use Rattle.promql_tool.proofs.BoxLists.{kept_itself}
+use Rattle.promql_tool.proofs.BoxLists.{still_itself}
 use Rattle.promql_tool.proofs.Querying.{bytes_answered, bytes_came, never_gone}
 use Rattle.promql_tool.specs.Spending.{no_answer}
 use Rattle.promql_tool.proofs.Spending.{bytes_asked}
@@ -36,4 +36,10 @@ returns-in-Bytes-clause-came g c =
     bytes_came (under c.args.question.options.now.closed c.args.declared.now) c.args.path.now _ found _ c.as_slice.result.now c.answer_bytes.result is_found (c.answer_bytes.ensures.came c.args.path.now)
 
 pub returns-in-Stopped-clause-boxes : goal.returns-in-Stopped-clause-boxes
-returns-in-Stopped-clause-boxes g c = kept_itself _
+returns-in-Stopped-clause-boxes g c = still_itself _
+
+pub returns-in-Stopped-clause-answered : goal.returns-in-Stopped-clause-answered
+returns-in-Stopped-clause-answered g c = λ tell. (rw c.in-Stopped.is at (c.in_ok-bytes.ensures.file (under c.args.question.options.now.closed c.args.declared.now)), refl)
+
+pub returns-in-Stopped-clause-came : goal.returns-in-Stopped-clause-came
+returns-in-Stopped-clause-came g c = (rw c.in-Stopped.is at (c.in_ok-bytes.ensures.file (under c.args.question.options.now.closed c.args.declared.now)), refl)

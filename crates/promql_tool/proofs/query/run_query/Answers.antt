@@ -1,7 +1,6 @@
-use Rattle.std.proofs.Common.{Err}
 use Rattle.std.proofs.lemmas.Result.{err_from_is_err_and}
 use Rattle.promql_tool.specs.Found.{IsFound}
-use Rattle.promql_tool.proofs.BoxLists.{kept_leaves, leaves_alike}
+use Rattle.promql_tool.proofs.BoxLists.{kept_leaves}
 use Rattle.promql_tool.proofs.FilesRun.{ends_cut}
 use Rattle.promql_tool.proofs.Querying.{answered_came, gone_alone, query_ends}
 use Rattle.promql_tool.proofs.query.run_query.Goals as goal
@@ -25,4 +24,4 @@ returns-clause-boxes g c = kept_leaves _ _ c.or_cut.result c.or_cut.ensures.none
 pub returns-in_err-answered-clause-boxes : goal.returns-in_err-answered-clause-boxes
 returns-in_err-answered-clause-boxes g c =
     let p = err_from_is_err_and c.from_residual.result c.from_residual.ensures.1 in
-    rw (p.1, p.2) (leaves_alike _ _ _ c.in_err-answered.ensures.boxes)
+    rw (p.1, p.2) (c.in_err-answered.ensures.boxes)

@@ -1,12 +1,6 @@
-use Rattle.std.proofs.Common.{◌≡◌, ◌⊎◌, ◌<◌, [], ◌∷◌, None, length, map, string_bytes, refl, sym, arith, inl, inr}
-use Rattle.promql_tool.specs.Boxes.{LosesNone}
-use Rattle.promql_tool.specs.Chosen.{terms_of}
-use Rattle.promql_tool.specs.Ended.{HasItsFiles}
-use Rattle.promql_tool.specs.Ends.{IfFirst, IfMade, IsOneOf, IsUnrun, IsGone, Reports}
-use Rattle.promql_tool.specs.Found.{Have}
-use Rattle.promql_tool.specs.Reading.{IsNoScript}
-use Rattle.promql_tool.specs.Report.{HasReport, files_of}
-use Rattle.promql_tool.specs.declared.print.Status.{Status}
+use Rattle.std.proofs.Common.{◌≡◌, [], ◌∷◌, None, length, map, string_bytes, refl, arith, inr}
+use Rattle.promql_tool.specs.Ends.{IsOneOf}
+use Rattle.promql_tool.specs.Report.{files_of}
 use Rattle.tool_words.specs.Asked.{asked}
 use Rattle.promql_tool.proofs.EndedWords.{ended_complete, ended_gone, ended_idle, ended_made, ended_missing, ended_outside, ended_refused, ended_rests, ended_status, ended_usage, ended_words}
 use Rattle.promql_tool.proofs.Ending.{boxes_cut, cut_alone, cut_reaches, cut_seven, cut_short, cut_sound, cut_status, cut_wrote, first_of, lost_last, made_each, stands_before, told_each}
@@ -96,7 +90,7 @@ returns-in-Ok-clause-outside g c =
 
 pub returns-in-Err-clause-outside : goal.returns-in-Err-clause-outside
 returns-in-Err-clause-outside g c =
-    let is = cut_status c.in-Err.cut _ _ _ c.end_cut.ensures.ended (IsOneOf (3 ∷ 4 ∷ 5 ∷ 6 ∷ 7 ∷ [])) refl refl refl in told_each (g.L.Library.told c.args.library.now) _ (λ files path named no. is)
+    let is = cut_status c.in-Err.cut _ _ _ c.end_cut.ensures.ended (IsOneOf (3 ∷ 4 ∷ 5 ∷ 6 ∷ 7 ∷ [])) refl refl refl in told_each (g.L.Library.told c.args.library.now) _ (λ files path named unfit. is)
 
 pub returns-in-Ok-clause-made : goal.returns-in-Ok-clause-made
 returns-in-Ok-clause-made g c =
@@ -120,7 +114,7 @@ returns-in-Ok-clause-idle_first g c =
 
 pub returns-in-Err-clause-idle_first : goal.returns-in-Err-clause-idle_first
 returns-in-Err-clause-idle_first g c =
-    told_each (g.L.Library.told c.args.library.now) _ (λ files. first_of (files_of (length c.args.engines.now.items) (map string_bytes c.args.words.now)) _ (λ path no one. absurd (cut_status c.in-Err.cut _ _ _ c.end_cut.ensures.ended (λ n. IsOneOf (3 ∷ 6 ∷ []) n → ⊥) (λ h. cc) (λ h. cc) (λ h. cc) one)))
+    told_each (g.L.Library.told c.args.library.now) _ (λ files. first_of (files_of (length c.args.engines.now.items) (map string_bytes c.args.words.now)) _ (λ path unfit one. absurd (cut_status c.in-Err.cut _ _ _ c.end_cut.ensures.ended (λ n. IsOneOf (3 ∷ 6 ∷ []) n → ⊥) (λ h. cc) (λ h. cc) (λ h. cc) one)))
 
 pub returns-in-Err-clause-fetch : goal.returns-in-Err-clause-fetch
 returns-in-Err-clause-fetch g c = λ e.
@@ -164,7 +158,7 @@ returns-in-Ok-clause-write g c = λ e.
 
 pub returns-in-Err-clause-write : goal.returns-in-Err-clause-write
 returns-in-Err-clause-write g c =
-    cut_wrote _ _ _ c.in-Err.cut _ _ _ c.end_cut.ensures.ended c.run_words.ensures.cause c.end_cut.ensures.cause
+    cut_wrote _ _ _ c.in-Err.cut _ _ _ c.end_cut.ensures.ended c.in-Err.ensures.cause c.end_cut.ensures.cause
 
 pub returns-in-Ok-clause-sound : goal.returns-in-Ok-clause-sound
 returns-in-Ok-clause-sound g c = λ s e.
@@ -212,7 +206,7 @@ returns-in-Ok-clause-boxes_cut g c = λ one.
 
 pub returns-in-Err-clause-boxes_cut : goal.returns-in-Err-clause-boxes_cut
 returns-in-Err-clause-boxes_cut g c = λ one.
-    boxes_cut _ _ _ _ _ c.in-Err.cut c.in-Err.ensures.boxes
+    boxes_cut _ _ c.in-Err.cut c.in-Err.ensures.boxes
 
 pub returns-in-Ok-clause-none_declared : goal.returns-in-Ok-clause-none_declared
 returns-in-Ok-clause-none_declared g c = λ none e.

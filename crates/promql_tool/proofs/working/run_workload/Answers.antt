@@ -4,7 +4,7 @@ use Rattle.promql_tool.specs.Boxes.{IfLost}
 use Rattle.promql_tool.specs.Chosen.{under}
 use Rattle.promql_tool.specs.Ended.{EndsFiles}
 use Rattle.promql_tool.specs.Found.{Just}
-use Rattle.promql_tool.proofs.BoxLists.{kept_itself, kept_leaves, none_by}
+use Rattle.promql_tool.proofs.BoxLists.{kept_itself, write_keeps}
 use Rattle.promql_tool.specs.Runs.{Ends, IsCutFiles, IsStoppedFiles, ReportsFiles}
 use Rattle.promql_tool.specs.Workload.{workload_path}
 use Rattle.promql_tool.proofs.WorkloadRun.{behind_loaded, loaded_cut, stopped_behind}
@@ -57,4 +57,4 @@ returns-in_err-text-clause-boxes g c =
 pub returns-in_err-print_loaded-clause-boxes : goal.returns-in_err-print_loaded-clause-boxes
 returns-in_err-print_loaded-clause-boxes g c =
     let p = err_from_is_err_and c.from_residual-in_err-print_loaded.result c.from_residual-in_err-print_loaded.ensures.1 in
-    rw (p.1, p.2) (kept_leaves _ _ _ (none_by _) (kept_itself _))
+    rw (p.1, p.2) (write_keeps c.in_err-print_loaded.field-0.0 _)

@@ -1,0 +1,10 @@
+use Rattle.std.proofs.Common.{◌≡◌, length, map}
+use Rattle.promql_tool.specs.Boxes.{AreFresh}
+use Rattle.program_tests.proofs.gathered.run_counted.Given as goal
+
+-- the boxes so far, each as it was made
+abbrev pub invariant-loop : goal.invariant-loop
+invariant-loop g l = record {
+  fresh : AreFresh (map (λ b. (goal.Engine-dyn g (b.vtable, b.value)).seen b.value) l.engines.items);
+  many : length l.engines.items ≡ l.index;
+}
