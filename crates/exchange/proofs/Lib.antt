@@ -6,4 +6,6 @@ pub mod Making
 pub mod Opening
 pub mod Owing
 pub mod Places
+pub mod Slots
+pub mod Sorting
 pub mod Turning

@@ -21,6 +21,7 @@ use Rattle.exchange.specs.declared.place.Place.{Place}
 use Rattle.exchange.specs.declared.request.Request.{Request}
 use Rattle.exchange.specs.Asked.{AreAsked, AreOwed, IsAskFor, IsOwed, MayRequest, is_among, owed_by, owed_over, requests_of}
 use Rattle.exchange.specs.Calls.{Each, Grows}
+use Rattle.exchange.specs.InOrder.{in_order_of_asks}
 use Rattle.exchange.specs.Opened.{AreBehind, AreOpened, AskTheirEngines, AskTheirRequests, AskedOnce, GainsAsk, IsAskedOnce, IsMade, IsOpened, engines_of}
 use Rattle.exchange.specs.Requests.{IsRequest, ask_of}
 use Rattle.exchange.specs.Standing.{AllStand, Apart, AreApart, AskAt, JudgeAlike, PlaceStands, Progress}
@@ -225,12 +226,6 @@ may_request_now k l span r e h = subst (λ z. MayRequest span z r) (sym e) h
 pub asked_next : (span : Grid) (kept : Kept) (es gs : List EngineSeen) (requests : List Request) (i : ℕ) (r : Request) → slice_get requests i ≡ Some r → AreAsked span kept (take i requests ++ r ∷ []) es gs → AreAsked span kept (take (i + 1) requests) es gs
 asked_next span kept es gs requests i r at h = subst (λ l. AreAsked span kept l es gs) (take_one_more requests i r at) h
 
-pub opened_as : (span : Grid) (kept : Kept) (es fs : List EngineSeen) (requests : List Request) (places new : List Place) → new ≡ places → AreOpened span kept es fs requests places → AreOpened span kept es fs requests new
-opened_as span kept es fs requests places new e h = subst (AreOpened span kept es fs requests) (sym e) h
-
-pub apart_as : (places new : List Place) → new ≡ places → AreApart places → AreApart new
-apart_as places new e h = subst AreApart (sym e) h
-
 pub none_opened : (span : Grid) (kept : Kept) (es fs : List EngineSeen) (requests : List Request) → AreOpened span kept es fs requests []
 none_opened span kept es fs requests k r place r_at place_at = absurd (cc)
 
@@ -255,3 +250,6 @@ asks_theirs_by span kept es fs lent own seen places new a b n opened k r place r
 pub requests_theirs_by : (span : Grid) (kept : Kept) (es fs : List EngineSeen) (lent own seen : List Request) (places new : List Place) → lent ≡ own → own ≡ seen → new ≡ places → AreOpened span kept es fs lent places → AskTheirRequests seen new
 requests_theirs_by span kept es fs lent own seen places new a b n opened k r place r_at place_at =
     (opened k r place (ap (λ l. slice_get l k) (a ∙ b) ∙ r_at) (ap (λ l. slice_get l k) (sym n) ∙ place_at)).ask
+
+pub in_order_by : (span : Grid) (kept : Kept) (es fs : List EngineSeen) (lent own seen : List Request) → lent ≡ own → own ≡ seen → AreAsked span kept (in_order_of_asks lent) es fs → AreAsked span kept (in_order_of_asks seen) es fs
+in_order_by span kept es fs lent own seen a b h = subst (λ z. AreAsked span kept (in_order_of_asks z) es fs) (a ∙ b) h

@@ -2,6 +2,7 @@ pub mod Asked
 pub mod Calls
 pub mod Exchanging
 pub mod Faults
+pub mod InOrder
 pub mod Laws
 pub mod Opened
 pub mod Requests

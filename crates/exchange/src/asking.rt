@@ -2,9 +2,11 @@
 ghost use Rattle.exchange.specs.Asked.{AreAsked, MayRequest};
 ghost use Rattle.exchange.specs.Calls.{Each, Grows, IsCalled};
 ghost use Rattle.exchange.specs.Faults.{Blames, Faulted, IsAskedFor, IsIn, IsNoStray};
+ghost use Rattle.exchange.specs.InOrder.{AreInSlots, IsAskOrder, in_order_of_asks};
 ghost use Rattle.exchange.specs.Opened.{AreBehind, AreOpened, AskedOnce, IsOpened, engines_of};
 ghost use Rattle.exchange.specs.Requests.{IsRequest, ask_of};
 ghost use Rattle.exchange.specs.Standing.{AreApart};
+ghost use Rattle.exchange.specs.declared.place.Place.{Place};
 ghost use Rattle.exchange.specs.declared.request.Request.{Request};
 ghost use Rattle.op_gather.specs.Histories.{Stands};
 ghost use Rattle.remote_api.specs.Seen.{EngineSeen, HasAsked, KeepsStrays, MayAsk};
@@ -17,6 +19,7 @@ ghost use Rattle.ticks.specs.declared.moment.Ms.{Ms};
 use crate::fault::RunFault;
 use crate::place::{Asking, Place};
 use crate::request::Request;
+use crate::turns::{empty_slots, order_of, place_in, request_at, standing_in};
 use label_set::Items;
 use match_rule::Patterns;
 use op_gather::Gather;
@@ -170,7 +173,47 @@ fn open_place(
     }
 }
 
-/// Asks the engines of all requests, in their order: a gather of each, of which nothing was taken.
+/// Asks the engines of all requests in the order of asks, and puts into the slot of each its gather, of which nothing was taken.
+fn ask_in_order(
+    alloc: Global,
+    requests: &[Request],
+    order: &[usize],
+    slots: &mut Items<Option<Place>>,
+    span: &Grid,
+    engines: &mut [Box<dyn Engine>],
+    patterns: &mut Patterns<'_>,
+) -> Result<(), RunFault>
+    requires requests { AllByRecursion IsRequest requests.now }
+    requires may { (k : ℕ) (r : Request) → slice_get requests.now k ≡ Some r → MayRequest span.now patterns.old r }
+    requires inside { (k j i : ℕ) (r : Request) → slice_get requests.now k ≡ Some r → slice_get r.engines j ≡ Some i → i < length engines.old }
+    requires unasked { (i : ℕ) (e : EngineSeen) → slice_get (map (λ b. seen b) engines.old) i ≡ Some e → (e.asks ≡ []) × (e.spent ≡ false) }
+    requires order { IsAskOrder requests.now order.now }
+    requires slots { length slots.old ≡ length requests.now }
+    ensures size { length slots.new ≡ length slots.old }
+    ensures opened { OnOk result ((made : List Place) × AreOpened span.now patterns.old (map (λ b. seen b) engines.old) (map (λ b. seen b) engines.new) (in_order_of_asks requests.now) made × AreApart made × AreInSlots order.now made slots.new) }
+    ensures asked { OnOk result (AreAsked span.now patterns.old (in_order_of_asks requests.now) (map (λ b. seen b) engines.old) (map (λ b. seen b) engines.new)) }
+    ensures calm { Each KeepsStrays (map (λ b. seen b) engines.old) (map (λ b. seen b) engines.new) }
+    ensures grown { Each Grows (map (λ b. seen b) engines.old) (map (λ b. seen b) engines.new) }
+    ensures fault { Faulted result (map (λ b. seen b) engines.old) (map (λ b. seen b) engines.new) }
+    ensures blame { Blames (IsAskedFor requests.now) result }
+    ensures no_stray { IsNoStray result }
+    ensures same { patterns.new ≡ patterns.old }
+    ensures len { length engines.new ≡ length engines.old }
+{
+    for j in 0..order.len() {
+        let k = place_in(order, j);
+        let request = request_at(requests, k);
+        match open_place(alloc, request, span, engines, patterns) {
+            Ok(place) => {
+                slots.replace(k, Some(place));
+            }
+            Err(fault) => return Err(fault),
+        }
+    }
+    Ok(())
+}
+
+/// Asks the engines of all requests in the order of asks: a gather of each, of which nothing was taken, in the order of the requests.
 pub(crate) fn open_places(
     alloc: Global,
     requests: &[Request],
@@ -185,7 +228,7 @@ pub(crate) fn open_places(
     ensures size { IfOk result (λ places. length places ≡ length requests.now) }
     ensures opened { IfOk result (λ places. AreOpened span.now patterns.old (map (λ b. seen b) engines.old) (map (λ b. seen b) engines.new) requests.now places) }
     ensures apart { IfOk result (λ places. AreApart places) }
-    ensures asked { OnOk result (AreAsked span.now patterns.old requests.now (map (λ b. seen b) engines.old) (map (λ b. seen b) engines.new)) }
+    ensures asked { OnOk result (AreAsked span.now patterns.old (in_order_of_asks requests.now) (map (λ b. seen b) engines.old) (map (λ b. seen b) engines.new)) }
     ensures calm { Each KeepsStrays (map (λ b. seen b) engines.old) (map (λ b. seen b) engines.new) }
     ensures grown { Each Grows (map (λ b. seen b) engines.old) (map (λ b. seen b) engines.new) }
     ensures fault { Faulted result (map (λ b. seen b) engines.old) (map (λ b. seen b) engines.new) }
@@ -194,16 +237,28 @@ pub(crate) fn open_places(
     ensures same { patterns.new ≡ patterns.old }
     ensures len { length engines.new ≡ length engines.old }
 {
-    let mut places = Items::new(alloc);
-    for request in requests {
-        let place = match open_place(alloc, request, span, engines, patterns) {
-            Ok(place) => place,
-            Err(fault) => return Err(fault),
-        };
-        match places.push(place) {
-            Ok(()) => {}
-            Err(AllocError) => return Err(RunFault::Memory),
-        }
+    let order = match order_of(alloc, requests) {
+        Ok(order) => order,
+        Err(AllocError) => return Err(RunFault::Memory),
+    };
+    let mut slots = match empty_slots(alloc, requests.len()) {
+        Ok(slots) => slots,
+        Err(AllocError) => return Err(RunFault::Memory),
+    };
+    match ask_in_order(
+        alloc,
+        requests,
+        order.as_slice(),
+        &mut slots,
+        span,
+        engines,
+        patterns,
+    ) {
+        Ok(()) => {}
+        Err(fault) => return Err(fault),
     }
-    Ok(places)
+    match standing_in(alloc, slots) {
+        Ok(places) => Ok(places),
+        Err(AllocError) => Err(RunFault::Memory),
+    }
 }

@@ -2,6 +2,7 @@
 ghost use Rattle.exchange.specs.Asked.{AreAsked, AreOwed, MayOpen};
 ghost use Rattle.exchange.specs.Calls.{AskStays, Each, Grows, HasSameAsks};
 ghost use Rattle.exchange.specs.Faults.{Blames, Faulted, IsAskedAt, IsAskedFor, IsNoStray};
+ghost use Rattle.exchange.specs.InOrder.{in_order_of_asks};
 ghost use Rattle.exchange.specs.Opened.{AskTheirEngines, AskTheirRequests};
 ghost use Rattle.exchange.specs.Requests.{AreRising};
 ghost use Rattle.exchange.specs.Standing.{AllStand, AllTell, GivesSteps, IsApartFrom, LendsAt, MayAdvance, Progress, gone_on};
@@ -29,9 +30,9 @@ use std::marker::Model;
 use step_batch::{Batch, Windows};
 use ticks::{Grid, Ms, Walk, WalkMoment, walks_are_listed};
 
-/// The gathers of one tree of operators, in the order of their asks. Parts are added, then all asks are made at once, then each gather
-/// takes its steps one by one. After an error of `open` or `advance` it is spent and may only be dropped. Contracts see what was added,
-/// and each gather beside its asks.
+/// The gathers of one tree of operators, in the order in which their parts were added. Parts are added, then all asks are made at
+/// once, then each gather takes its steps one by one. After an error of `open` or `advance` it is spent and may only be dropped.
+/// Contracts see what was added, and each gather beside its asks.
 #[derive(Drop)]
 pub struct Exchange {
     most: u32,
@@ -105,9 +106,9 @@ impl Exchange {
         self.requests.as_slice().is_empty()
     }
 
-    /// Makes all asks, in the order of the parts and for each part in the order of its engines. It is called once, after the last `add`.
-    /// The patterns stay as they are. An engine that fails is told, and no other fault than that and want of memory; after either the
-    /// exchange is spent.
+    /// Makes all asks: the parts in the order of their first bytes in the query, those of equal first bytes as they were added, and
+    /// of each its engines in their order. It is called once, after the last `add`. The patterns stay as they are. An engine that
+    /// fails is told, and no other fault than that and want of memory; after either the exchange is spent.
     pub fn open(
         &mut self,
         span: &Grid,
@@ -117,7 +118,7 @@ impl Exchange {
         requires { MayOpen span.now patterns.old (map (λ b. seen b) engines.old) self.old }
         ensures owed { (ps : List Progress) × AreOwed span.now patterns.old (map (λ b. seen b) engines.old) self.old.requests ps }
         ensures stand { (ps : List Progress) → AreOwed span.now patterns.old (map (λ b. seen b) engines.old) self.old.requests ps → OnOk result (AllStand patterns.old (map (λ b. seen b) engines.new) self.new.places ps) }
-        ensures asked { OnOk result (AreAsked span.now patterns.old self.old.requests (map (λ b. seen b) engines.old) (map (λ b. seen b) engines.new)) }
+        ensures asked { OnOk result (AreAsked span.now patterns.old (in_order_of_asks self.old.requests) (map (λ b. seen b) engines.old) (map (λ b. seen b) engines.new)) }
         ensures asks { OnOk result (AskTheirEngines self.old.requests self.new.places) }
         ensures gathers { OnOk result (AskTheirRequests self.old.requests self.new.places) }
         ensures calm { Each KeepsStrays (map (λ b. seen b) engines.old) (map (λ b. seen b) engines.new) }

@@ -8,6 +8,7 @@ pub mod laws;
 mod place;
 mod pulling;
 mod request;
+mod turns;
 
 pub use exchange::Exchange;
 pub use fault::RunFault;

@@ -1,7 +1,7 @@
 use Rattle.std.proofs.Common.{◌∙◌, sym, ap, slice_get}
 use Rattle.exchange.specs.Exchanging.{Exchanging}
 use Rattle.exchange.proofs.Owing.{all_owed_by}
-use Rattle.exchange.proofs.Opening.{all_opened_by, asks_theirs_by, requests_theirs_by}
+use Rattle.exchange.proofs.Opening.{all_opened_by, asks_theirs_by, in_order_by, requests_theirs_by}
 use Rattle.exchange.proofs.exchange.Exchange.open.Goals as goal
 
 pub open_places-requires-clause-may : goal.open_places-requires-clause-may
@@ -22,3 +22,6 @@ returns-in-Ok-clause-asks g c = asks_theirs_by c.args.span.now c.args.patterns.n
 
 pub returns-in-Ok-clause-gathers : goal.returns-in-Ok-clause-gathers
 returns-in-Ok-clause-gathers g c = requests_theirs_by c.args.span.now c.args.patterns.now _ _ c.as_slice.result.now c.self.inside.requests c.args.self.now.requests c.in-Ok.places c.into_vec.result.items c.as_slice.ensures (ap (λ (x : Exchanging). x.requests) c.self.view_is) c.into_vec.ensures c.in-Ok.ensures.opened
+
+pub returns-in-Ok-clause-asked : goal.returns-in-Ok-clause-asked
+returns-in-Ok-clause-asked g c = in_order_by c.args.span.now c.args.patterns.now _ _ c.as_slice.result.now c.self.inside.requests c.args.self.now.requests c.as_slice.ensures (ap (λ (x : Exchanging). x.requests) c.self.view_is) c.in-Ok.ensures.asked
