@@ -52,9 +52,10 @@ held_by (names ∷ declared) [] engines are many held tell = absurd (omega (arit
 held_by (names ∷ declared) (e ∷ es) [] are many held tell = absurd (cc)
 held_by (names ∷ declared) (e ∷ es) (x ∷ xs) are many held tell =
     let first : x.declared ≡ names = cc in
-    let others : declared_to xs ≡ declared = cc in
-    (record { declared = first; tells = told_samples x e.holding (tell 0 e (omega arith) refl) (held 0 x e refl refl) },
-     held_by declared es xs others (omega (arith, many)) (λ k one f at_one at_f. held (suc k) one f at_one at_f) (λ k f l at_f. tell (suc k) f (omega (arith, l)) at_f))
+    let others : declared_to xs ≡ declared = cc in (
+      record { declared = first; tells = told_samples x e.holding (tell 0 e (omega arith) refl) (held 0 x e refl refl) },
+      held_by declared es xs others (omega (arith, many)) (λ k one f at_one at_f. held (suc k) one f at_one at_f) (λ k f l at_f. tell (suc k) f (omega (arith, l)) at_f),
+    )
 
 pub stand_at : (declared : List LabelList) (es : List EngineSeen) (series : AllSeries) → HoldParts declared es series → AllTell (length declared) es → StandAt declared es series
 stand_at declared es series h tell = record {
@@ -133,7 +134,7 @@ pub taken_next : (declared : List LabelList) (commands : List Command) (i : ℕ)
     → left_by_all declared (take i commands) [] ≡ Ok series → IsOk (left_by declared command.what series)
 taken_next declared commands i command series lt is taken left =
     let whole : left_by_all declared commands [] ≡ then_try (left_by_all declared (take i commands) []) (left_by_all declared (command ∷ drop (i + 1) commands)) =
-        ap (λ (cs : List Command). left_by_all declared cs []) (sym (parted commands i command lt is)) ∙ left_join declared (take i commands) (command ∷ drop (i + 1) commands) [] in
+    ap (λ (cs : List Command). left_by_all declared cs []) (sym (parted commands i command lt is)) ∙ left_join declared (take i commands) (command ∷ drop (i + 1) commands) [] in
     let front = ok_front (left_by_all declared (take i commands) []) (left_by_all declared (command ∷ drop (i + 1) commands)) (subst (λ r. IsOk r) whole taken) in
     let same : front.0 ≡ series = (let a = front.1 in cc) in
     let next = ok_front (left_by declared command.what front.0) (left_by_all declared (drop (i + 1) commands)) front.2 in
@@ -144,7 +145,7 @@ pub taken_rest : (declared : List LabelList) (commands : List Command) (i : ℕ)
     → (left : AllSeries) × (left_by_all declared (drop i commands) series ≡ Ok left)
 taken_rest declared commands i series taken left =
     let whole : left_by_all declared commands [] ≡ then_try (left_by_all declared (take i commands) []) (left_by_all declared (drop i commands)) =
-        ap (λ (cs : List Command). left_by_all declared cs []) (sym (take-append-drop i commands)) ∙ left_join declared (take i commands) (drop i commands) [] in
+    ap (λ (cs : List Command). left_by_all declared cs []) (sym (take-append-drop i commands)) ∙ left_join declared (take i commands) (drop i commands) [] in
     let front = ok_front (left_by_all declared (take i commands) []) (left_by_all declared (drop i commands)) (subst (λ r. IsOk r) whole taken) in
     let same : front.0 ≡ series = (let a = front.1 in cc) in
     is_left (left_by_all declared (drop i commands) series) (subst (λ (s : AllSeries). IsOk (left_by_all declared (drop i commands) s)) same front.2)

@@ -359,10 +359,10 @@ module _ (declared : List LabelList) (labels : LabelList) (at : Ms) (held : Held
           all_hold : (k : ℕ) (one : Engine) (f : EngineSeen) → slice_get engines k ≡ Some one → slice_get fs k ≡ Some f → IsHeldBy one f
           all_hold k one f at_one at_f = ⊎_elim
               (λ e.
-                let c = called_at f (ap (λ n. slice_get fs n) (sym e) ∙ at_f) in
-                let h = told_more goer.0 labels at held c.0.holding (m.parts.held i goer.0 c.0 goer.1 c.1) in
-                let now : IsHeldBy one_now f = subst (λ (o : Option Holding). IfSome o (λ x. (x.declared ≡ Some goer.0.declared) × (x.samples ≡ with_sample goer.0.samples labels at held))) (sym c.2.loaded) h in
-                subst (λ (x : Engine). IsHeldBy x f) (is_now k one e at_one) now)
+              let c = called_at f (ap (λ n. slice_get fs n) (sym e) ∙ at_f) in
+              let h = told_more goer.0 labels at held c.0.holding (m.parts.held i goer.0 c.0 goer.1 c.1) in
+              let now : IsHeldBy one_now f = subst (λ (o : Option Holding). IfSome o (λ x. (x.declared ≡ Some goer.0.declared) × (x.samples ≡ with_sample goer.0.samples labels at held))) (sym c.2.loaded) h in
+              subst (λ (x : Engine). IsHeldBy x f) (is_now k one e at_one) now)
               (λ n. m.parts.held k one f (sym (a.there one_now k n) ∙ at_one) (sym (called.others k n) ∙ at_f))
               (cases_eq k i)
 
@@ -404,9 +404,9 @@ module _ (R : EngineSeen → EngineSeen → Type 0) (es : List EngineSeen) where
       each : (k : ℕ) (e : EngineSeen) → k < i + 1 → slice_get es k ≡ Some e → (f : EngineSeen) × (slice_get fs k ≡ Some f) × R e f
       each k e l at_e = ⊎_elim
           (λ s.
-            let here : slice_get ds i ≡ Some e = before.others i (omega arith) ∙ ap (λ n. slice_get es n) (sym s) ∙ at_e in
-            let g = called.one e here in
-            (g.0, ap (λ n. slice_get fs n) s ∙ g.1, g.2))
+          let here : slice_get ds i ≡ Some e = before.others i (omega arith) ∙ ap (λ n. slice_get es n) (sym s) ∙ at_e in
+          let g = called.one e here in
+          (g.0, ap (λ n. slice_get fs n) s ∙ g.1, g.2))
           (λ n. let b = before.one k e (omega (arith, l, n)) at_e in (b.0, called.others k n ∙ b.1, b.2))
           (cases_eq k i)
 

@@ -136,7 +136,9 @@ fn load_into(
     *number = Some(i as u32);
     match load_at(engines, i, target.labels, at, held) {
         Ok(()) => Ok(()),
-        Err(EngineFail::Failed) => Err(RunnerFault::Run(RunFault::EngineFault { engine: i as u32 })),
+        Err(EngineFail::Failed) => Err(RunnerFault::Run(RunFault::EngineFault {
+            engine: i as u32,
+        })),
         Err(EngineFail::Memory) => Err(RunnerFault::Memory),
     }
 }

@@ -24,8 +24,6 @@ mod totals;
 
 pub use answering::answer;
 pub use fault::{LoadRefusal, RunnerFault};
-pub use laws::{
-    each_evaluation_has_one_verdict, engines_leave_the_same, loads_put_their_samples,
-};
+pub use laws::{each_evaluation_has_one_verdict, engines_leave_the_same, loads_put_their_samples};
 pub use scripts::run;
 pub use totals::Totals;

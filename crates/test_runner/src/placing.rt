@@ -29,7 +29,9 @@ fn has_declared(declared: &Labels, labels: &Labels) -> bool
 pub(crate) fn engine_of(declared: &[Labels], labels: &Labels) -> Option<usize>
     ensures { result ≡ engine_of declared.now labels.now }
 {
-    declared.iter().position(|names| has_declared(names, labels))
+    declared
+        .iter()
+        .position(|names| has_declared(names, labels))
 }
 
 /// Whether a series has its place: at one of the engines, if any is declared.

@@ -161,11 +161,7 @@ pub(crate) fn change_store_by_all(
 
 /// The store that the loads of a script leave, where engines have declared these labels. `Refused` and `Range` come exactly where
 /// a load is refused, with the first refusal; the only other error is want of memory.
-pub fn load_all(
-    alloc: Global,
-    declared: &[Labels],
-    script: &Script,
-) -> Result<Store, RunnerFault>
+pub fn load_all(alloc: Global, declared: &[Labels], script: &Script) -> Result<Store, RunnerFault>
     ensures left { IfOk result (λ store. samples_left declared.now script.now ≡ Ok store) }
     ensures refused { AnswersLoads (samples_left declared.now script.now) result }
     ensures explained { IfErr result (IfOfLoads (samples_left declared.now script.now)) }

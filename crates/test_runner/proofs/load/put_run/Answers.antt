@@ -26,7 +26,7 @@ returns-in-Err-next_value-clause-put g c =
     let Held = g.T.Loaded.holds c.args.into.now c.args.target.declared.now in
     let Now = g.T.Loaded.holds c.put_sample.new.into c.args.target.declared.now in
     let on = come_on judges Held _ (g.T.Loaded.holds c.loop.into c.args.target.declared.now) _ c.loop.invariant.come _ _
-        (run_more c.args.target.line c.args.target.labels.now c.args.target.interval c.loop.value c.args.by.now (c.args.more - c.loop.counter) c.loop.place _ e) ⊤ tt Now c.in-Ok.ensures.put in
+    (run_more c.args.target.line c.args.target.labels.now c.args.target.interval c.loop.value c.args.by.now (c.args.more - c.loop.counter) c.loop.place _ e) ⊤ tt Now c.in-Ok.ensures.put in
     rw q.1 (come_fail judges Held _ Now _ on ℕ c.args.target.line Now (run_overflows c.args.target.line c.args.target.labels.now c.args.target.interval _ _ (c.loop.place + 1) q.0))
 
 pub loop-preserved : goal.loop-preserved
@@ -37,7 +37,7 @@ loop-preserved g c =
     let Now = g.T.Loaded.holds c.put_sample.new.into c.args.target.declared.now in
     let next = c.in-Ok-next_value.next in
     let on = come_on judges Held _ (g.T.Loaded.holds c.loop.into c.args.target.declared.now) _ c.loop.invariant.come _ _
-        (run_more c.args.target.line c.args.target.labels.now c.args.target.interval c.loop.value c.args.by.now (c.args.more - c.loop.counter) c.loop.place _ e) ⊤ tt Now c.in-Ok.ensures.put in
+    (run_more c.args.target.line c.args.target.labels.now c.args.target.interval c.loop.value c.args.by.now (c.args.more - c.loop.counter) c.loop.place _ e) ⊤ tt Now c.in-Ok.ensures.put in
     let longer = run_longer c.loop.value c.args.by.now next (c.args.more - c.loop.counter) (c.args.more - (c.loop.counter + 1)) e c.in-Ok-next_value.ensures in
     record {
       come = come_as judges Held _ Now _ on _ (run_goes c.args.target.line c.args.target.labels.now c.args.target.interval _ _ next (c.loop.place + 1) c.in-Ok-next_value.ensures);
