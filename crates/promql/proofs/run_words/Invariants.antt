@@ -1,6 +1,6 @@
 use Rattle.std.proofs.Common.{◌≡◌, length, map}
 use Rattle.promql_tool.specs.Boxes.{AreFresh}
-use Rattle.promql.proofs.main.run_words.Given as goal
+use Rattle.promql.proofs.run_words.Given as goal
 
 -- the goals of the loop over the boxes: each is as it was made
 abbrev pub invariant-loop : goal.invariant-loop
