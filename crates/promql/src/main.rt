@@ -2,7 +2,7 @@
 #![tactic(auto)]
 
 ghost use Rattle.promql_tool.specs.Boxes.{AreFresh};
-ghost use Rattle.std.specs.Prelude.{◌≡◌, ◌≤◌, length, map};
+ghost use Rattle.std.specs.Prelude.{◌≡◌, [], length, map, OnOk};
 
 use edge_io::{StdLibrary, StdSink};
 use engine_local::LocalEngine;
@@ -33,6 +33,18 @@ fn read_words<R: Env + AllocGlobal>(alloc: Global, rt: &R) -> Result<Vec<String>
     }
 }
 
+/// Fills a list with boxes of engines, each as it was made. The only error is want of memory.
+fn make_boxes(alloc: Global, engines: &mut Vec<Box<dyn Engine>>) -> Result<(), AllocError>
+    requires { engines.old.items ≡ [] }
+    ensures fresh { OnOk result (AreFresh (map (λ b. seen b) engines.new.items)) }
+    ensures many { OnOk result (length engines.new.items ≡ 8) }
+{
+    for _ in 0..BOXES {
+        engines.push(Box::new(alloc, LocalEngine::new(alloc))?)?;
+    }
+    Ok(())
+}
+
 /// Runs the words over the real files, the real output and boxes of engines, with counters of its own. An error is want of memory for the
 /// boxes.
 fn run_words<W: Ledger, R: Clock + Files + Print>(
@@ -46,9 +58,7 @@ fn run_words<W: Ledger, R: Clock + Files + Print>(
     requires three { blank.parts ≡ 3 }
 {
     let mut engines: Vec<Box<dyn Engine>> = Vec::new(alloc);
-    for _ in 0..BOXES {
-        engines.push(Box::new(alloc, LocalEngine::new(alloc))?)?;
-    }
+    make_boxes(alloc, &mut engines)?;
     let mut library = StdLibrary::new(rt);
     let mut out = StdSink::new(rt);
     let mut work = Work::<W>::new(blank);
