@@ -1,10 +1,12 @@
 //! Runs of words over boxes of engines: what is printed depends neither on who is pulled next, nor on how many instants are computed at once.
-ghost use Rattle.std.specs.Prelude.{◌≡◌};
+ghost use Rattle.promql_tool.specs.Boxes.{AreFresh};
+ghost use Rattle.std.specs.Prelude.{◌≡◌, [], length, map, OnOk};
 
 use crate::rows::rows_hold;
-use edge_io::{MemLibrary, MemSink};
+use crate::shelf::{push_lines, shelf_of};
+use edge_io::MemSink;
 use engine_local::LocalEngine;
-use holders::{Items, Text};
+use holders::Items;
 use promql_tool::{Status, run_tool};
 use remote_api::{Courier, Engine, InOrder, Listed, Turns};
 use std::alloc::{AllocError, Global};
@@ -90,29 +92,6 @@ const OTHERS: &str = r##"
 4|2|usage: promqltest [options] FILE.. or query [options] FILE EXPR;|workload  --engines  g=0  --engines  g=0  5
 "##;
 
-/// Appends a text with a line feed for each sign.
-fn push_lines(text: &mut Items<u8>, written: &str, sign: u8) -> Result<(), AllocError> {
-    for byte in written.as_bytes() {
-        text.push(if *byte == sign { b'\n' } else { *byte })?;
-    }
-    Ok(())
-}
-
-/// The files of `FILES`.
-fn library_of(alloc: Global) -> Result<MemLibrary, AllocError> {
-    let mut paths = Items::new(alloc);
-    let mut files = Items::new(alloc);
-    for row in FILES.lines() {
-        if let Some((path, script)) = row.split_once('|') {
-            let mut file = Items::new(alloc);
-            push_lines(&mut file, script, b'|')?;
-            paths.push(Text::of(alloc, path)?)?;
-            files.push(file)?;
-        }
-    }
-    Ok(MemLibrary::of(paths, files, Items::new(alloc)))
-}
-
 /// The words of a line, the first with a batch behind it, if one is chosen.
 fn words_of(alloc: Global, line: &str, batch: &str) -> Result<Vec<String>, AllocError> {
     let mut words = Vec::new(alloc);
@@ -130,7 +109,23 @@ fn words_of(alloc: Global, line: &str, batch: &str) -> Result<Vec<String>, Alloc
     Ok(words)
 }
 
-/// Runs words over so many boxes of engines, each as it was made, with counters of their own.
+/// Fills a list with so many boxes of engines, each as it was made.
+fn make_boxes(
+    alloc: Global,
+    boxes: u32,
+    engines: &mut Vec<Box<dyn Engine>>,
+) -> Result<(), AllocError>
+    requires { engines.old.items ≡ [] }
+    ensures fresh { OnOk result (AreFresh (map (λ b. seen b) engines.new.items)) }
+    ensures many { OnOk result (length engines.new.items ≡ boxes) }
+{
+    for _ in 0..boxes {
+        engines.push(Box::new(alloc, LocalEngine::new(alloc))?)?;
+    }
+    Ok(())
+}
+
+/// Runs words over so many boxes of engines, with counters of their own.
 fn run_counted<W: Ledger, C: Courier>(
     alloc: Global,
     blank: Blank,
@@ -143,11 +138,9 @@ fn run_counted<W: Ledger, C: Courier>(
     requires parts { blank.parts ≡ W.parts }
     requires three { blank.parts ≡ 3 }
 {
-    let mut library = library_of(alloc)?;
+    let mut library = shelf_of(FILES, 0);
     let mut engines: Vec<Box<dyn Engine>> = Vec::new(alloc);
-    for _ in 0..boxes {
-        engines.push(Box::new(alloc, LocalEngine::new(alloc))?)?;
-    }
+    make_boxes(alloc, boxes, &mut engines)?;
     let mut work = Work::<W>::new(blank);
     Ok(run_tool(
         alloc,
@@ -191,7 +184,7 @@ fn runs_so<C: Courier>(
     let words = words_of(alloc, row.line, batch)?;
     let mut out = MemSink::of(alloc, Items::new(alloc));
     let got = run_counted::<Brand, C>(alloc, Blank::new(3), &words, row.boxes, courier, &mut out)?;
-    let mut printed = Items::new(alloc);
+    let mut printed = Vec::new(alloc);
     push_lines(&mut printed, row.printed, b';')?;
     Ok(out.written() == printed.as_slice() && u32::from(got.0) == row.status)
 }

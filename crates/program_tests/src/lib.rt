@@ -12,6 +12,8 @@ mod rows;
 #[cfg(test)]
 mod runs;
 #[cfg(test)]
+mod shelf;
+#[cfg(test)]
 mod words;
 #[cfg(test)]
 mod workloads;

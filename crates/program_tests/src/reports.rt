@@ -1,7 +1,8 @@
 ghost use Rattle.std.specs.Prelude.{◌≡◌, None, Some};
 
 use crate::rows::rows_hold;
-use edge_io::{Fetch, Fetched, Library, MemLibrary, MemSink, Sink, SinkFail};
+use crate::shelf::{push_lines, push_script, shelf_of};
+use edge_io::{Library, MemLibrary, MemSink, Sink, SinkFail};
 use holders::{Items, Text};
 use promql_tool::{Status, choices_leave_reports, run_tool};
 use remote_api::{Engine, InOrder};
@@ -231,46 +232,6 @@ const RUNS: &str = r##"
 1|PASS a.test:4;FAIL a.test:7 up expected 3 got 2;passed 1 failed 1;|promqltest  --opts=none  a.test|0|0
 "##;
 
-/// Appends a text with a line feed for each sign.
-fn push_lines(text: &mut Vec<u8>, written: &str, sign: u8) -> Result<(), AllocError> {
-    for byte in written.as_bytes() {
-        text.push(if *byte == sign { b'\n' } else { *byte })?;
-    }
-    Ok(())
-}
-
-/// Appends what stands between two backquotes.
-fn push_special(text: &mut Vec<u8>, special: &str) -> Result<(), AllocError> {
-    let Some((times, piece)) = special.split_once('*') else {
-        text.push(u8::from_str_radix(special, 16).unwrap_or(b'?'))?;
-        return Ok(());
-    };
-    let (front, back) = piece.split_once('%').unwrap_or((piece, ""));
-    let alloc = *text.allocator();
-    for place in 0..times.parse::<u32>().unwrap_or(0) {
-        push_lines(text, front, b'|')?;
-        if front.len() < piece.len() {
-            text.extend_from_slice(format!(in alloc; "{place}")?.as_bytes())?;
-        }
-        push_lines(text, back, b'|')?;
-    }
-    Ok(())
-}
-
-/// Appends the bytes of a row's script.
-fn push_script(text: &mut Vec<u8>, written: &str) -> Result<(), AllocError> {
-    let mut is_special = false;
-    for piece in written.split('`') {
-        if is_special {
-            push_special(text, piece)?;
-        } else {
-            push_lines(text, piece, b'|')?;
-        }
-        is_special = !is_special;
-    }
-    Ok(())
-}
-
 /// A library of one file, `a.test`.
 fn library_of(alloc: Global, text: &[u8]) -> Result<MemLibrary, AllocError> {
     let mut paths = Items::new(alloc);
@@ -282,15 +243,6 @@ fn library_of(alloc: Global, text: &[u8]) -> Result<MemLibrary, AllocError> {
     let mut bytes = Items::new(alloc);
     bytes.push(file)?;
     Ok(MemLibrary::of(paths, bytes, Items::new(alloc)))
-}
-
-/// With a number other than 0 that fetch fails.
-fn shelf_of(fails: u32) -> Shelf {
-    Shelf {
-        fails,
-        calls: 0,
-        faults: 0,
-    }
 }
 
 fn sink_of(alloc: Global, fails: u32) -> Result<MemSink, AllocError> {
@@ -307,54 +259,6 @@ fn words_of(alloc: Global, line: &str) -> Result<Vec<String>, AllocError> {
         }
     }
     Ok(words)
-}
-
-/// The files of `FILES`, of which it tells nothing. The fetch of a number, counted from 1, fails.
-#[derive(Drop)]
-struct Shelf {
-    fails: u32,
-    calls: u32,
-    faults: u64,
-}
-
-/// The script at a path.
-fn script_at(path: &str) -> Option<&'static str> {
-    for row in FILES.lines() {
-        if let Some((name, script)) = row.split_once('|')
-            && name == path
-        {
-            return Some(script);
-        }
-    }
-    None
-}
-
-impl Library for Shelf {
-    ghost told = { λ _. None };
-
-    ghost faults = { λ shelf. shelf.faults };
-
-    ghost sound = { λ _. ⊥ };
-
-    ghost fetches = { λ _ _ _. Unit {0} };
-
-    fn fetch(&mut self, path: &str, limit: usize, into: &mut Vec<u8>) -> Result<Fetched, Fetch> {
-        self.calls = self.calls.saturating_add(1);
-        let script = script_at(path).unwrap_or("");
-        if self.calls == self.fails || script.is_empty() {
-            self.faults = self.faults.saturating_add(1);
-            return Err(Fetch::Failed);
-        }
-        if push_script(into, script).is_err() {
-            into.clear();
-            return Err(Fetch::Memory);
-        }
-        if into.len() > limit {
-            into.clear();
-            return Ok(Fetched::PastLimit);
-        }
-        Ok(Fetched::Whole)
-    }
 }
 
 /// A sink that takes at most so many bytes at once.
@@ -432,7 +336,7 @@ struct Run<'a> {
 /// Whether a run ends with this status and has printed this.
 fn runs_so(alloc: Global, run: Run<'_>, status: u32, printed: &[u8]) -> Result<bool, AllocError> {
     let words = words_of(alloc, run.line)?;
-    let mut library = shelf_of(run.fetch);
+    let mut library = shelf_of(FILES, run.fetch);
     let mut out = sink_of(alloc, run.write)?;
     let got = run_words(alloc, &words, &mut library, &mut out);
     Ok(out.written() == printed && u32::from(got.0) == status)
@@ -447,7 +351,7 @@ fn runs_narrowly(
     printed: &[u8],
 ) -> Result<bool, AllocError> {
     let words = words_of(alloc, run.line)?;
-    let mut library = shelf_of(run.fetch);
+    let mut library = shelf_of(FILES, run.fetch);
     let bytes = Vec::new(alloc);
     let mut out = Narrow { most, bytes };
     let got = run_words(alloc, &words, &mut library, &mut out);

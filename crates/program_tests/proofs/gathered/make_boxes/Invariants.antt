@@ -1,6 +1,6 @@
 use Rattle.std.proofs.Common.{◌≡◌, length, map}
 use Rattle.promql_tool.specs.Boxes.{AreFresh}
-use Rattle.program_tests.proofs.gathered.run_counted.Given as goal
+use Rattle.program_tests.proofs.gathered.make_boxes.Given as goal
 
 -- the boxes so far, each as it was made
 abbrev pub invariant-loop : goal.invariant-loop
