@@ -1,6 +1,6 @@
 //! Runs of words over boxes of engines: what is printed depends neither on who is pulled next, nor on how many instants are computed at once.
 ghost use Rattle.promql_tool.specs.Boxes.{AreFresh};
-ghost use Rattle.std.specs.Prelude.{◌≡◌, [], length, map, OnOk};
+ghost use Rattle.std.specs.Prelude.{◌≡◌, length, map, IfOk};
 
 use crate::rows::rows_hold;
 use crate::shelf::{push_lines, shelf_of};
@@ -109,20 +109,16 @@ fn words_of(alloc: Global, line: &str, batch: &str) -> Result<Vec<String>, Alloc
     Ok(words)
 }
 
-/// Fills a list with so many boxes of engines, each as it was made.
-fn make_boxes(
-    alloc: Global,
-    boxes: u32,
-    engines: &mut Vec<Box<dyn Engine>>,
-) -> Result<(), AllocError>
-    requires { engines.old.items ≡ [] }
-    ensures fresh { OnOk result (AreFresh (map (λ b. seen b) engines.new.items)) }
-    ensures many { OnOk result (length engines.new.items ≡ boxes) }
+/// So many boxes of engines, each as it was made.
+fn make_boxes(alloc: Global, boxes: u32) -> Result<Vec<Box<dyn Engine>>, AllocError>
+    ensures fresh { IfOk result (λ engines. AreFresh (map (λ b. seen b) engines.items)) }
+    ensures many { IfOk result (λ engines. length engines.items ≡ boxes) }
 {
+    let mut engines: Vec<Box<dyn Engine>> = Vec::new(alloc);
     for _ in 0..boxes {
         engines.push(Box::new(alloc, LocalEngine::new(alloc))?)?;
     }
-    Ok(())
+    Ok(engines)
 }
 
 /// Runs words over so many boxes of engines, with counters of their own.
@@ -139,8 +135,7 @@ fn run_counted<W: Ledger, C: Courier>(
     requires three { blank.parts ≡ 3 }
 {
     let mut library = shelf_of(FILES, 0);
-    let mut engines: Vec<Box<dyn Engine>> = Vec::new(alloc);
-    make_boxes(alloc, boxes, &mut engines)?;
+    let mut engines = make_boxes(alloc, boxes)?;
     let mut work = Work::<W>::new(blank);
     Ok(run_tool(
         alloc,

@@ -2,7 +2,7 @@
 #![tactic(auto)]
 
 ghost use Rattle.promql_tool.specs.Boxes.{AreFresh};
-ghost use Rattle.std.specs.Prelude.{◌≡◌, [], length, map, OnOk};
+ghost use Rattle.std.specs.Prelude.{◌≡◌, length, map, IfOk};
 
 use edge_io::{StdLibrary, StdSink};
 use engine_local::LocalEngine;
@@ -33,16 +33,16 @@ fn read_words<R: Env + AllocGlobal>(alloc: Global, rt: &R) -> Result<Vec<String>
     }
 }
 
-/// Fills a list with boxes of engines, each as it was made. The only error is want of memory.
-fn make_boxes(alloc: Global, engines: &mut Vec<Box<dyn Engine>>) -> Result<(), AllocError>
-    requires { engines.old.items ≡ [] }
-    ensures fresh { OnOk result (AreFresh (map (λ b. seen b) engines.new.items)) }
-    ensures many { OnOk result (length engines.new.items ≡ 8) }
+/// Boxes of engines, each as it was made. The only error is want of memory.
+fn make_boxes(alloc: Global) -> Result<Vec<Box<dyn Engine>>, AllocError>
+    ensures fresh { IfOk result (λ engines. AreFresh (map (λ b. seen b) engines.items)) }
+    ensures many { IfOk result (λ engines. length engines.items ≡ 8) }
 {
+    let mut engines: Vec<Box<dyn Engine>> = Vec::new(alloc);
     for _ in 0..BOXES {
         engines.push(Box::new(alloc, LocalEngine::new(alloc))?)?;
     }
-    Ok(())
+    Ok(engines)
 }
 
 /// Runs the words over the real files, the real output and boxes of engines, with counters of its own. An error is want of memory for the
@@ -57,8 +57,7 @@ fn run_words<W: Ledger, R: Clock + Files + Print>(
     requires parts { blank.parts ≡ W.parts }
     requires three { blank.parts ≡ 3 }
 {
-    let mut engines: Vec<Box<dyn Engine>> = Vec::new(alloc);
-    make_boxes(alloc, &mut engines)?;
+    let mut engines = make_boxes(alloc)?;
     let mut library = StdLibrary::new(rt);
     let mut out = StdSink::new(rt);
     let mut work = Work::<W>::new(blank);
