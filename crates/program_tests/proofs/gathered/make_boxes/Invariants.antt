@@ -6,5 +6,5 @@ use Rattle.program_tests.proofs.gathered.make_boxes.Given as goal
 abbrev pub invariant-loop : goal.invariant-loop
 invariant-loop g l = record {
   fresh : AreFresh (map (λ b. (goal.Engine-dyn g (b.vtable, b.value)).seen b.value) l.engines.items);
-  many : length l.engines.items ≡ l.index;
+  many : length l.engines.items ≡ l.counter;
 }
