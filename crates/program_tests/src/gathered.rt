@@ -1,5 +1,5 @@
 //! Runs of words over boxes of engines: what is printed depends neither on who is pulled next, nor on how many instants are computed at once.
-ghost use Rattle.promql_tool.specs.Boxes.{AreFresh};
+ghost use Rattle.promql_tool.specs.Boxes.{AreFresh, IsFresh};
 ghost use Rattle.std.specs.Prelude.{◌≡◌, length, map, IfOk};
 
 use crate::rows::rows_hold;
@@ -109,6 +109,13 @@ fn words_of(alloc: Global, line: &str, batch: &str) -> Result<Vec<String>, Alloc
     Ok(words)
 }
 
+/// A box of an engine, as it was made. The only error is want of memory.
+fn make_box(alloc: Global) -> Result<Box<dyn Engine>, AllocError>
+    ensures { IfOk result (λ b. IsFresh (seen b)) }
+{
+    Ok(Box::new(alloc, LocalEngine::new(alloc))?)
+}
+
 /// So many boxes of engines, each as it was made.
 fn make_boxes(alloc: Global, boxes: u32) -> Result<Vec<Box<dyn Engine>>, AllocError>
     ensures fresh { IfOk result (λ engines. AreFresh (map (λ b. seen b) engines.items)) }
@@ -116,7 +123,7 @@ fn make_boxes(alloc: Global, boxes: u32) -> Result<Vec<Box<dyn Engine>>, AllocEr
 {
     let mut engines: Vec<Box<dyn Engine>> = Vec::new(alloc);
     for _ in 0..boxes {
-        engines.push(Box::new(alloc, LocalEngine::new(alloc))?)?;
+        engines.push(make_box(alloc)?)?;
     }
     Ok(engines)
 }

@@ -1,4 +1,6 @@
 //! A library of files that stand in the rows of a table.
+ghost use Rattle.std.specs.Prelude.{◌≡◌, None};
+
 use edge_io::{Fetch, Fetched, Library};
 use std::alloc::AllocError;
 

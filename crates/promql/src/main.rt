@@ -1,7 +1,7 @@
 //! The program: it makes the real files, the real output and boxes of engines, runs the words that it was given, and ends with the status.
 #![tactic(auto)]
 
-ghost use Rattle.promql_tool.specs.Boxes.{AreFresh};
+ghost use Rattle.promql_tool.specs.Boxes.{AreFresh, IsFresh};
 ghost use Rattle.std.specs.Prelude.{◌≡◌, length, map, IfOk};
 
 use edge_io::{StdLibrary, StdSink};
@@ -33,6 +33,13 @@ fn read_words<R: Env + AllocGlobal>(alloc: Global, rt: &R) -> Result<Vec<String>
     }
 }
 
+/// A box of an engine, as it was made. The only error is want of memory.
+fn make_box(alloc: Global) -> Result<Box<dyn Engine>, AllocError>
+    ensures { IfOk result (λ b. IsFresh (seen b)) }
+{
+    Ok(Box::new(alloc, LocalEngine::new(alloc))?)
+}
+
 /// Boxes of engines, each as it was made. The only error is want of memory.
 fn make_boxes(alloc: Global) -> Result<Vec<Box<dyn Engine>>, AllocError>
     ensures fresh { IfOk result (λ engines. AreFresh (map (λ b. seen b) engines.items)) }
@@ -40,7 +47,7 @@ fn make_boxes(alloc: Global) -> Result<Vec<Box<dyn Engine>>, AllocError>
 {
     let mut engines: Vec<Box<dyn Engine>> = Vec::new(alloc);
     for _ in 0..BOXES {
-        engines.push(Box::new(alloc, LocalEngine::new(alloc))?)?;
+        engines.push(make_box(alloc)?)?;
     }
     Ok(engines)
 }
