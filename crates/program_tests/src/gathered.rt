@@ -1,6 +1,6 @@
 //! Runs of words over boxes of engines: what is printed depends neither on who is pulled next, nor on how many instants are computed at once.
 ghost use Rattle.promql_tool.specs.Boxes.{AreFresh, IsFresh};
-ghost use Rattle.std.specs.Prelude.{◌≡◌, length, map, IfOk};
+ghost use Rattle.std.specs.Prelude.{◌≡◌, ◌+◌, length, map, OnOk};
 
 use crate::rows::rows_hold;
 use crate::shelf::{push_lines, shelf_of};
@@ -109,23 +109,15 @@ fn words_of(alloc: Global, line: &str, batch: &str) -> Result<Vec<String>, Alloc
     Ok(words)
 }
 
-/// A box of an engine, as it was made. The only error is want of memory.
-fn make_box(alloc: Global) -> Result<Box<dyn Engine>, AllocError>
-    ensures { IfOk result (λ b. IsFresh (seen b)) }
+/// Adds a box to others, to none of which anything was done.
+fn add(engines: &mut Vec<Box<dyn Engine>>, one: Box<dyn Engine>) -> Result<(), AllocError>
+    requires before { AreFresh (map (λ b. seen b) engines.old.items) }
+    requires one { IsFresh (seen one) }
+    ensures fresh { OnOk result (AreFresh (map (λ b. seen b) engines.new.items)) }
+    ensures many { OnOk result (length engines.new.items ≡ length engines.old.items + 1) }
 {
-    Ok(Box::new(alloc, LocalEngine::new(alloc))?)
-}
-
-/// So many boxes of engines, each as it was made.
-fn make_boxes(alloc: Global, boxes: u32) -> Result<Vec<Box<dyn Engine>>, AllocError>
-    ensures fresh { IfOk result (λ engines. AreFresh (map (λ b. seen b) engines.items)) }
-    ensures many { IfOk result (λ engines. length engines.items ≡ boxes) }
-{
-    let mut engines: Vec<Box<dyn Engine>> = Vec::new(alloc);
-    for _ in 0..boxes {
-        engines.push(make_box(alloc)?)?;
-    }
-    Ok(engines)
+    engines.push(one)?;
+    Ok(())
 }
 
 /// Runs words over so many boxes of engines, with counters of their own.
@@ -142,7 +134,10 @@ fn run_counted<W: Ledger, C: Courier>(
     requires three { blank.parts ≡ 3 }
 {
     let mut library = shelf_of(FILES, 0);
-    let mut engines = make_boxes(alloc, boxes)?;
+    let mut engines: Vec<Box<dyn Engine>> = Vec::new(alloc);
+    for _ in 0..boxes {
+        add(&mut engines, Box::new(alloc, LocalEngine::new(alloc))?)?;
+    }
     let mut work = Work::<W>::new(blank);
     Ok(run_tool(
         alloc,

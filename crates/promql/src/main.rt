@@ -2,7 +2,7 @@
 #![tactic(auto)]
 
 ghost use Rattle.promql_tool.specs.Boxes.{AreFresh, IsFresh};
-ghost use Rattle.std.specs.Prelude.{◌≡◌, length, map, IfOk};
+ghost use Rattle.std.specs.Prelude.{◌≡◌, ◌+◌, length, map, OnOk};
 
 use edge_io::{StdLibrary, StdSink};
 use engine_local::LocalEngine;
@@ -33,23 +33,15 @@ fn read_words<R: Env + AllocGlobal>(alloc: Global, rt: &R) -> Result<Vec<String>
     }
 }
 
-/// A box of an engine, as it was made. The only error is want of memory.
-fn make_box(alloc: Global) -> Result<Box<dyn Engine>, AllocError>
-    ensures { IfOk result (λ b. IsFresh (seen b)) }
+/// Adds a box to others, to none of which anything was done. The only error is want of memory.
+fn add(engines: &mut Vec<Box<dyn Engine>>, one: Box<dyn Engine>) -> Result<(), AllocError>
+    requires before { AreFresh (map (λ b. seen b) engines.old.items) }
+    requires one { IsFresh (seen one) }
+    ensures fresh { OnOk result (AreFresh (map (λ b. seen b) engines.new.items)) }
+    ensures many { OnOk result (length engines.new.items ≡ length engines.old.items + 1) }
 {
-    Ok(Box::new(alloc, LocalEngine::new(alloc))?)
-}
-
-/// Boxes of engines, each as it was made. The only error is want of memory.
-fn make_boxes(alloc: Global) -> Result<Vec<Box<dyn Engine>>, AllocError>
-    ensures fresh { IfOk result (λ engines. AreFresh (map (λ b. seen b) engines.items)) }
-    ensures many { IfOk result (λ engines. length engines.items ≡ 8) }
-{
-    let mut engines: Vec<Box<dyn Engine>> = Vec::new(alloc);
-    for _ in 0..BOXES {
-        engines.push(make_box(alloc)?)?;
-    }
-    Ok(engines)
+    engines.push(one)?;
+    Ok(())
 }
 
 /// Runs the words over the real files, the real output and boxes of engines, with counters of its own. An error is want of memory for the
@@ -64,7 +56,10 @@ fn run_words<W: Ledger, R: Clock + Files + Print>(
     requires parts { blank.parts ≡ W.parts }
     requires three { blank.parts ≡ 3 }
 {
-    let mut engines = make_boxes(alloc)?;
+    let mut engines: Vec<Box<dyn Engine>> = Vec::new(alloc);
+    for _ in 0..BOXES {
+        add(&mut engines, Box::new(alloc, LocalEngine::new(alloc))?)?;
+    }
     let mut library = StdLibrary::new(rt);
     let mut out = StdSink::new(rt);
     let mut work = Work::<W>::new(blank);
