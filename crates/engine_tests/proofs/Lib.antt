@@ -1,5 +1,3 @@
 mod Askables
 mod Beginning
-mod Loading
 mod Moving
-mod Untold

@@ -1,4 +1,2 @@
 pub mod Askable
 pub mod Going
-pub mod Loading
-pub mod Untold

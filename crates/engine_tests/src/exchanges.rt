@@ -1,10 +1,11 @@
 //! An exchange of requests over two engines: what it lends is what both give, joined.
 use crate::runs::told_of;
-use crate::samples::{FIRST, SECOND, engine_of};
+use crate::samples::{FIRST, SECOND};
 use label_set::Items;
 use remote_api::{Courier, Engine, InOrder, Listed, Turns};
 use std::alloc::{AllocError, Global};
 use std::test::Fail;
+use written_engines::engine_of;
 
 // The steps that are lent of each kind of cells at 0, 10 and 20. A row has the newest sample up to its instant, unless that is stale. A
 // window has the samples of the last 15 milliseconds, without one at their beginning, and without stale ones. An aggregation is one of
@@ -74,8 +75,8 @@ fn are_emptied(alloc: Global, engines: &mut [Box<dyn Engine>]) -> Result<bool, F
 fn what_is_lent_is_joined_whoever_picks(rt: HostRuntime) -> Result<(), Fail> {
     let alloc = rt.alloc();
     let mut engines: Vec<Box<dyn Engine>> = Vec::new(alloc);
-    engines.push(Box::new(alloc, engine_of(alloc, ",e=0", FIRST)?)?)?;
-    engines.push(Box::new(alloc, engine_of(alloc, ",e=1", SECOND)?)?)?;
+    engines.push(Box::new(alloc, engine_of(alloc, ",e=0", FIRST, '\n')?)?)?;
+    engines.push(Box::new(alloc, engine_of(alloc, ",e=1", SECOND, '\n')?)?)?;
     for most in [1, 3, 64] {
         assert!(rt; are_joined_by_all(alloc, engines.as_mut_slice(), most)?);
     }

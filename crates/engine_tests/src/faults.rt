@@ -1,10 +1,10 @@
 //! What an exchange tells of an engine that fails or strays, and how many steps it lends before.
-use crate::faulty::Faulty;
 use crate::runs::told_of;
-use crate::samples::{FIRST, SECOND, engine_of};
+use crate::samples::{FIRST, SECOND};
 use remote_api::{Engine, InOrder};
 use std::alloc::Global;
 use std::test::Fail;
+use written_engines::{Faulty, engine_of};
 use written_steps::line_that_differs;
 
 const ROWS: &str =
@@ -24,10 +24,10 @@ fn holds(alloc: Global, line: &str) -> Result<bool, Fail> {
     let (most, rest) = line.split_once(" > ").ok_or("no size")?;
     let (good, rest) = rest.split_once(" > ").ok_or("no pulls")?;
     let (word, wanted) = rest.split_once(" > ").ok_or("no way")?;
-    let second = engine_of(alloc, ",e=1", SECOND)?;
+    let second = engine_of(alloc, ",e=1", SECOND, '\n')?;
     let faulty = Faulty::new(alloc, second, good.parse()?, word == "fails");
     let mut engines: Vec<Box<dyn Engine>> = Vec::new(alloc);
-    engines.push(Box::new(alloc, engine_of(alloc, ",e=0", FIRST)?)?)?;
+    engines.push(Box::new(alloc, engine_of(alloc, ",e=0", FIRST, '\n')?)?)?;
     engines.push(Box::new(alloc, faulty)?)?;
     let told = told_of(
         alloc,

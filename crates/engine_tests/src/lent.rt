@@ -3,12 +3,12 @@
 //! `10 a,x=1 0=1 10=2;b 5=3`.
 ghost use Rattle.std.specs.Prelude.{◌≤◌, ◌<◌, length};
 
-use crate::samples::sample;
 use exchange::Exchange;
 use std::alloc::Global;
 use std::test::Fail;
 use step_batch::Windows;
 use ticks::Ms;
+use written_engines::sample;
 use written_steps::{are_lent, labels, steps};
 use xfrac::{Held, XFrac};
 

@@ -8,8 +8,6 @@ mod exchanges;
 #[cfg(test)]
 mod faults;
 #[cfg(test)]
-mod faulty;
-#[cfg(test)]
 mod gathers;
 #[cfg(test)]
 mod lent;

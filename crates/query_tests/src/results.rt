@@ -35,7 +35,7 @@ fn seconds(text: &str) -> Result<Ms, Fail> {
     Ok(Ms(i64::from(n) * 1000))
 }
 
-fn labels(alloc: Global, text: &str) -> Result<Labels, Fail> {
+pub(crate) fn labels(alloc: Global, text: &str) -> Result<Labels, Fail> {
     let mut labels = Labels::empty(alloc);
     for word in text.split(',') {
         let (name, value) = word.split_once('=').unwrap_or((METRIC_NAME, word));
@@ -157,7 +157,7 @@ fn add_mark(mark: &Mark, into: &mut Vec<u8>) -> Result<(), AllocError> {
     }
 }
 
-fn outcome_text(alloc: Global, outcome: &Outcome) -> Result<Vec<u8>, AllocError> {
+pub(crate) fn outcome_text(alloc: Global, outcome: &Outcome) -> Result<Vec<u8>, AllocError> {
     let mut text = Vec::new(alloc);
     match outcome {
         Outcome::Answer(answer) => add_answer(answer, &mut text)?,
@@ -175,7 +175,23 @@ fn outcome_text(alloc: Global, outcome: &Outcome) -> Result<Vec<u8>, AllocError>
     Ok(text)
 }
 
-/// The same over windows that are open on the left, in batches of so many instants.
+/// All that is chosen for plans, with windows that are open on the left, and batches of so many instants.
+pub(crate) fn options_of(batch: u32) -> Options
+    ensures { result.batch ≡ batch }
+{
+    Options {
+        sort: true,
+        propagate: true,
+        merge: true,
+        trim: true,
+        avg: true,
+        remote: true,
+        batch,
+        closed: false,
+    }
+}
+
+/// What a text comes to over a store, in batches of so many instants.
 fn counted<W: Ledger>(
     alloc: Global,
     store: &Store,
@@ -190,16 +206,6 @@ fn counted<W: Ledger>(
     requires three { blank.parts ≡ 3 }
 {
     let mut work = Work::<W>::new(blank);
-    let options = Options {
-        sort: true,
-        propagate: true,
-        merge: true,
-        trim: true,
-        avg: true,
-        remote: true,
-        batch,
-        closed: false,
-    };
     let mut engines: Vec<Box<dyn Engine>> = Vec::new(alloc);
     let mut declared = Items::new(alloc);
     match evaluate(
@@ -207,7 +213,7 @@ fn counted<W: Ledger>(
         query.as_str(),
         &when.0,
         when.1,
-        &options,
+        &options_of(batch),
         store,
         &mut engines,
         &mut declared,

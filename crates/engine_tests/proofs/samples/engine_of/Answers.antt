@@ -1,8 +1,0 @@
-use Rattle.engine_tests.proofs.Loading.{fresh}
-use Rattle.engine_tests.proofs.samples.engine_of.Goals as goal
-
-pub loop-line-init : goal.loop-line-init
-loop-line-init c = fresh _ _ c.new-store.ensures c.new-engine.ensures.samples c.new-engine.ensures.declared c.new-engine.ensures.asks
-
-pub declare-requires : goal.declare-requires
-declare-requires c = c.loop-line.invariant.undeclared

@@ -1,5 +1,0 @@
-use Rattle.engine_tests.specs.Loading.{IsLoading}
-use Rattle.engine_tests.proofs.samples.engine_of.Given as goal
-
-abbrev pub invariant-loop-line : goal.invariant-loop-line
-invariant-loop-line l = IsLoading l.store l.engine

@@ -1,5 +1,0 @@
-use Rattle.engine_tests.specs.Loading.{IsLoading}
-use Rattle.engine_tests.proofs.samples.load_series.Given as goal
-
-abbrev pub invariant-loop-text : goal.invariant-loop-text
-invariant-loop-text l = IsLoading l.store l.engine

@@ -1,6 +1,0 @@
-use Rattle.std.proofs.Common.{rules}
-use Rattle.engine_tests.proofs.Loading.{not_refused}
-use Rattle.engine_tests.proofs.samples.put.Goals as goal
-
-pub returns-in-Ok-clause-taken : goal.returns-in-Ok-clause-taken
-returns-in-Ok-clause-taken c = not_refused _ c.append.result _ (search rules) c.append.ensures.refused
