@@ -23,11 +23,11 @@ pub const OVER_TWO: &str =
 0..120/60 ; sum without (i) (x{i=\"1\"}) ; {region=\"eu\"} 1@0 2@60000 3@120000
 0 ; sum(b) ; FAILED at 0 overflow
 0 ; sum by (region) (b) ; {region=\"eu\"} 0@0, {region=\"us\"} 1@0
-0 ; avg(x) ; {} 5/2@0
+0 ; avg(x) ; {} 2.5@0
 0 ; topk(1, x) ; x{i=\"2\",region=\"us\"} 4@0
 0 ; count_values(\"v\", x) ; {v=\"1\"} 1@0, {v=\"4\"} 1@0
 0 ; quantile(2, x) ; {} +Inf@0, range 2
-0 ; x / on() group_left sum(x) ; {i=\"1\",region=\"eu\"} 1/5@0, {i=\"2\",region=\"us\"} 4/5@0
+0 ; x / on() group_left sum(x) ; {i=\"1\",region=\"eu\"} 0.2@0, {i=\"2\",region=\"us\"} 0.8@0
 0 ; x * on() vector(1) ; FAILED at 0 many {}
 0 ; -{__name__=~\"x|y\"} ; FAILED at 0 same {i=\"1\",region=\"eu\"}
 0 ; x and on(region) y ; x{i=\"1\",region=\"eu\"} 1@0
@@ -35,7 +35,7 @@ pub const OVER_TWO: &str =
 0..60/60 ; x > 1 or vector(9) ; {} 9@0 9@60000, x{i=\"1\",region=\"eu\"} 2@60000, x{i=\"2\",region=\"us\"} 4@0 5@60000
 0..60/60 ; 2 ^ (x{i=\"2\"} / 2) ; FAILED at 60000 irrational
 120 ; count_over_time(x[2m]) ; {i=\"1\",region=\"eu\"} 2@120000, {i=\"2\",region=\"us\"} 2@120000
-120 ; avg_over_time(x[2m]) ; {i=\"1\",region=\"eu\"} 5/2@120000, {i=\"2\",region=\"us\"} 11/2@120000
+120 ; avg_over_time(x[2m]) ; {i=\"1\",region=\"eu\"} 2.5@120000, {i=\"2\",region=\"us\"} 5.5@120000
 120 ; max_over_time(x[2m:1m]) ; {i=\"1\",region=\"eu\"} 3@120000, {i=\"2\",region=\"us\"} 6@120000
 180 ; rate(c[4m]) ; {region=\"eu\"} 1/90@180000, counter c
 0 ; 1 + ; REFUSED at 3
