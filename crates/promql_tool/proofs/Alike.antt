@@ -1,5 +1,5 @@
 -- Words that ask for the same, but for what no report depends on.
-use Rattle.std.proofs.Common.{◌≡◌, ◌∙◌, ℕ, Bool, List, [], ◌∷◌, Option, None, Some, ap, refl, subst, sym}
+use Rattle.std.proofs.Common.{◌≡◌, ◌∙◌, ℕ, Bool, List, [], ◌∷◌, Option, None, Some, ap, refl, subst, sym, length}
 use Rattle.std.specs.Prelude.{◌↔◌}
 use Rattle.ticks.specs.Moments.{moments_in}
 use Rattle.ticks.specs.declared.grid.Grid.{Grid}
@@ -23,7 +23,7 @@ module _ (files : List ℕ → Option (List ℕ)) (report : Report) where
   Answers (Some (workload choices engines series)) =
       (seen : List JudgedFile) × (last : Last) × Sees (terms_in choices engines) (Just (workload_text series)) (workload_path ∷ []) seen last × (report ≡ workload_report series seen last)
   Answers (Some (format expr)) = Formatted expr report
-  Answers (Some (explain optimisers engines expr)) = Explained (rewrites_in optimisers) expr report
+  Answers (Some (explain optimisers engines expr)) = Explained (length engines) (rewrites_in optimisers) expr report
 
   reported : (boxes : ℕ) (words : List (List ℕ)) (wish : Option Wish) → asked boxes words ≡ wish → Answers wish → IsReport boxes words (Have files) report
   reported boxes words None is a = subst (IsReport boxes words (Have files)) (sym a) (misused is)

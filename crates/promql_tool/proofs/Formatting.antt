@@ -59,16 +59,16 @@ module _ (expr : List ℕ) where
       → IfOk r (λ page. Formatted expr (page_report page))
   refusal_formatted refusal r why made = IfOk-weaker r _ _ (λ page is. subst (Formatted expr) (sym is) (refused refusal why)) made
 
-  module _ (optimisers : Optimisers) where
-    pub plan_explained : {E : Type 0} (kept : Kept) (rewrites : Rewrites) (closed : Bool) (plan : Plan) (r : Result Page E) → rewrites ≡ rewrites_in optimisers → closed ≡ false → HasPlan expr rewrites closed kept plan
-        → IfOk r (λ page. page_report page ≡ plan_report kept plan) → IfOk r (λ page. Explained (rewrites_in optimisers) expr (page_report page))
+  module _ (engines : ℕ) (optimisers : Optimisers) where
+    pub plan_explained : {E : Type 0} (kept : Kept) (rewrites : Rewrites) (closed : Bool) (plan : Plan) (r : Result Page E) → rewrites ≡ rewrites_in optimisers → closed ≡ false → HasPlan expr engines rewrites closed kept plan
+        → IfOk r (λ page. page_report page ≡ plan_report kept plan) → IfOk r (λ page. Explained engines (rewrites_in optimisers) expr (page_report page))
     plan_explained kept rewrites closed plan r chosen open_edge has made =
-        let own = subst (λ (c : Bool). HasPlan expr (rewrites_in optimisers) c kept plan) open_edge (subst (λ (w : Rewrites). HasPlan expr w closed kept plan) chosen has) in
-        IfOk-weaker r _ _ (λ page is. subst (Explained (rewrites_in optimisers) expr) (sym is) (planned kept plan own)) made
+        let own = subst (λ (c : Bool). HasPlan expr engines (rewrites_in optimisers) c kept plan) open_edge (subst (λ (w : Rewrites). HasPlan expr engines w closed kept plan) chosen has) in
+        IfOk-weaker r _ _ (λ page is. subst (Explained engines (rewrites_in optimisers) expr) (sym is) (planned kept plan own)) made
 
     pub refusal_explained : {E : Type 0} (refusal : QueryRefusal) (r : Result Page E) → IsRefusedWith expr refusal → IfOk r (λ page. page_report page ≡ refused_report refusal)
-        → IfOk r (λ page. Explained (rewrites_in optimisers) expr (page_report page))
-    refusal_explained refusal r why made = IfOk-weaker r _ _ (λ page is. subst (Explained (rewrites_in optimisers) expr) (sym is) (unplanned refusal why)) made
+        → IfOk r (λ page. Explained engines (rewrites_in optimisers) expr (page_report page))
+    refusal_explained refusal r why made = IfOk-weaker r _ _ (λ page is. subst (Explained engines (rewrites_in optimisers) expr) (sym is) (unplanned refusal why)) made
 
 -- a page was printed, or a front of it
 pub page_ends : (IsSuch : Report → Type 0) (report : Report) (before now : Option (List ℕ)) (r : Result Status SinkFail) → IsSuch report → IfOk r (λ status. Reports before now status.0 report)

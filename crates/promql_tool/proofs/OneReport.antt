@@ -1,5 +1,5 @@
 -- Words that come to one thing have one report.
-use Rattle.std.proofs.Common.{◌≡◌, ℕ, Bool, List, [], ◌∷◌, Option, None, Some, refl, sym, ap, subst, ◌∙◌}
+use Rattle.std.proofs.Common.{◌≡◌, ℕ, Bool, List, [], ◌∷◌, Option, None, Some, refl, sym, ap, subst, ◌∙◌, length}
 use Rattle.std.specs.List.{AllByRecursion}
 use Rattle.plan_rewrites.specs.declared.choosing.Choices.{Choices as Rewrites}
 use Rattle.ticks.specs.Moments.{Moments, moments_in}
@@ -127,17 +127,17 @@ abbrev outlines : Outline → Report
 outlines (Planned kept plan) = plan_report kept plan
 outlines (NoPlan refusal) = refused_report refusal
 
-record Outlines (rewrites : Rewrites) (expr : List ℕ) (report : Report) : Type 0 where
+record Outlines (engines : ℕ) (rewrites : Rewrites) (expr : List ℕ) (report : Report) : Type 0 where
   outline : Outline
-  is : IsPlannedSo rewrites expr outline
+  is : IsPlannedSo engines rewrites expr outline
   same : report ≡ outlines outline
 
-outlined_so : (rewrites : Rewrites) (expr : List ℕ) (report : Report) → Explained rewrites expr report → Outlines rewrites expr report
-outlined_so rewrites expr report (printed.planned kept plan has) = record { outline = Planned kept plan; is = has; same = refl }
-outlined_so rewrites expr report (printed.unplanned refusal is) = record { outline = NoPlan refusal; is = is; same = refl }
+outlined_so : (engines : ℕ) (rewrites : Rewrites) (expr : List ℕ) (report : Report) → Explained engines rewrites expr report → Outlines engines rewrites expr report
+outlined_so engines rewrites expr report (printed.planned kept plan has) = record { outline = Planned kept plan; is = has; same = refl }
+outlined_so engines rewrites expr report (printed.unplanned refusal is) = record { outline = NoPlan refusal; is = is; same = refl }
 
-outlined_once : (rewrites : Rewrites) (expr : List ℕ) → IsPlannedOnce rewrites expr → (one other : Report) → Outlines rewrites expr one → Outlines rewrites expr other → one ≡ other
-outlined_once rewrites expr once one other a b = a.same ∙ ap outlines (once a.outline b.outline a.is b.is) ∙ sym b.same
+outlined_once : (engines : ℕ) (rewrites : Rewrites) (expr : List ℕ) → IsPlannedOnce engines rewrites expr → (one other : Report) → Outlines engines rewrites expr one → Outlines engines rewrites expr other → one ≡ other
+outlined_once engines rewrites expr once one other a b = a.same ∙ ap outlines (once a.outline b.outline a.is b.is) ∙ sym b.same
 
 -- ---- words
 
@@ -150,7 +150,7 @@ module _ (files : List ℕ → Option (List ℕ)) where
   SaysOf (Some (workload choices engines series)) report =
       (seen : List JudgedFile) × (last : Last) × Sees (terms_in choices engines) (Just (workload_text series)) (workload_path ∷ []) seen last × (report ≡ workload_report series seen last)
   SaysOf (Some (format expr)) report = Prints expr report
-  SaysOf (Some (explain optimisers engines expr)) report = Outlines (rewrites_in optimisers) expr report
+  SaysOf (Some (explain optimisers engines expr)) report = Outlines (length engines) (rewrites_in optimisers) expr report
 
   says_of : (boxes : ℕ) (words : List (List ℕ)) (report : Report) → IsReport boxes words (Have files) report → SaysOf (asked boxes words) report
   says_of boxes words report (misused none) = subst (λ (w : Option Wish). SaysOf w usage_report) (sym none) refl
@@ -158,7 +158,7 @@ module _ (files : List ℕ → Option (List ℕ)) where
   says_of boxes words report (queried choices engines grid instant path expr said_so is q) = subst (λ (w : Option Wish). SaysOf w said_so) (sym is) (said (terms_in choices engines) (moments_in grid instant) (Have files) path expr grid instant refl said_so q)
   says_of boxes words report (worked choices engines series seen last is sees) = subst (λ (w : Option Wish). SaysOf w (workload_report series seen last)) (sym is) (seen, last, sees, refl)
   says_of boxes words report (formatted expr said_so is f) = subst (λ (w : Option Wish). SaysOf w said_so) (sym is) (printed_so expr said_so f)
-  says_of boxes words report (explained optimisers engines expr said_so is x) = subst (λ (w : Option Wish). SaysOf w said_so) (sym is) (outlined_so (rewrites_in optimisers) expr said_so x)
+  says_of boxes words report (explained optimisers engines expr said_so is x) = subst (λ (w : Option Wish). SaysOf w said_so) (sym is) (outlined_so (length engines) (rewrites_in optimisers) expr said_so x)
 
   one_of : (wish : Option Wish) → IsSettled wish files → (one other : Report) → SaysOf wish one → SaysOf wish other → one ≡ other
   one_of None once one other a b = a ∙ sym b
@@ -167,7 +167,7 @@ module _ (files : List ℕ → Option (List ℕ)) where
   one_of (Some (workload choices engines series)) once one other a b =
       a.3 ∙ reports_once (terms_in choices engines) (Just (workload_text series)) (workload_path ∷ []) (once, tt) (workload_report series) a.0 b.0 a.1 b.1 a.2 b.2 ∙ sym b.3
   one_of (Some (format expr)) once one other a b = printed_once expr once one other a b
-  one_of (Some (explain optimisers engines expr)) once one other a b = outlined_once (rewrites_in optimisers) expr once one other a b
+  one_of (Some (explain optimisers engines expr)) once one other a b = outlined_once (length engines) (rewrites_in optimisers) expr once one other a b
 
 pub one_report : (boxes : ℕ) (words : List (List ℕ)) (files : List ℕ → Option (List ℕ)) → IsSettled (asked boxes words) files → (one other : Report) → IsReport boxes words (Have files) one → IsReport boxes words (Have files) other → one ≡ other
 one_report boxes words files once one other a b = one_of files (asked boxes words) once one other (says_of files boxes words one a) (says_of files boxes words other b)

@@ -50,7 +50,7 @@ formatted_is : {expr : List ℕ} {report : Report} → Formatted expr report →
 formatted_is (taken kept tree stands) P p0 p1 = p0
 formatted_is (format_refused refusal is) P p0 p1 = p1
 
-explained_is : {rewrites : Rewrites} {expr : List ℕ} {report : Report} → Explained rewrites expr report → (P : ℕ → Type 0) → P 0 → P 1 → P report.status
+explained_is : {engines : ℕ} {rewrites : Rewrites} {expr : List ℕ} {report : Report} → Explained engines rewrites expr report → (P : ℕ → Type 0) → P 0 → P 1 → P report.status
 explained_is (planned kept plan has) P p0 p1 = p0
 explained_is (unplanned refusal is) P p0 p1 = p1
 

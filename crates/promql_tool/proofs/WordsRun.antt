@@ -1,5 +1,5 @@
 -- What words come to, from what they ask for.
-use Rattle.std.proofs.Common.{◌≡◌, ◌∙◌, ℕ, Bool, List, [], ◌∷◌, ◌++◌, Option, None, Some, Result, Ok, Err, IfOk, OnErr, refl, subst, sym}
+use Rattle.std.proofs.Common.{◌≡◌, ◌∙◌, ℕ, Bool, List, [], ◌∷◌, ◌++◌, Option, None, Some, Result, Ok, Err, IfOk, OnErr, refl, subst, sym, length}
 use Rattle.edge_io.specs.Fetches.{FetchesFront}
 use Rattle.edge_io.specs.Fronts.{appended-nil}
 use Rattle.edge_io.specs.Written.{appended, WroteFront}
@@ -71,9 +71,9 @@ formatted_status : (expr : List ℕ) (report : Report) → Formatted expr report
 formatted_status expr report (taken kept tree stands) = refl
 formatted_status expr report (refused refusal is) = refl
 
-explained_status : (rewrites : Rewrites) (expr : List ℕ) (report : Report) → Explained rewrites expr report → IsOneOf (0 ∷ 1 ∷ []) report.status
-explained_status rewrites expr report (planned kept plan has) = refl
-explained_status rewrites expr report (unplanned refusal is) = refl
+explained_status : (engines : ℕ) (rewrites : Rewrites) (expr : List ℕ) (report : Report) → Explained engines rewrites expr report → IsOneOf (0 ∷ 1 ∷ []) report.status
+explained_status engines rewrites expr report (planned kept plan has) = refl
+explained_status engines rewrites expr report (unplanned refusal is) = refl
 
 -- an expression or a plan that is printed
 module _ (boxes : ℕ) (words : List (List ℕ)) (found : List ℕ → Option (List ℕ) → Type 0) (before now : Option (List ℕ)) (idle : Type 0) where
@@ -91,14 +91,14 @@ module _ (boxes : ℕ) (words : List (List ℕ)) (found : List ℕ → Option (L
   format_ended expr Cutting (Err cause) is e = tt
 
   pub explain_ended : (optimisers : Optimisers) (engines : List Labels) (expr : List ℕ) (Cutting : Type 0) (r : Result Status SinkFail) → asked boxes words ≡ Some (explain optimisers engines expr)
-      → Ends (Explained (rewrites_in optimisers) expr) Cutting before now r → IfOk (or_cut r) (λ status. EndsWords boxes words found idle before now status.0)
-  explain_ended optimisers engines expr Cutting (Ok status) is e = printed_so (subst AsksToPrint (sym is) tt) (subst (IsOneOf (0 ∷ 1 ∷ [])) (sym e.2.status_is) (explained_status (rewrites_in optimisers) expr e.0 e.1))
+      → Ends (Explained (length engines) (rewrites_in optimisers) expr) Cutting before now r → IfOk (or_cut r) (λ status. EndsWords boxes words found idle before now status.0)
+  explain_ended optimisers engines expr Cutting (Ok status) is e = printed_so (subst AsksToPrint (sym is) tt) (subst (IsOneOf (0 ∷ 1 ∷ [])) (sym e.2.status_is) (explained_status (length engines) (rewrites_in optimisers) expr e.0 e.1))
   explain_ended optimisers engines expr Cutting (Err cause) is e = tt
 
   pub explain_end : (optimisers : Optimisers) (engines : List Labels) (expr : List ℕ) (r : Result Status SinkFail) → asked boxes words ≡ Some (explain optimisers engines expr)
-      → Ends (Explained (rewrites_in optimisers) expr) (IsCutReport (Explained (rewrites_in optimisers) expr) before now) before now r → Ends (ReportsWords boxes words found idle) (IsCut boxes words found before now) before now r
+      → Ends (Explained (length engines) (rewrites_in optimisers) expr) (IsCutReport (Explained (length engines) (rewrites_in optimisers) expr) before now) before now r → Ends (ReportsWords boxes words found idle) (IsCut boxes words found before now) before now r
   explain_end optimisers engines expr (Ok status) is e = (e.0, Explains optimisers engines expr e.0 is e.1, e.2)
-  explain_end optimisers engines expr (Err cause) is e = printed_cut (Explained (rewrites_in optimisers) expr) (λ report x. explained optimisers engines expr report is x) e
+  explain_end optimisers engines expr (Err cause) is e = printed_cut (Explained (length engines) (rewrites_in optimisers) expr) (λ report x. explained optimisers engines expr report is x) e
 
 module _ (boxes : ℕ) (words : List (List ℕ)) (choices : Choices) (engines : List Labels) (found : List ℕ → Option (List ℕ) → Type 0) (before now : Option (List ℕ)) (idle : Type 0) where
   -- files

@@ -31,7 +31,7 @@ pub data Formatted (expr : List ℕ) : Report → Type 0 where
 
 -- ---- explain
 
--- the rewrites among the optimisers that are chosen; there are no engines that parts could be computed by
+-- the rewrites among the optimisers that are chosen
 abbrev pub rewrites_in : Optimisers → Rewrites
 rewrites_in o = record { sort = o.sort; propagate = o.propagate; merge = o.merge; trim = o.trim; avg = o.avg }
 
@@ -39,7 +39,7 @@ rewrites_in o = record { sort = o.sort; propagate = o.propagate; merge = o.merge
 abbrev pub plan_report : Kept → Plan → Report
 plan_report kept plan = record { text = lines_of kept plan []; status = 0 }
 
--- the report of an expression's plan: of the one behind these rewrites, or of the expression's refusal
-pub data Explained (rewrites : Rewrites) (expr : List ℕ) : Report → Type 0 where
-  planned : (kept : Kept) (plan : Plan) → HasPlan expr rewrites false kept plan → Explained rewrites expr (plan_report kept plan)
-  unplanned : (refusal : QueryRefusal) → IsRefusedWith expr refusal → Explained rewrites expr (refused_report refusal)
+-- the report of an expression's plan over so many engines: of the one behind these rewrites, or of the expression's refusal
+pub data Explained (engines : ℕ) (rewrites : Rewrites) (expr : List ℕ) : Report → Type 0 where
+  planned : (kept : Kept) (plan : Plan) → HasPlan expr engines rewrites false kept plan → Explained engines rewrites expr (plan_report kept plan)
+  unplanned : (refusal : QueryRefusal) → IsRefusedWith expr refusal → Explained engines rewrites expr (refused_report refusal)

@@ -1,5 +1,5 @@
 -- What a run of words prints, and its status. (This project's own, after promqltest and promtool.)
-use Rattle.std.specs.Prelude.{◌≡◌, ℕ, Bool, List, [], ◌∷◌, ◌++◌, Option, None, Some, ⊤}
+use Rattle.std.specs.Prelude.{◌≡◌, ℕ, Bool, List, [], ◌∷◌, ◌++◌, Option, None, Some, ⊤, length}
 use Rattle.ticks.specs.declared.grid.Grid.{Grid}
 use Rattle.tool_words.specs.Asked.{Wish, asked, explain, format, query, test, workload}
 use Rattle.tool_words.specs.Engines.{Labels}
@@ -30,7 +30,7 @@ pub data IsReport (boxes : ℕ) (words : List (List ℕ)) (found : List ℕ → 
   worked : (choices : Choices) (engines : List Labels) (series : ℕ) (files : List JudgedFile) (last : Last) → asked boxes words ≡ Some (workload choices engines series) → Sees (terms_in choices engines) (Just (workload_text series)) (workload_path ∷ []) files last
       → IsReport boxes words found (workload_report series files last)
   formatted : (expr : List ℕ) (report : Report) → asked boxes words ≡ Some (format expr) → Formatted expr report → IsReport boxes words found report
-  explained : (optimisers : Optimisers) (engines : List Labels) (expr : List ℕ) (report : Report) → asked boxes words ≡ Some (explain optimisers engines expr) → Explained (rewrites_in optimisers) expr report → IsReport boxes words found report
+  explained : (optimisers : Optimisers) (engines : List Labels) (expr : List ℕ) (report : Report) → asked boxes words ≡ Some (explain optimisers engines expr) → Explained (length engines) (rewrites_in optimisers) expr report → IsReport boxes words found report
 
 -- some report of the words is such
 abbrev pub HasReport : ℕ → List (List ℕ) → (List ℕ → Option (List ℕ) → Type 0) → (Report → Type 0) → Type 0

@@ -1,5 +1,5 @@
 -- What the values of the code say of a run.
-use Rattle.std.specs.Prelude.{◌≡◌, ℕ, ◌+◌, Bool, List, [], ◌∷◌, ◌++◌, Option, None, Some, Result, Ok, Err, Vec, map}
+use Rattle.std.specs.Prelude.{◌≡◌, ℕ, ◌+◌, Bool, List, [], ◌∷◌, ◌++◌, Option, None, Some, Result, Ok, Err, Vec, map, length}
 use Rattle.std.specs.declared.alloc.Global.{Global}
 use Rattle.edge_io.specs.Written.{appended, WroteFront}
 use Rattle.promql_meaning.specs.declared.answer.Outcome.{Outcome}
@@ -246,7 +246,7 @@ pub data ReportsWords (boxes : ℕ) (words : List (List ℕ)) (found : List ℕ 
       → ReportsWords boxes words found idle report
   Works : (choices : Choices) (engines : List Labels) (series : ℕ) (report : Report) → asked boxes words ≡ Some (workload choices engines series) → ReportsWorkload (terms_in choices engines) series idle report → ReportsWords boxes words found idle report
   Formats : (expr : List ℕ) (report : Report) → asked boxes words ≡ Some (format expr) → Formatted expr report → ReportsWords boxes words found idle report
-  Explains : (optimisers : Optimisers) (engines : List Labels) (expr : List ℕ) (report : Report) → asked boxes words ≡ Some (explain optimisers engines expr) → Explained (rewrites_in optimisers) expr report → ReportsWords boxes words found idle report
+  Explains : (optimisers : Optimisers) (engines : List Labels) (expr : List ℕ) (report : Report) → asked boxes words ≡ Some (explain optimisers engines expr) → Explained (length engines) (rewrites_in optimisers) expr report → ReportsWords boxes words found idle report
 
 -- the report that a page is
 abbrev pub page_report : Page → Report

@@ -1,5 +1,5 @@
 -- What files, queries and expressions come to, where that is one thing. (This project's own.)
-use Rattle.std.specs.Prelude.{◌≡◌, ℕ, Bool, false, List, Option, None, Some, Ok}
+use Rattle.std.specs.Prelude.{◌≡◌, ℕ, Bool, false, List, Option, None, Some, Ok, length}
 use Rattle.std.specs.List.{AllByRecursion}
 use Rattle.logical_plan.specs.declared.nodes.Plan.{Plan}
 use Rattle.plan_rewrites.specs.declared.choosing.Choices.{Choices as Rewrites}
@@ -83,18 +83,18 @@ IsReadSo expr (NoTree refusal) = IsRefusedWith expr refusal
 abbrev pub IsReadOnce : List ℕ → Type 0
 IsReadOnce expr = (a b : Read) → IsReadSo expr a → IsReadSo expr b → a ≡ b
 
--- what an expression is planned as: its plan behind some rewrites, whose patterns are kept, or its refusal
+-- what an expression is planned as over so many engines: its plan behind some rewrites, whose patterns are kept, or its refusal
 pub data Outline : Type 0 where
   Planned : Kept → Plan → Outline
   NoPlan : QueryRefusal → Outline
 
-abbrev pub IsPlannedSo : Rewrites → List ℕ → Outline → Type 0
-IsPlannedSo rewrites expr (Planned kept plan) = HasPlan expr rewrites false kept plan
-IsPlannedSo rewrites expr (NoPlan refusal) = IsRefusedWith expr refusal
+abbrev pub IsPlannedSo : ℕ → Rewrites → List ℕ → Outline → Type 0
+IsPlannedSo engines rewrites expr (Planned kept plan) = HasPlan expr engines rewrites false kept plan
+IsPlannedSo engines rewrites expr (NoPlan refusal) = IsRefusedWith expr refusal
 
 -- an expression is planned as one thing
-abbrev pub IsPlannedOnce : Rewrites → List ℕ → Type 0
-IsPlannedOnce rewrites expr = (a b : Outline) → IsPlannedSo rewrites expr a → IsPlannedSo rewrites expr b → a ≡ b
+abbrev pub IsPlannedOnce : ℕ → Rewrites → List ℕ → Type 0
+IsPlannedOnce engines rewrites expr = (a b : Outline) → IsPlannedSo engines rewrites expr a → IsPlannedSo engines rewrites expr b → a ≡ b
 
 -- What words ask for comes to one thing: each of the files, the query, the script of the workload, or the expression or the plan
 -- that is printed.
@@ -104,4 +104,4 @@ IsSettled (Some (test choices engines paths)) files = AllByRecursion (ComesToOne
 IsSettled (Some (query choices engines moments path expr)) files = IsAnsweredOnce (terms_in choices engines) moments (Have files) path expr
 IsSettled (Some (workload choices engines series)) files = ComesToOne (terms_in choices engines) (Just (workload_text series)) workload_path
 IsSettled (Some (format expr)) files = IsReadOnce expr
-IsSettled (Some (explain optimisers engines expr)) files = IsPlannedOnce (rewrites_in optimisers) expr
+IsSettled (Some (explain optimisers engines expr)) files = IsPlannedOnce (length engines) (rewrites_in optimisers) expr

@@ -96,14 +96,19 @@ fn plan_options(optimisers: Optimisers) -> Options
     }
 }
 
-/// The page of an expression's plan: its lines, or the expression's refusal. The only error is want of memory.
-fn explained_page(alloc: Global, optimisers: Optimisers, expr: &str) -> Result<Page, AllocError>
-    ensures { IfOk result (λ page. Explained (rewrites_in optimisers) expr.now (page_report page)) }
+/// The page of an expression's plan over so many engines: its lines, or the expression's refusal. The only error is want of memory.
+fn explained_page(
+    alloc: Global,
+    engines: u32,
+    optimisers: Optimisers,
+    expr: &str,
+) -> Result<Page, AllocError>
+    ensures { IfOk result (λ page. Explained engines (rewrites_in optimisers) expr.now (page_report page)) }
 {
     let options = plan_options(optimisers);
     let mut room = PatternRoom::new(alloc)?;
     let mut patterns = Patterns::new(alloc, &mut room);
-    match rewritten(alloc, expr, &options, &mut patterns) {
+    match rewritten(alloc, expr, engines, &options, &mut patterns) {
         Ok(plan) => plan_page(alloc, &plan, &patterns),
         Err(LexFault::Refused(refusal)) => refused_page(alloc, refusal),
         Err(LexFault::Memory) => Err(AllocError),
@@ -134,19 +139,20 @@ pub fn run_format<S: Sink>(alloc: Global, expr: &str, out: &mut S) -> Result<Sta
     print_page(&page, out)
 }
 
-/// Prints the plan of an expression behind the rewrites that are chosen, a line for each node, or why it is refused, as one piece.
+/// Prints the plan of an expression over so many engines, behind the rewrites that are chosen, a line for each node, or why it is refused, as one piece.
 /// The errors are `Failed` of the sink and want of memory; after them a front of the lines was written, or nothing.
 pub fn run_explain<S: Sink>(
     alloc: Global,
+    engines: u32,
     optimisers: Optimisers,
     expr: &str,
     out: &mut S,
 ) -> Result<Status, SinkFail>
-    ensures ends { Ends (Explained (rewrites_in optimisers) expr.now) (IsCutReport (Explained (rewrites_in optimisers) expr.now) (S.written out.old) (S.written out.new)) (S.written out.old) (S.written out.new) result }
+    ensures ends { Ends (Explained engines (rewrites_in optimisers) expr.now) (IsCutReport (Explained engines (rewrites_in optimisers) expr.now) (S.written out.old) (S.written out.new)) (S.written out.old) (S.written out.new) result }
     ensures cause { HasCause (S.faults out.old) (S.faults out.new) (IsErrOf result SinkFail.Failed) }
     ensures sound { S.sound out.old → S.sound out.new }
     ensures never { S.sound out.old → IsErrOf result SinkFail.Failed → ⊥ }
 {
-    let page = explained_page(alloc, optimisers, expr)?;
+    let page = explained_page(alloc, engines, optimisers, expr)?;
     print_page(&page, out)
 }

@@ -1,5 +1,5 @@
 -- The plan that a query's text is evaluated by. (The optimisers of thanos-io/promql-engine; their order is this project's own.)
-use Rattle.std.specs.Prelude.{◌≡◌, ℕ, Bool, true, List, ⊤}
+use Rattle.std.specs.Prelude.{◌≡◌, ℕ, suc, Bool, true, List, ⊤}
 use Rattle.logical_plan.specs.Lowering.{lowered}
 use Rattle.logical_plan.specs.Onces.{with_onces}
 use Rattle.logical_plan.specs.PlanTypes.{typing}
@@ -39,6 +39,11 @@ GivesNumbers p = is_number (typing p).kind ≡ true
 abbrev pub gathered_plan : ℕ → Choices → Kept → List Placed → Expr → Plan
 gathered_plan engines choices kept placed e = gathered_selectors engines kept (plan_of choices kept placed e)
 
+-- the plan of a typed tree, behind the rewrites that are chosen; where engines are declared, all of them are asked for each selector
+abbrev pub plan_over : ℕ → Choices → Kept → List Placed → Expr → Plan
+plan_over 0 choices kept placed e = plan_of choices kept placed e
+plan_over (suc others) choices kept placed e = gathered_plan (suc others) choices kept placed e
+
 -- a fact holds with any patterns that those of a tree are kept among
 abbrev pub WhereKept : List Placed → Expr → (Kept → Type 0) → Type 0
 WhereKept placed e Holds =
@@ -55,14 +60,14 @@ IsServedOverWhereKept placed e p = WhereKept placed e (λ kept. IsServedOver kep
 abbrev pub AsksAllWhereKept : List ℕ → List Placed → Expr → Plan → Type 0
 AsksAllWhereKept engines placed e p = WhereKept placed e (λ kept. AreAskedOf engines (parts_asked p))
 
--- A plan is that of a text: of the typed tree that the text stands for, with the edge that is asked for, whose label_replace
--- calls have their patterns under their numbers.
-pub record HasPlan (text : List ℕ) (choices : Choices) (closed : Bool) (kept : Kept) (p : Plan) : Type 0 where
+-- A plan is that of a text over so many engines, or over one store: of the typed tree that the text stands for, with the edge that is
+-- asked for, whose label_replace calls have their patterns under their numbers.
+pub record HasPlan (text : List ℕ) (engines : ℕ) (choices : Choices) (closed : Bool) (kept : Kept) (p : Plan) : Type 0 where
   pub tree : Expr
   pub placed : List Placed
   pub stands : StandsFor text kept tree
   pub patterns : AreKept kept (judged (edged closed tree)).replacements placed
-  pub plan : p ≡ plan_of choices kept placed (edged closed tree)
+  pub plan : p ≡ plan_over engines choices kept placed (edged closed tree)
 
 -- a text has no plan by a refusal of which a fact holds, or for want of memory
 abbrev pub MayRefuse : (QueryRefusal → Type 0) → LexFault → Type 0

@@ -14,7 +14,7 @@ ghost use Rattle.promql_meaning.specs.Selecting.{Asked};
 ghost use Rattle.promql_type.specs.TypedTrees.{placed_of, tree_of};
 ghost use Rattle.query_engine.specs.Bounds.{evaluated_plan};
 ghost use Rattle.query_engine.specs.Evaluating.{IsRefusedWith};
-ghost use Rattle.query_engine.specs.Planning.{AsksAllWhereKept, GivesNumbers, HasPlan, IsServedOverWhereKept, IsServedWhereKept, MayRefuse, choices_of, gathered_plan, plan_of};
+ghost use Rattle.query_engine.specs.Planning.{AsksAllWhereKept, GivesNumbers, HasPlan, IsServedOverWhereKept, IsServedWhereKept, MayRefuse, choices_of, gathered_plan, plan_of, plan_over};
 ghost use Rattle.std.specs.Prelude.{◌≡◌, ℕ, ℤ, [], IfErr, IfOk, true};
 
 use crate::options::Options;
@@ -119,21 +119,40 @@ pub(crate) fn gathered(
     gather_selectors(alloc, plan, engines, patterns)
 }
 
-/// The plan of a query's text, behind the rewrites that are chosen; or the one refusal of the text, with its place, counted in
-/// bytes from 0. The patterns of the query, of which there are none before, are kept; after an error some may
-/// be. The only other error is want of memory. (The optimisers of thanos-io/promql-engine.)
+/// The plan of a typed tree, behind the rewrites that are chosen; where engines are declared, with each selector as a part that all of them
+/// are asked for. The only error is want of memory.
+fn planned_over(
+    alloc: Global,
+    typed: &Typed,
+    options: &Options,
+    engines: u32,
+    patterns: &Patterns<'_>,
+) -> Result<Plan, AllocError>
+    ensures { IfOk result (λ p. p ≡ plan_over engines (choices_of options.now) patterns.now (placed_of typed.now) (tree_of typed.now)) }
+{
+    if engines == 0 {
+        planned(alloc, typed, options, patterns)
+    } else {
+        gathered(alloc, typed, options, patterns, engines)
+    }
+}
+
+/// The plan of a query's text over so many engines, or over one store where there is none, behind the rewrites that are chosen; or the one
+/// refusal of the text, with its place, counted in bytes from 0. No engine is called. The patterns of the query, of which there are none
+/// before, are kept; after an error some may be. The only other error is want of memory. (The optimisers of thanos-io/promql-engine.)
 pub fn rewritten(
     alloc: Global,
     text: &str,
+    engines: u32,
     options: &Options,
     patterns: &mut Patterns,
 ) -> Result<Plan, LexFault>
     requires { patterns.old ≡ [] }
-    ensures plan { IfOk result (HasPlan text.now (choices_of options.now) options.now.closed patterns.new) }
+    ensures plan { IfOk result (HasPlan text.now engines (choices_of options.now) options.now.closed patterns.new) }
     ensures refused { IfErr result (MayRefuse (IsRefusedWith text.now)) }
 {
     match typed_tree(alloc, text, options.closed, patterns) {
-        Ok(typed) => Ok(planned(alloc, &typed, options, patterns)?),
+        Ok(typed) => Ok(planned_over(alloc, &typed, options, engines, patterns)?),
         Err(TypeFault::Refused(refusal)) => Err(LexFault::Refused(refusal)),
         Err(TypeFault::Memory) => Err(LexFault::Memory),
     }

@@ -7,10 +7,10 @@ use Rattle.promql_tool.proofs.printing.explained_page.Goals as goal
 pub returns-in-Ok : goal.returns-in-Ok
 returns-in-Ok c =
     let options = c.plan_options-options.result in
-    plan_explained c.args.expr.now c.args.optimisers c.rewritten.new.patterns (choices_of options) options.closed c.in-Ok.plan c.plan_page.result c.plan_options-options.ensures.rewrites c.plan_options-options.ensures.open c.in-Ok.ensures.plan
+    plan_explained c.args.expr.now c.args.engines c.args.optimisers c.rewritten.new.patterns (choices_of options) options.closed c.in-Ok.plan c.plan_page.result c.plan_options-options.ensures.rewrites c.plan_options-options.ensures.open c.in-Ok.ensures.plan
     c.plan_page.ensures
 
 pub returns-in-Err-Refused : goal.returns-in-Err-Refused
 returns-in-Err-Refused c =
     let why = subst (MayRefuse (IsRefusedWith c.args.expr.now)) c.in-Err-Refused.field-0-is c.in-Err-Refused.ensures.refused in
-    refusal_explained c.args.expr.now c.args.optimisers c.in-Err-Refused.refusal c.refused_page.result why c.refused_page.ensures
+    refusal_explained c.args.expr.now c.args.engines c.args.optimisers c.in-Err-Refused.refusal c.refused_page.result why c.refused_page.ensures
