@@ -6,11 +6,13 @@ ghost use Rattle.promql_tool.specs.Printed.{Explained, Formatted, plan_report, r
 ghost use Rattle.promql_tool.specs.Runs.{Ends, IsCutReport, page_report};
 ghost use Rattle.promql_type.specs.TypedTrees.{tree_of};
 ghost use Rattle.query_engine.specs.Planning.{choices_of};
-ghost use Rattle.std.specs.Prelude.{◌≡◌, false, IfOk, IsErrOf, OnErr};
+ghost use Rattle.std.specs.Prelude.{◌≡◌, ◌<◌, ◌^◌, false, length, IfOk, IsErrOf, OnErr};
 
 use crate::print::Status;
 use crate::text::failure_line;
 use edge_io::{Sink, SinkFail, write_all};
+use holders::Items;
+use label_set::Labels;
 use logical_plan::Plan;
 use match_rule::{PatternRoom, Patterns};
 use plan_text::write;
@@ -139,20 +141,30 @@ pub fn run_format<S: Sink>(alloc: Global, expr: &str, out: &mut S) -> Result<Sta
     print_page(&page, out)
 }
 
-/// Prints the plan of an expression over so many engines, behind the rewrites that are chosen, a line for each node, or why it is refused, as one piece.
+/// How many engines are declared.
+fn engine_count(declared: &Items<Labels>) -> u32
+    requires { length declared.now < 2 ^ 32 }
+    ensures { result ≡ length declared.now }
+{
+    declared.as_slice().len() as u32
+}
+
+/// Prints the plan of an expression over the declared engines, behind the rewrites that are chosen, a line for each node, or why it is refused, as one piece.
 /// The errors are `Failed` of the sink and want of memory; after them a front of the lines was written, or nothing.
 pub fn run_explain<S: Sink>(
     alloc: Global,
-    engines: u32,
+    declared: &Items<Labels>,
     optimisers: Optimisers,
     expr: &str,
     out: &mut S,
 ) -> Result<Status, SinkFail>
-    ensures ends { Ends (Explained engines (rewrites_in optimisers) expr.now) (IsCutReport (Explained engines (rewrites_in optimisers) expr.now) (S.written out.old) (S.written out.new)) (S.written out.old) (S.written out.new) result }
+    requires { length declared.now < 2 ^ 32 }
+    ensures ends { Ends (Explained (length declared.now) (rewrites_in optimisers) expr.now) (IsCutReport (Explained (length declared.now) (rewrites_in optimisers) expr.now) (S.written out.old) (S.written out.new)) (S.written out.old) (S.written out.new) result }
     ensures cause { HasCause (S.faults out.old) (S.faults out.new) (IsErrOf result SinkFail.Failed) }
     ensures sound { S.sound out.old → S.sound out.new }
     ensures never { S.sound out.old → IsErrOf result SinkFail.Failed → ⊥ }
 {
+    let engines = engine_count(declared);
     let page = explained_page(alloc, engines, optimisers, expr)?;
     print_page(&page, out)
 }

@@ -177,7 +177,13 @@ fn run_words<L: Library, S: Sink, C: Courier, W: Ledger>(
                 engines,
                 expr,
             },
-        ) => or_cut(run_explain(alloc, optimisers, expr.as_str(), out)),
+        ) => or_cut(run_explain(
+            alloc,
+            &engines,
+            optimisers,
+            expr.as_str(),
+            out,
+        )),
     }
 }
 
