@@ -1,6 +1,6 @@
 -- A plan that is rewritten is that of its tree behind the rewrites; it means what its tree means, is typed and valid, gives a scalar or a
 -- vector, and is served by kernels.
-use Rattle.std.proofs.Common.{◌≡◌, ◌∙◌, ℕ, List, [], length, ap, arith, refl, subst, sym, true}
+use Rattle.std.proofs.Common.{◌≡◌, ◌∙◌, ℕ, zero, suc, List, [], length, ap, arith, refl, subst, sym, true}
 use Rattle.std.specs.Prelude.{ℤ, Result, Ok, Err, IfOk}
 use Rattle.logical_plan.specs.Lowering.{PatternsArePlaced, lowered}
 use Rattle.logical_plan.specs.Onces.{with_onces}
@@ -26,7 +26,7 @@ use Rattle.promql_type.specs.declared.kind.Kind.{Kind}
 use Rattle.promql_type.specs.declared.kind.Kind.TheVariants.{Scalar, Vector, Windows, Words}
 use Rattle.promql_type.specs.declared.replace.Placed.{Placed}
 use Rattle.query_engine.specs.Bounds.{evaluated_plan}
-use Rattle.query_engine.specs.Planning.{GivesNumbers, IsServedWhereKept, plan_of}
+use Rattle.query_engine.specs.Planning.{GivesNumbers, IsServedWhereKept, gathered_plan, plan_of, plan_over}
 use Rattle.rewrite_laws.specs.Keeping.{StaysTyped}
 
 pub means_its_tree : {E : Type 0} (p : Plan) (e : Expr) (placed : List Placed) (result : Result Plan E) → IsTyped p
@@ -76,3 +76,14 @@ module _ (p : Plan) (e : Expr) (placed : List Placed) (is : p ≡ with_onces (lo
       λ kept longest latest within there.
       stays kept (subst (IsServed kept) (sym is) (onces kept (lowered placed e) (law kept placed longest latest e none within there)).served)
   served_still (Err fault) law onces none stays = tt
+
+-- ---- over engines
+
+pub over_none : {E : Type 0} (engines : ℕ) (choices : Choices) (kept : Kept) (placed : List Placed) (e : Expr) (result : Result Plan E) → engines ≡ 0
+    → IfOk result (λ p. p ≡ plan_of choices kept placed e) → IfOk result (λ p. p ≡ plan_over engines choices kept placed e)
+over_none engines choices kept placed e result none h = subst (λ (n : ℕ). IfOk result (λ p. p ≡ plan_over n choices kept placed e)) (sym none) h
+
+pub over_some : {E : Type 0} (engines : ℕ) (choices : Choices) (kept : Kept) (placed : List Placed) (e : Expr) (result : Result Plan E) → (engines ≡ 0 → ⊥)
+    → IfOk result (λ p. p ≡ gathered_plan engines choices kept placed e) → IfOk result (λ p. p ≡ plan_over engines choices kept placed e)
+over_some zero choices kept placed e result some h = absurd (some refl)
+over_some (suc others) choices kept placed e result some h = h

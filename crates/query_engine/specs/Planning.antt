@@ -1,5 +1,5 @@
 -- The plan that a query's text is evaluated by. (The optimisers of thanos-io/promql-engine; their order is this project's own.)
-use Rattle.std.specs.Prelude.{◌≡◌, ℕ, suc, Bool, true, List, ⊤}
+use Rattle.std.specs.Prelude.{◌≡◌, ℕ, zero, suc, Bool, true, List, ⊤}
 use Rattle.logical_plan.specs.Lowering.{lowered}
 use Rattle.logical_plan.specs.Onces.{with_onces}
 use Rattle.logical_plan.specs.PlanTypes.{typing}
@@ -41,7 +41,7 @@ gathered_plan engines choices kept placed e = gathered_selectors engines kept (p
 
 -- the plan of a typed tree, behind the rewrites that are chosen; where engines are declared, all of them are asked for each selector
 abbrev pub plan_over : ℕ → Choices → Kept → List Placed → Expr → Plan
-plan_over 0 choices kept placed e = plan_of choices kept placed e
+plan_over zero choices kept placed e = plan_of choices kept placed e
 plan_over (suc others) choices kept placed e = gathered_plan (suc others) choices kept placed e
 
 -- a fact holds with any patterns that those of a tree are kept among
