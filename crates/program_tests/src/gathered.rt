@@ -71,7 +71,10 @@ const RUNS: &str = r##"
 /// The same, of words that need no engine, or that are no command.
 const OTHERS: &str = r##"
 4|0|series 2000 samples 122000;PASS workload:2003;PASS workload:2006;PASS workload:2012;passed 3 failed 0;|workload  2000
-2|0|select x;|explain  --engines  REGIONS  x
+2|0|gather rows from 1,2: x;|explain  --engines  REGIONS  x
+2|0|call rate;  gather windows from 1,2: x[5m];|explain  --engines  REGIONS  rate(x[5m])
+2|0|select x;|explain  x
+2|1|REFUSED Expected at 3;|explain  --engines  REGIONS  1 +
 2|0|x;|format  x
 2|2|usage: promqltest [options] FILE.. or query [options] FILE EXPR;|format  --engines  REGIONS  x
 1|2|usage: promqltest [options] FILE.. or query [options] FILE EXPR;|promqltest  --engines  REGIONS  two.test
@@ -228,5 +231,5 @@ fn words_are_run_over_engines(rt: HostRuntime) -> Result<(), Fail> {
 
 #[test]
 fn words_need_no_engine(rt: HostRuntime) -> Result<(), Fail> {
-    rows_hold(rt.alloc(), OTHERS, 20, other_runs_so)
+    rows_hold(rt.alloc(), OTHERS, 23, other_runs_so)
 }
