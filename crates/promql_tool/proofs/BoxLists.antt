@@ -186,12 +186,6 @@ map_moved {X} {Y} f i xs =
     map_both f (remove xs i) (take 1 (drop i xs))
     ∙ ap₂ (λ (a b : List Y). a ++ b) (map_both f (take i xs) (drop (suc i) xs) ∙ ap₂ (λ (a b : List Y). a ++ b) (map_take f i xs) (map_drop f (suc i) xs)) (map_take f 1 (drop i xs) ∙ ap (take 1) (map_drop f i xs))
 
--- the first of what stands from a place on
-pub front_of_rest : {X : Type 0} (i : ℕ) (xs : List X) → i < length xs → (d : X) × (take 1 (drop i xs) ≡ get_or xs i d ∷ [])
-front_of_rest i [] l = absurd (omega (arith, l))
-front_of_rest zero (x ∷ xs) l = (x, refl)
-front_of_rest (suc i) (x ∷ xs) l = front_of_rest i xs (omega (arith, l))
-
 -- ---- boxes that last
 
 pub lasts_itself : (e : EngineSeen) → Lasts e e

@@ -2,7 +2,6 @@
 ghost use Rattle.exchange.specs.Calls.{IsCalled};
 ghost use Rattle.promql_tool.specs.Boxes.{AreFresh, LeavesBoxes, LosesNone};
 ghost use Rattle.promql_tool.specs.Declaring.{AreUndeclaredFrom, HoldDeclared, IsDeclared};
-ghost use Rattle.query_engine.specs.Engines.{moved_last};
 ghost use Rattle.remote_api.specs.Seen.{HasDeclared, MayDeclare};
 ghost use Rattle.std.specs.Prelude.{◌≡◌, ◌+◌, ◌<◌, ◌≤◌, ◌^◌, length, map, take, IsErrOf, OnOk};
 ghost use Rattle.test_runner.specs.Boxes.{AreReady, AreSound};
@@ -10,6 +9,7 @@ ghost use Rattle.tool_words.specs.Engines.{AreDeclaredTo};
 
 use crate::fault::Cut;
 use label_set::Labels;
+use query_engine::move_last;
 use remote_api::{Engine, EngineFail};
 
 fn declare_box(engine: &mut Box<dyn Engine>, labels: &Labels) -> Result<(), EngineFail>
@@ -27,14 +27,6 @@ fn declare_at(engines: &mut [Box<dyn Engine>], i: usize, labels: &Labels) -> Res
     ensures len { length engines.new ≡ length engines.old }
 {
     declare_box(&mut engines[i], labels)
-}
-
-/// Moves a box behind all others, which stay in their order. It takes no memory.
-fn move_last(engines: &mut [Box<dyn Engine>], i: usize)
-    requires { i < length engines.old }
-    ensures { engines.new ≡ moved_last i engines.old }
-{
-    engines[i..].rotate_left(1);
 }
 
 /// Declares labels to one box out of the list, which moves behind all others where it fails. The other error is want of memory.

@@ -46,8 +46,8 @@ fn named_by(fault: &RunFault) -> Option<u32>
     }
 }
 
-/// Moves a box behind all others, which stay in their order. It takes no memory.
-fn move_last(engines: &mut [Box<dyn Engine>], i: usize)
+/// Moves a box, counted from 0, behind all others, which stay in their order. It takes no memory and can't fail.
+pub fn move_last(engines: &mut [Box<dyn Engine>], i: usize)
     requires { i < length engines.old }
     ensures { engines.new ≡ moved_last i engines.old }
 {

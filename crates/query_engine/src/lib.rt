@@ -9,7 +9,7 @@ mod planning;
 mod reading;
 mod streaming;
 
-pub use engines::lose;
+pub use engines::{lose, move_last};
 pub use evaluating::evaluate;
 pub use options::Options;
 pub use planning::rewritten;
