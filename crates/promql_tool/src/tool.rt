@@ -177,13 +177,7 @@ fn run_words<L: Library, S: Sink, C: Courier, W: Ledger>(
                 engines,
                 expr,
             },
-        ) => or_cut(run_explain(
-            alloc,
-            &engines,
-            optimisers,
-            expr.as_str(),
-            out,
-        )),
+        ) => or_cut(run_explain(alloc, &engines, optimisers, expr.as_str(), out)),
     }
 }
 

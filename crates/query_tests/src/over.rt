@@ -19,6 +19,7 @@ use ticks::{Grid, Work};
 use written_engines::{Faulty, engine_of};
 
 /// What is asked: a text, its instants, whether it is an instant, and how many instants are computed at once.
+#[derive(Drop)]
 struct Asked<'a> {
     text: &'a str,
     when: (Grid, bool),
